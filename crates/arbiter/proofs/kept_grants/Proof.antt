@@ -1,0 +1,20 @@
+use Rattle.arbiter.specs.Granting.{kept}
+use borrow.Author.Tests.{lt-ltb, le-ltb}
+use borrow.Author.Needs.{needs}
+use Rattle.arbiter.proofs.kept_grants.Statement.{statement}
+use Rattle.arbiter.proofs.kept_grants.Tie as tie
+use Rattle.arbiter.proofs.kept_grants.Reads as reads
+use Rattle.arbiter.proofs.kept_grants.Lts as lts
+
+-- src/lib.rt:76:1
+returns : tie.Need-returns
+unfolding kept
+returns c = rw (lt-ltb _ _ (c .if1 .taken))
+
+-- src/lib.rt:76:1
+returns-2 : tie.Need-returns-2
+unfolding kept
+returns-2 c = rw (le-ltb _ _ (c .if1 .left))
+
+pub kept-grants-spec : {M : Type 1} → statement M
+kept-grants-spec = tie.close (tie.spec returns returns-2)

@@ -1,0 +1,38 @@
+// A board, and the rules of its description: refusals 2 to 7.
+pub struct Master {
+    pub width: u8,
+    pub burst: u8,
+}
+
+pub struct Slave {
+    pub base: u32,
+    pub span: u32,
+    pub width: u8,
+    pub burst: u8,
+    pub read_wait: u8,
+    pub write_wait: u8,
+}
+
+// The shares of master m at slave s stand at 16 * m + s; 0: not connected.
+pub struct Board {
+    pub master_count: u8,
+    pub slave_count: u8,
+    pub masters: [Master; 8],
+    pub slaves: [Slave; 16],
+    pub shares: [u8; 128],
+}
+
+// One line of a description: the numbers of its fields, or a line that is none of the three kinds.
+pub enum Item {
+    Malformed,
+    MasterLine(u64, u64),
+    SlaveLine(u64, u64, u64, u64, u64, u64),
+    ShareLine(u64, u64, u64),
+}
+
+// What has been read of a description: the refusal's number or 0, whether a share line was read, the board so far.
+pub struct Reading {
+    pub number: u8,
+    pub sharing: bool,
+    pub board: Board,
+}

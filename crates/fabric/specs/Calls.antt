@@ -1,0 +1,89 @@
+-- What reset, post and clock answer, and what they leave in the lent bytes.
+-- Assumes nothing.
+use mathlib.Core.Bool.{Bool, true, cond, not, _||_}
+use mathlib.Core.List.{List}
+use Prim.Native.Nat.{ℕ, _-_, _*_}
+use lib.Dec.{ltb, leb, eqb}
+use lib.ListN.{length, set, replicate}
+use Rattle.laws.specs.Lists.{table}
+use Rattle.board.specs.declared.Board.{Board}
+use Rattle.board.specs.Records.{masterAt, memoryLength}
+use Rattle.board.specs.Items.{checkBoard}
+use Rattle.geometry.specs.declared.Transfer.{Transfer}
+use Rattle.geometry.specs.Accesses.{noTransfer}
+use Rattle.moves.specs.Bytes.{Store, bufferLength, posted}
+use Rattle.fabric.specs.declared.Slot.{Slot}
+use Rattle.fabric.specs.declared.State.{State}
+use Rattle.fabric.specs.declared.Started.{Started}
+use Rattle.fabric.specs.declared.Posted.{Posted}
+use Rattle.fabric.specs.declared.Clocked.{Clocked}
+use Rattle.fabric.specs.Records.{noSlot, noLine, noState, transferAt}
+use Rattle.fabric.specs.Posting.{transferRefusal}
+use Rattle.fabric.specs.Soundness.{sound}
+use Rattle.fabric.specs.Control.{stateAfter, maskOf, linesOf}
+use Rattle.fabric.specs.Carrying.{storeAfter}
+
+-- "Reset: no transfers, last owner the highest master, all else in the state 0"
+unfoldable pub slotAtReset : Board → ℕ → Slot
+slotAtReset b s =
+    cond (ltb s (b .«slave_count»))
+    (record { owner = b .«master_count» - 1; remaining = 0; serving = Bool.false; done = 0; waited = 0 })
+    noSlot
+
+unfoldable pub stateAtReset : Board → State
+stateAtReset b = record { transfers = replicate 8 noTransfer; slots = table (slotAtReset b) 16 }
+
+-- what `reset` answers; "memory and buffer are not touched"
+unfoldable pub reset : Board → Started
+reset b = record { number = checkBoard b; state = cond (eqb (checkBoard b) 0) (stateAtReset b) noState }
+
+-- 18: "data not beats × width bytes (0 for a read)"
+unfoldable pub wrongWords : Board → ℕ → Transfer → List ℕ → Bool
+wrongWords b m t words = not (eqb (length words) (cond (t .write) (t .beats * masterAt b m .width) 0))
+
+-- the refusal of a post of the transfer t by master m, or 0: "A call checks in rising order"
+unfoldable pub postRefusal : Board → State → List ℕ → ℕ → Transfer → List ℕ → ℕ
+postRefusal b st buffer m t words =
+    cond (not (eqb (checkBoard b) 0)) (checkBoard b)
+    (cond (not (eqb (length buffer) bufferLength)) 8
+    (cond (not (sound b st)) 9
+    (cond (leb (b .«master_count») m) 11
+    (cond (transferAt st m .held) 12
+    (cond (not (eqb (transferRefusal b m t) 0)) (transferRefusal b m t)
+    (cond (wrongWords b m t words) 18
+    0))))))
+
+-- "A master holds one transfer until it is finished."
+unfoldable pub stateWith : State → ℕ → Transfer → State
+stateWith st m t = record { transfers = set (st .transfers) m t; slots = st .slots }
+
+-- what `post` answers: "the state stay[s] unchanged" on a refusal
+unfoldable pub post : Board → State → List ℕ → ℕ → Transfer → List ℕ → Posted
+post b st buffer m t words = record {
+  number = postRefusal b st buffer m t words;
+  state = cond (eqb (postRefusal b st buffer m t words) 0) (stateWith st m t) st;
+}
+
+-- the lent buffer after a post
+unfoldable pub bufferAfterPost : Board → State → List ℕ → ℕ → Transfer → List ℕ → List ℕ
+bufferAfterPost b st buffer m t words =
+    cond (eqb (postRefusal b st buffer m t words) 0) (posted m words buffer) buffer
+
+-- the refusal of a clock, or 0. 8: "memory or buffer not of its exact length"
+unfoldable pub clockRefusal : Board → State → Store → ℕ
+clockRefusal b st d =
+    cond (not (eqb (checkBoard b) 0)) (checkBoard b)
+    (cond (not (eqb (length (d .memory)) (memoryLength b)) || not (eqb (length (d .buffer)) bufferLength)) 8
+    (cond (not (sound b st)) 9
+    0))
+
+-- what `clock` answers; on a refusal "all other values handed back are 0, clock's mask and slave lines included"
+unfoldable pub clock : Board → State → Store → Clocked
+clock b st d =
+    cond (eqb (clockRefusal b st d) 0)
+    (record { number = 0; state = stateAfter b st; mask = maskOf b st; lines = linesOf b st })
+    (record { number = clockRefusal b st d; state = st; mask = 0; lines = replicate 16 noLine })
+
+-- the lent memory and buffer after a clock
+unfoldable pub storeAfterClock : Board → State → Store → Store
+storeAfterClock b st d = cond (eqb (clockRefusal b st d) 0) (storeAfter b st d) d

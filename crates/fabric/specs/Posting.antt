@@ -1,0 +1,42 @@
+-- Posting: what a transfer is refused for (13 to 17).
+-- Assumes nothing.
+use mathlib.Core.Bool.{Bool, cond, not, _||_}
+use Prim.Native.Nat.{ℕ, _+_, _*_, _%_}
+use lib.Dec.{ltb, eqb}
+use Rattle.board.specs.declared.Master.{Master}
+use Rattle.board.specs.declared.Slave.{Slave}
+use Rattle.board.specs.declared.Board.{Board}
+use Rattle.board.specs.Records.{masterAt, slaveAt}
+use Rattle.geometry.specs.declared.Transfer.{Transfer}
+use Rattle.geometry.specs.Lanes.{postLanes}
+use Rattle.geometry.specs.Decoding.{targetOf}
+
+-- 13: "beats 0 or over the master's burst"
+unfoldable pub wrongBeats : Master → Transfer → Bool
+wrongBeats ma t = eqb (t .beats) 0 || ltb (ma .burst) (t .beats)
+
+-- 14: "address no multiple of the master's width"
+unfoldable pub unaligned : Master → Transfer → Bool
+unaligned ma t = not (eqb (t .address % ma .width) 0)
+
+-- 15: "lanes not legal, or a burst without all lanes"
+unfoldable pub wrongLanes : Master → Transfer → Bool
+wrongLanes ma t = not (postLanes (ma .width) (t .lanes) (t .beats))
+
+-- 16: "no connected slave there"
+unfoldable pub unmapped : Board → ℕ → Transfer → Bool
+unmapped b m t = eqb (targetOf b m (t .address)) (b .«slave_count»)
+
+-- 17: "burst passes the slave's end"
+unfoldable pub passesEnd : Master → Slave → Transfer → Bool
+passesEnd ma sl t = ltb (sl .base + sl .span) (t .address + t .beats * ma .width)
+
+-- what the transfer t of master m is refused for, or 0
+unfoldable pub transferRefusal : Board → ℕ → Transfer → ℕ
+transferRefusal b m t =
+    cond (wrongBeats (masterAt b m) t) 13
+    (cond (unaligned (masterAt b m) t) 14
+    (cond (wrongLanes (masterAt b m) t) 15
+    (cond (unmapped b m t) 16
+    (cond (passesEnd (masterAt b m) (slaveAt b (targetOf b m (t .address))) t) 17
+    0))))

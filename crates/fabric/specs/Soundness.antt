@@ -1,0 +1,53 @@
+-- 9: "the state breaks a rule".
+-- Assumes nothing.
+use mathlib.Core.Bool.{Bool, true, cond, not, _&&_}
+use Prim.Native.Nat.{ℕ}
+use lib.Dec.{ltb, leb, eqb}
+use Rattle.laws.specs.Lists.{every}
+use Rattle.board.specs.declared.Board.{Board}
+use Rattle.board.specs.Records.{masterAt, slaveAt, sharesAt}
+use Rattle.geometry.specs.Decoding.{selects}
+use Rattle.geometry.specs.Accesses.{accesses, waitOf}
+use Rattle.fabric.specs.declared.Slot.{Slot}
+use Rattle.fabric.specs.declared.State.{State}
+use Rattle.fabric.specs.Records.{transferAt, slotAt}
+use Rattle.fabric.specs.Posting.{transferRefusal}
+
+-- "a requester is a master whose transfer is for this slave"
+unfoldable pub requests : Board → State → ℕ → ℕ → Bool
+requests b st s m = transferAt st m .held && selects b m (transferAt st m .address) s
+
+-- no "transfer is held by no master of the board, or would not pass 13 to 17"
+unfoldable pub soundTransfer : Board → State → ℕ → Bool
+soundTransfer b st m =
+    cond (transferAt st m .held) (ltb m (b .«master_count») && eqb (transferRefusal b m (transferAt st m)) 0) true
+
+-- no "last owner is no master"
+unfoldable pub soundOwner : Board → Slot → Bool
+soundOwner b slot = ltb (slot .owner) (b .«master_count»)
+
+-- no "remaining is not below that owner's shares (not 0 if unconnected)"
+unfoldable pub soundRemaining : Board → ℕ → Slot → Bool
+soundRemaining b s slot =
+    cond (eqb (sharesAt b (slot .owner) s) 0) (eqb (slot .remaining) 0) (ltb (slot .remaining) (sharesAt b (slot .owner) s))
+
+-- no "serving slave whose owner holds no transfer for it, whose accesses done reach the total or whose waits passed exceed
+-- the wait"
+unfoldable pub soundService : Board → State → ℕ → Slot → Bool
+soundService b st s slot =
+    requests b st s (slot .owner)
+    && (ltb (slot .done) (accesses (masterAt b (slot .owner)) (slaveAt b s) (transferAt st (slot .owner)))
+    && leb (slot .waited) (waitOf (slaveAt b s) (transferAt st (slot .owner))))
+
+-- no "slave not serving with either above 0"
+unfoldable pub soundRest : Slot → Bool
+soundRest slot = eqb (slot .done) 0 && eqb (slot .waited) 0
+
+unfoldable pub soundSlot : Board → State → ℕ → Bool
+soundSlot b st s =
+    let slot = slotAt st s in
+    soundOwner b slot && (soundRemaining b s slot && cond (slot .serving) (soundService b st s slot) (soundRest slot))
+
+-- the state breaks no rule
+unfoldable pub sound : Board → State → Bool
+sound b st = every (soundTransfer b st) 8 && every (soundSlot b st) (b .«slave_count»)

@@ -1,0 +1,4 @@
+pub mod Lanes
+pub mod Decoding
+pub mod Accesses
+pub mod Runs

@@ -1,0 +1,1 @@
+// Laws of lists, sums and finite tests; nothing here knows the bus.

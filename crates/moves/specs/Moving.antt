@@ -1,0 +1,17 @@
+-- Bytes moved from one list to another.
+-- Assumes nothing.
+use mathlib.Core.Bool.{Bool, true, cond}
+use mathlib.Core.List.{List}
+use Prim.Native.Nat.{ℕ, zero, suc, _+_}
+use lib.ListN.{getD, set}
+
+-- every byte
+abbrev pub all : ℕ → Bool
+all t = true
+
+-- bytes first .. first + n − 1 of a transfer: byte t goes from place from + t of source to place at + t of target, where it is enabled
+unfoldable pub move : (ℕ → Bool) → List ℕ → ℕ → ℕ → ℕ → ℕ → List ℕ → List ℕ
+move enabled source from at first zero target = target
+move enabled source from at first (suc n) target =
+    let before = move enabled source from at first n target in
+    cond (enabled (first + n)) (set before (at + (first + n)) (getD source (from + (first + n)) 0)) before

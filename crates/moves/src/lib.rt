@@ -1,0 +1,1 @@
+// Bytes of an access, of a post, of a whole transfer.

@@ -1,0 +1,59 @@
+-- What the wait call and the table program answer.
+-- Assumes nothing.
+use mathlib.Core.Bool.{Bool, cond, not, _||_}
+use mathlib.Core.List.{List, [], _∷_, _++_}
+use Prim.Native.Nat.{ℕ, _/_, _%_, _^_, _+_}
+use lib.Dec.{ltb, leb, eqb}
+use lib.ListN.{length, drop}
+use Rattle.laws.specs.Bytes.{bytesOf}
+use Rattle.laws.specs.Lists.{gather, table}
+use Rattle.text.specs.Digits.{digits, lineText, fieldsText}
+use Rattle.text.specs.Fields.{lineFeed}
+use Rattle.board.specs.declared.Board.{Board}
+use Rattle.board.specs.Records.{connected}
+use Rattle.description.specs.Reader.{readText}
+use Rattle.quote.specs.Waits.{waitOf, serveOf}
+
+-- a 64-bit number, "lowest byte first"
+unfoldable pub bytes64 : ℕ → List ℕ
+bytes64 n = table (λ i. n / 256 ^ i % 256) 8
+
+-- "It writes them to a lent slice as two 64-bit numbers": wait and serve
+unfoldable pub pairBytes : Board → ℕ → ℕ → List ℕ
+pairBytes b m s = bytes64 (waitOf b m s) ++ bytes64 (serveOf b m s)
+
+-- the refusal of a wait call, or 0: the text's, 10, 11, 16
+unfoldable pub waitRefusal : List ℕ → ℕ → ℕ → List ℕ → ℕ
+waitRefusal text m s out =
+    let r = readText text in
+    cond (not (eqb (r .number) 0)) (r .number)
+    (cond (ltb (length out) 16) 10
+    (cond (leb (r .board .«master_count») m) 11
+    (cond (not (connected (r .board) m s)) 16
+    0)))
+
+-- the lent slice after a wait call: "in a longer one the bytes behind stay unchanged"
+unfoldable pub waitOutput : List ℕ → ℕ → ℕ → List ℕ → List ℕ
+waitOutput text m s out =
+    cond (eqb (waitRefusal text m s out) 0) (pairBytes (readText text .board) m s ++ drop 16 out) out
+
+-- the table's first line
+unfoldable pub heading : List ℕ
+heading = bytesOf "master,slave,wait,serve\n"
+
+-- "one line per connected pair": master, slave, wait, serve
+unfoldable pub pairLine : Board → ℕ → ℕ → List ℕ
+pairLine b m s =
+    cond (connected b m s) (lineText (digits m) (s ∷ waitOf b m s ∷ serveOf b m s ∷ [])) []
+
+-- "by master, then slave"
+unfoldable pub tableText : Board → List ℕ
+tableText b = heading ++ gather (λ m. gather (pairLine b m) (b .«slave_count»)) (b .«master_count»)
+
+-- "For a refused text it prints `refused,`, the number and a line feed."
+unfoldable pub refusedText : ℕ → List ℕ
+refusedText n = lineText (bytesOf "refused") (n ∷ [])
+
+-- what the table program prints
+unfoldable pub printed : List ℕ → List ℕ
+printed text = let r = readText text in cond (eqb (r .number) 0) (tableText (r .board)) (refusedText (r .number))

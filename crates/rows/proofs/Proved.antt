@@ -1,0 +1,64 @@
+-- Every row holds: each side computes to the same.
+-- Assumes nothing.
+use mathlib.Core.Path.{refl}
+use lib.Count.{ones, onesIn, trailingZeros}
+use Rattle.laws.specs.Bytes.{bytesOf}
+use Rattle.laws.specs.Bits.{bit}
+use Rattle.laws.specs.Lists.{member, same, gather, table, sum, every, some, firstFrom, first}
+use Rattle.text.specs.Fields.{push, split, isDigit, scan, shaped, numberOf, noNumbers, withNumber, collect, numbersOf}
+use Rattle.text.specs.Digits.{digitsIn, digits, fieldsText, lineText}
+use Rattle.board.specs.Records.{noBoard, connected, totalSpan, startOf, memoryLength}
+use Rattle.board.specs.Rules.{slaveValues, meets, overlaps, masterRefusal, slaveRefusal, shareRefusal, itemRefusal, withMaster, withSlave, withShare, withItem, isShare, refused, start, taken, step, run, finish, described}
+use Rattle.board.specs.Items.{masterItem, slaveItem, shareItem, items, checkBoard}
+use Rattle.description.specs.Reader.{masterLine, slaveLine, shareLine, itemOfFields, itemOf, unended, itemsOfPieces, itemsOf, reading, readText}
+use Rattle.geometry.specs.Lanes.{lowest, adjacent, legalLanes, postLanes}
+use Rattle.geometry.specs.Decoding.{agrees, selects, targetOf}
+use Rattle.geometry.specs.Accesses.{ratio, accesses, accessBytes, firstByte, accessOffset, wordOffset, writeLanes, slaveLanes, waitOf, ownLength}
+use Rattle.geometry.specs.Runs.{runLimit, placeOf, runOf}
+use Rattle.arbiter.specs.Choosing.{above, tried, chosen}
+use Rattle.arbiter.specs.Granting.{kept, grantTo, granted}
+use Rattle.moves.specs.Moving.{move}
+use Rattle.moves.specs.Bytes.{posted, enabled, memoryPlace, written, fetched, accessed}
+use Rattle.fabric.specs.Records.{noState}
+use Rattle.fabric.specs.Posting.{wrongBeats, unaligned, wrongLanes, unmapped, passesEnd, transferRefusal}
+use Rattle.fabric.specs.Soundness.{requests, soundTransfer, soundOwner, soundRemaining, soundService, soundRest, soundSlot, sound}
+use Rattle.fabric.specs.Control.{grantAt, slotGranted, slotAfterGrant, lineOf, waits, slotWaiting, slotAccessed, slotFinished, served, stepOf, lineAfter, slotAfter, finishes, finished, maskOf, transferAfter, stateAfter, linesOf}
+use Rattle.fabric.specs.Carrying.{carriesOut, carried, carriedBy, storeAfter}
+use Rattle.fabric.specs.Calls.{slotAtReset, stateAtReset, reset, wrongWords, postRefusal, stateWith, post, bufferAfterPost, clockRefusal, clock, storeAfterClock}
+use Rattle.quote.specs.Waits as quoted
+use Rattle.quote.specs.Answers.{heading, pairLine, tableText, refusedText, printed}
+use Rattle.rows.specs.Runs.{runs, started, afterPost, afterClock, lineNow, phases, grants}
+use Rattle.rows.specs.Rows.{boardText, sharesText, tableOutput, masterOf, slaveOf, burstOf, wordRead, Rows}
+
+pub rows : Rows
+unfolding
+    ones onesIn trailingZeros bytesOf bit member same gather table sum every some firstFrom first
+    push split isDigit scan shaped numberOf noNumbers withNumber collect numbersOf digitsIn digits fieldsText lineText
+    noBoard connected totalSpan startOf memoryLength
+    slaveValues meets overlaps masterRefusal slaveRefusal shareRefusal itemRefusal withMaster withSlave withShare withItem isShare
+    refused start taken step run finish described masterItem slaveItem shareItem items checkBoard
+    masterLine slaveLine shareLine itemOfFields itemOf unended itemsOfPieces itemsOf reading readText
+    lowest adjacent legalLanes postLanes agrees selects targetOf
+    ratio accesses accessBytes firstByte accessOffset wordOffset writeLanes slaveLanes waitOf ownLength runLimit placeOf runOf
+    above tried chosen kept grantTo granted move posted enabled memoryPlace written fetched accessed
+    noState wrongBeats unaligned wrongLanes unmapped passesEnd transferRefusal
+    requests soundTransfer soundOwner soundRemaining soundService soundRest soundSlot sound
+    grantAt slotGranted slotAfterGrant lineOf waits slotWaiting slotAccessed slotFinished served stepOf lineAfter slotAfter finishes
+    finished maskOf transferAfter stateAfter linesOf carriesOut carried carriedBy storeAfter
+    slotAtReset stateAtReset reset wrongWords postRefusal stateWith post bufferAfterPost clockRefusal clock storeAfterClock
+    quoted.longest quoted.mostBeats quoted.single quoted.serve quoted.turn quoted.otherTurn quoted.turnsOf quoted.waitOf quoted.serveOf
+    heading pairLine tableText refusedText printed runs started afterPost afterClock lineNow phases grants
+    boardText sharesText tableOutput
+rows = record {
+  sixteen = refl;
+  fourteen = refl;
+  ones = refl;
+  wider = refl;
+  upperHalf = refl;
+  middle = refl;
+  whole = refl;
+  none = refl;
+  shares = refl;
+  lines = refl;
+  alone = refl;
+}
