@@ -18,7 +18,7 @@ use Rattle.fabric.specs.declared.Started.{Started}
 use Rattle.fabric.specs.declared.Posted.{Posted}
 use Rattle.fabric.specs.declared.Clocked.{Clocked}
 use Rattle.fabric.specs.Records.{noSlot, noLine, noState, transferAt}
-use Rattle.fabric.specs.Posting.{transferRefusal}
+use Rattle.fabric.specs.Posting.{Request, transferOf, transferRefusal}
 use Rattle.fabric.specs.Soundness.{sound}
 use Rattle.fabric.specs.Control.{stateAfter, maskOf, linesOf}
 use Rattle.fabric.specs.Carrying.{storeAfter}
@@ -38,19 +38,19 @@ unfoldable pub reset : Board → Started
 reset b = record { number = checkBoard b; state = cond (eqb (checkBoard b) 0) (stateAtReset b) noState }
 
 -- 18: "data not beats × width bytes (0 for a read)"
-unfoldable pub wrongWords : Board → ℕ → Transfer → List ℕ → Bool
-wrongWords b m t words = not (eqb (length words) (cond (t .write) (t .beats * masterAt b m .width) 0))
+unfoldable pub wrongWords : Board → Request → Bool
+wrongWords b q = not (eqb (length (q .words)) (cond (q .write) (q .beats * masterAt b (q .master) .width) 0))
 
--- the refusal of a post of the transfer t by master m, or 0: "A call checks in rising order"
-unfoldable pub postRefusal : Board → State → List ℕ → ℕ → Transfer → List ℕ → ℕ
-postRefusal b st buffer m t words =
+-- the refusal of a post, or 0: "A call checks in rising order"
+unfoldable pub postRefusal : Board → State → List ℕ → Request → ℕ
+postRefusal b st buffer q =
     cond (not (eqb (checkBoard b) 0)) (checkBoard b)
     (cond (not (eqb (length buffer) bufferLength)) 8
     (cond (not (sound b st)) 9
-    (cond (leb (b .«master_count») m) 11
-    (cond (transferAt st m .held) 12
-    (cond (not (eqb (transferRefusal b m t) 0)) (transferRefusal b m t)
-    (cond (wrongWords b m t words) 18
+    (cond (leb (b .«master_count») (q .master)) 11
+    (cond (transferAt st (q .master) .held) 12
+    (cond (not (eqb (transferRefusal b (q .master) (transferOf q)) 0)) (transferRefusal b (q .master) (transferOf q))
+    (cond (wrongWords b q) 18
     0))))))
 
 -- "A master holds one transfer until it is finished."
@@ -58,16 +58,16 @@ unfoldable pub stateWith : State → ℕ → Transfer → State
 stateWith st m t = record { transfers = set (st .transfers) m t; slots = st .slots }
 
 -- what `post` answers: "the state stay[s] unchanged" on a refusal
-unfoldable pub post : Board → State → List ℕ → ℕ → Transfer → List ℕ → Posted
-post b st buffer m t words = record {
-  number = postRefusal b st buffer m t words;
-  state = cond (eqb (postRefusal b st buffer m t words) 0) (stateWith st m t) st;
+unfoldable pub post : Board → State → List ℕ → Request → Posted
+post b st buffer q = record {
+  number = postRefusal b st buffer q;
+  state = cond (eqb (postRefusal b st buffer q) 0) (stateWith st (q .master) (transferOf q)) st;
 }
 
 -- the lent buffer after a post
-unfoldable pub bufferAfterPost : Board → State → List ℕ → ℕ → Transfer → List ℕ → List ℕ
-bufferAfterPost b st buffer m t words =
-    cond (eqb (postRefusal b st buffer m t words) 0) (posted m words buffer) buffer
+unfoldable pub bufferAfterPost : Board → State → List ℕ → Request → List ℕ
+bufferAfterPost b st buffer q =
+    cond (eqb (postRefusal b st buffer q) 0) (posted (q .master) (q .words) buffer) buffer
 
 -- the refusal of a clock, or 0. 8: "memory or buffer not of its exact length"
 unfoldable pub clockRefusal : Board → State → Store → ℕ
@@ -87,3 +87,19 @@ clock b st d =
 -- the lent memory and buffer after a clock
 unfoldable pub storeAfterClock : Board → State → Store → Store
 storeAfterClock b st d = cond (eqb (clockRefusal b st d) 0) (storeAfter b st d) d
+
+-- "state, memory and buffer as the call before left them"
+pub record World : Type 0 where
+  pub state : State
+  pub store : Store
+
+-- what a post leaves
+unfoldable pub afterPost : Board → World → Request → World
+afterPost b w q = record {
+  state = post b (w .state) (w .store .buffer) q .state;
+  store = record { memory = w .store .memory; buffer = bufferAfterPost b (w .state) (w .store .buffer) q };
+}
+
+-- what a clock leaves
+unfoldable pub afterClock : Board → World → World
+afterClock b w = record { state = clock b (w .state) (w .store) .state; store = storeAfterClock b (w .state) (w .store) }

@@ -1,6 +1,7 @@
--- Posting: what a transfer is refused for (13 to 17).
+-- Posting: what is asked for, and what a transfer is refused for (13 to 17).
 -- Assumes nothing.
-use mathlib.Core.Bool.{Bool, cond, not, _||_}
+use mathlib.Core.Bool.{Bool, true, cond, not, _||_}
+use mathlib.Core.List.{List}
 use Prim.Native.Nat.{ℕ, _+_, _*_, _%_}
 use lib.Dec.{ltb, eqb}
 use Rattle.board.specs.declared.Master.{Master}
@@ -10,6 +11,19 @@ use Rattle.board.specs.Records.{masterAt, slaveAt}
 use Rattle.geometry.specs.declared.Transfer.{Transfer}
 use Rattle.geometry.specs.Lanes.{postLanes}
 use Rattle.geometry.specs.Decoding.{targetOf}
+
+-- a post: the master and its transfer, "read or write, a 32-bit byte address, lanes (bit k for byte k), beats and, for a write, the words"
+pub record Request : Type 0 where
+  pub master : ℕ
+  pub write : Bool
+  pub address : ℕ
+  pub lanes : ℕ
+  pub beats : ℕ
+  pub words : List ℕ
+
+-- the transfer that a request asks for
+abbrev pub transferOf : Request → Transfer
+transferOf q = record { held = true; write = q .write; address = q .address; lanes = q .lanes; beats = q .beats }
 
 -- 13: "beats 0 or over the master's burst"
 unfoldable pub wrongBeats : Master → Transfer → Bool

@@ -24,10 +24,10 @@ use Rattle.fabric.specs.Posting.{wrongBeats, unaligned, wrongLanes, unmapped, p
 use Rattle.fabric.specs.Soundness.{requests, soundTransfer, soundOwner, soundRemaining, soundService, soundRest, soundSlot, sound}
 use Rattle.fabric.specs.Control.{grantAt, slotGranted, slotAfterGrant, lineOf, waits, slotWaiting, slotAccessed, slotFinished, served, stepOf, lineAfter, slotAfter, finishes, finished, maskOf, transferAfter, stateAfter, linesOf}
 use Rattle.fabric.specs.Carrying.{carriesOut, carried, carriedBy, storeAfter}
-use Rattle.fabric.specs.Calls.{slotAtReset, stateAtReset, reset, wrongWords, postRefusal, stateWith, post, bufferAfterPost, clockRefusal, clock, storeAfterClock}
+use Rattle.fabric.specs.Calls.{slotAtReset, stateAtReset, reset, wrongWords, postRefusal, stateWith, post, bufferAfterPost, clockRefusal, clock, storeAfterClock, afterPost, afterClock}
 use Rattle.quote.specs.Waits as quoted
 use Rattle.quote.specs.Answers.{heading, pairLine, tableText, refusedText, printed}
-use Rattle.rows.specs.Runs.{runs, started, afterPost, afterClock, lineNow, phases, grants}
+use Rattle.rows.specs.Runs.{runs, started, lineNow, phases, grants}
 use Rattle.rows.specs.Rows.{boardText, sharesText, tableOutput, masterOf, slaveOf, burstOf, wordRead, Rows}
 
 pub rows : Rows

@@ -13,7 +13,9 @@ use Rattle.geometry.specs.declared.Transfer.{Transfer}
 use Rattle.geometry.specs.Lanes.{legalLanes}
 use Rattle.description.specs.Reader.{readText}
 use Rattle.quote.specs.Answers.{printed}
-use Rattle.rows.specs.Runs.{runs, started, afterPost, phases, grants}
+use Rattle.fabric.specs.Posting.{Request}
+use Rattle.fabric.specs.Calls.{afterPost}
+use Rattle.rows.specs.Runs.{runs, started, phases, grants}
 
 -- document 01's board
 unfoldable pub boardText : List ℕ
@@ -37,9 +39,9 @@ slaveOf w u = record { base = 0; span = 4096; width = w; burst = u; «read_wait�
 abbrev pub burstOf : ℕ → ℕ → Transfer
 burstOf ones n = record { held = true; write = false; address = 0; lanes = ones; beats = n }
 
--- one word read from the slave's first address
-abbrev pub wordRead : ℕ → Transfer
-wordRead ones = record { held = true; write = false; address = 4096; lanes = ones; beats = 1 }
+-- master m reads one word from the slave's first address
+abbrev pub wordRead : ℕ → ℕ → Request
+wordRead m ones = record { master = m; write = false; address = 4096; lanes = ones; beats = 1; words = [] }
 
 pub record Rows : Type 0 where
   -- "16 accesses, slave burst 8: runs 8, 8; 14: 8, 6; 16 with burst 1: sixteen of 1"
@@ -55,12 +57,12 @@ pub record Rows : Type 0 where
   pub none : legalLanes 4 0b0000 ≡ false
   -- "shares 3 and 4, both always posting singles from reset: 0,0,0,1,1,1,1,0"
   pub shares :
-      grants (readText sharesText .board) (wordRead 0b1111) (wordRead 0b11) 21 (started (readText sharesText .board))
+      grants (readText sharesText .board) (wordRead 0 0b1111) (wordRead 1 0b11) 21 (started (readText sharesText .board))
       ≡ 0 ∷ 0 ∷ 0 ∷ 1 ∷ 1 ∷ 1 ∷ 1 ∷ 0 ∷ []
   -- "the two table lines"
   pub lines : printed boardText ≡ tableOutput
   -- "master 0 reads one word alone: phases 1, 2, 1, 2, finished at the fourth clock"
   pub alone :
       phases (readText boardText .board) 4
-      (afterPost (readText boardText .board) 0 (wordRead 0b1111) [] (started (readText boardText .board)))
+      (afterPost (readText boardText .board) (started (readText boardText .board)) (wordRead 0 0b1111))
       ≡ (1, 0) ∷ (2, 0) ∷ (1, 0) ∷ (2, 1) ∷ []

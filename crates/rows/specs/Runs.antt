@@ -14,41 +14,20 @@ use Rattle.geometry.specs.declared.Transfer.{Transfer}
 use Rattle.geometry.specs.Accesses.{accesses}
 use Rattle.geometry.specs.Runs.{placeOf, runOf}
 use Rattle.moves.specs.Bytes.{Store, bufferLength}
-use Rattle.fabric.specs.declared.State.{State}
 use Rattle.fabric.specs.declared.Line.{Line}
 use Rattle.fabric.specs.Records.{noLine, slotAt}
-use Rattle.fabric.specs.Calls.{reset, post, bufferAfterPost, clock, storeAfterClock}
+use Rattle.fabric.specs.Posting.{Request}
+use Rattle.fabric.specs.Calls.{World, reset, clock, afterPost, afterClock}
 
 -- the lengths of a transfer's runs, each taken at its first access
 unfoldable pub runs : Master → Slave → Transfer → List ℕ
 runs ma sl t = gather (λ a. cond (eqb (placeOf ma sl a) 0) (runOf ma sl t a ∷ []) []) (accesses ma sl t)
-
--- the state, the memory and the buffer as the calls so far left them
-pub record World : Type 0 where
-  pub state : State
-  pub store : Store
 
 -- a reset, on a memory and a buffer of zeros
 unfoldable pub started : Board → World
 started b = record {
   state = reset b .state;
   store = record { memory = replicate (memoryLength b) 0; buffer = replicate bufferLength 0 };
-}
-
--- a post by master m, taken or refused
-unfoldable pub afterPost : Board → ℕ → Transfer → List ℕ → World → World
-afterPost b m t words w = record {
-  state = post b (w .state) (w .store .buffer) m t words .state;
-  store = record {
-    memory = w .store .memory;
-    buffer = bufferAfterPost b (w .state) (w .store .buffer) m t words;
-  };
-}
-
-unfoldable pub afterClock : Board → World → World
-afterClock b w = record {
-  state = clock b (w .state) (w .store) .state;
-  store = storeAfterClock b (w .state) (w .store);
 }
 
 -- the line of slave 0 in the next clock
@@ -62,9 +41,9 @@ phases b (suc n) w = (lineNow b w .phase, clock b (w .state) (w .store) .mask) �
 
 -- the owner of slave 0 in each of n clocks that begins a transfer, masters 0 and 1 always posting theirs before the clock (a post
 -- while one is held answers 12 and changes nothing)
-unfoldable pub grants : Board → Transfer → Transfer → ℕ → World → List ℕ
-grants b t u zero w = []
-grants b t u (suc n) w =
-    let p = afterPost b 0 t [] (afterPost b 1 u [] w) in
-    let rest = grants b t u n (afterClock b p) in
-    cond (not (slotAt (p .state) 0 .serving) && ltb 0 (lineNow b p .phase)) (lineNow b p .owner ∷ rest) rest
+unfoldable pub grants : Board → Request → Request → ℕ → World → List ℕ
+grants b p q zero w = []
+grants b p q (suc n) w =
+    let x = afterPost b (afterPost b w q) p in
+    let rest = grants b p q n (afterClock b x) in
+    cond (not (slotAt (x .state) 0 .serving) && ltb 0 (lineNow b x .phase)) (lineNow b x .owner ∷ rest) rest

@@ -1,0 +1,217 @@
+-- What demand 3 compares: lists of calls, the byte memory of the read claim, and the claim.
+-- Assumes nothing.
+use mathlib.Core.Path.{_≡_}
+use mathlib.Core.Bool.{Bool, true, false, cond, _&&_, _||_}
+use mathlib.Core.List.{List, [], _∷_}
+use mathlib.Core.Logic.{_⊎_, _≢_}
+use Prim.Native.Nat.{ℕ, zero, suc, _+_, _-_, _*_, _≤_, _<_}
+use lib.Dec.{eqb}
+use lib.ListN.{length, getD, take, drop}
+use Rattle.laws.specs.Bits.{bit}
+use Rattle.laws.specs.Lists.{some}
+use Rattle.board.specs.declared.Board.{Board}
+use Rattle.board.specs.Records.{masterAt, slaveAt, connected, startOf, memoryLength}
+use Rattle.geometry.specs.Accesses.{ownLength}
+use Rattle.geometry.specs.Decoding.{targetOf}
+use Rattle.moves.specs.Moving.{move}
+use Rattle.moves.specs.Bytes.{Store, bufferLength, partOf, memoryPlace, enabled}
+use Rattle.fabric.specs.declared.State.{State}
+use Rattle.fabric.specs.declared.Line.{Line}
+use Rattle.fabric.specs.declared.Clocked.{Clocked}
+use Rattle.fabric.specs.Records.{noLine}
+use Rattle.fabric.specs.Posting.{Request, transferOf}
+use Rattle.fabric.specs.Calls.{World, reset, post, bufferAfterPost, clock, storeAfterClock}
+use Rattle.quote.specs.Waits.{waitOf}
+
+-- ---- the list
+
+-- a post or a clock, with everything it was handed
+pub data Call : Type 0 where
+  posts : Board → State → List ℕ → Request → Call
+  clocks : Board → State → Store → Call
+
+-- the number it answers
+unfoldable pub numberOf : Call → ℕ
+numberOf (posts b st buffer q) = post b st buffer q .number
+numberOf (clocks b st d) = clock b st d .number
+
+-- it was handed the description b, and state, memory and buffer as they stood
+unfoldable pub Handed : Board → World → Call → Type 0
+Handed b w (posts b′ st buffer q) = (b′ ≡ b) × (st ≡ w .state) × (buffer ≡ w .store .buffer)
+Handed b w (clocks b′ st d) = (b′ ≡ b) × (st ≡ w .state) × (d ≡ w .store)
+
+-- what it leaves, where w stood
+unfoldable pub leaves : World → Call → World
+leaves w (posts b st buffer q) =
+    record {
+      state = post b st buffer q .state;
+      store = record { memory = w .store .memory; buffer = bufferAfterPost b st buffer q };
+    }
+leaves w (clocks b st d) = record { state = clock b st d .state; store = storeAfterClock b st d }
+
+-- what the next call gets: "a refused one may have been handed anything else, and the next gets what stood before it"
+unfoldable pub next : World → Call → World
+next w c = cond (eqb (numberOf c) 0) (leaves w c) w
+
+unfoldable pub after : World → List Call → World
+after w [] = w
+after w (c ∷ cs) = after (next w c) cs
+
+-- "Each post or clock gets the reset's description, and state, memory and buffer as the call before left them"
+unfoldable pub History : Board → World → List Call → Type 0
+History b w [] = Unit {0}
+History b w (c ∷ cs) = ((numberOf c ≢ 0) ⊎ Handed b w c) × History b (next w c) cs
+
+-- "A history starts at a reset not refused"; the memory and the buffer lent are of their exact lengths
+pub record Start (b : Board) (w : World) : Type 0 where
+  pub accepted : reset b .number ≡ 0
+  pub state : w .state ≡ reset b .state
+  pub memory : length (w .store .memory) ≡ memoryLength b
+  pub buffer : length (w .store .buffer) ≡ bufferLength
+
+-- "Only clocks not refused count.": what they answered, in order
+unfoldable pub answers : List Call → List Clocked
+answers [] = []
+answers (posts b st buffer q ∷ cs) = answers cs
+answers (clocks b st d ∷ cs) = cond (eqb (clock b st d .number) 0) (clock b st d ∷ answers cs) (answers cs)
+
+-- "a slave line has phase 1 or 2 and its master as owner"
+unfoldable pub owns : ℕ → Line → Bool
+owns m l = (eqb (l .phase) 1 || eqb (l .phase) 2) && eqb (l .owner) m
+
+unfoldable pub shows : ℕ → Clocked → Bool
+shows m a = some (λ s. owns m (getD (a .lines) s noLine)) 16
+
+-- "whose mask names the master"
+unfoldable pub names : ℕ → Clocked → Bool
+names m a = bit (a .mask) m
+
+-- one of the clocks passes the test
+unfoldable pub any : (Clocked → Bool) → List Clocked → Bool
+any test [] = false
+any test (a ∷ as′) = test a || any test as′
+
+-- the slave of a request
+unfoldable pub slaveOf : Board → Request → ℕ
+slaveOf b q = targetOf b (q .master) (q .address)
+
+-- the request is posted, and not refused, where w stands
+unfoldable pub Accepted : Board → World → Request → Type 0
+Accepted b w q = post b (w .state) (w .store .buffer) q .number ≡ 0
+
+-- where w stands behind that post
+unfoldable pub posted : Board → World → Request → World
+posted b w q = leaves w (posts b (w .state) (w .store .buffer) q)
+
+-- "let w be the pair's quoted wait"
+unfoldable pub waitFor : Board → Request → ℕ
+waitFor b q = waitOf b (q .master) (slaveOf b q)
+
+unfoldable pub lengthOf : Board → Request → ℕ
+lengthOf b q = ownLength (masterAt b (q .master)) (slaveAt b (slaveOf b q)) (transferOf q)
+
+-- ---- the byte memory of the read claim
+
+-- the bytes; each master's last request, whether it still waits for its first cycle, and what its read gave
+pub record Reference : Type 0 where
+  pub bytes : List ℕ
+  pub request : ℕ → Request
+  pub waiting : ℕ → Bool
+  pub given : ℕ → List ℕ
+
+abbrev pub update : {X : Type 0} → (ℕ → X) → ℕ → X → ℕ → X
+update f m x k = cond (eqb k m) x (f k)
+
+-- "The byte memory of the read claim starts as the memory at the reset."
+unfoldable pub referenceAt : List ℕ → Reference
+referenceAt memory = record {
+  bytes = memory;
+  request = λ m. record { master = 0; write = false; address = 0; lanes = 0; beats = 0; words = [] };
+  waiting = λ m. false;
+  given = λ m. [];
+}
+
+-- "beats × master width bytes"
+unfoldable pub bytesIn : Board → Request → ℕ
+bytesIn b q = q .beats * masterAt b (q .master) .width
+
+-- "Byte j of beat k lies at the slave's start in memory + address − base + k × master width + j."
+unfoldable pub placeOf : Board → Request → ℕ
+placeOf b q = memoryPlace (slaveAt b (slaveOf b q)) (transferOf q) (startOf b (slaveOf b q))
+
+-- "A write puts its posted bytes there where lane j is 1; a read .. changes nothing."
+unfoldable pub bytesAfter : Board → Request → List ℕ → List ℕ
+bytesAfter b q bytes =
+    cond (q .write)
+    (move (enabled (masterAt b (q .master)) (transferOf q)) (q .words) 0 (placeOf b q) 0 (bytesIn b q) bytes)
+    bytes
+
+-- "a read gives all its bytes"
+unfoldable pub given : Board → Request → List ℕ → List ℕ
+given b q bytes = take (bytesIn b q) (drop (placeOf b q) bytes)
+
+-- "each transfer that has had its first cycle is one whole step": the transfer of master m
+unfoldable pub stepped : Board → ℕ → Reference → Reference
+stepped b m r = record {
+  bytes = bytesAfter b (r .request m) (r .bytes);
+  request = r .request;
+  waiting = update (r .waiting) m false;
+  given = update (r .given) m (given b (r .request m) (r .bytes));
+}
+
+-- the line is the first cycle of its owner's transfer
+unfoldable pub seen : Board → Line → Reference → Reference
+seen b l r = cond ((eqb (l .phase) 1 || eqb (l .phase) 2) && r .waiting (l .owner)) (stepped b (l .owner) r) r
+
+-- "those of one clock are on different slaves and may be taken in any order": by slave number
+unfoldable pub seenAll : Board → List Line → Reference → Reference
+seenAll b [] r = r
+seenAll b (l ∷ ls) r = seenAll b ls (seen b l r)
+
+-- "It is fed the posts not refused, and from the clocks' answers only the order"
+unfoldable pub fedPost : Request → Reference → Reference
+fedPost q r = record {
+  bytes = r .bytes;
+  request = update (r .request) (q .master) q;
+  waiting = update (r .waiting) (q .master) true;
+  given = r .given;
+}
+
+unfoldable pub fed : Board → Reference → List Call → Reference
+fed b r [] = r
+fed b r (posts b′ st buffer q ∷ cs) = fed b (cond (eqb (post b′ st buffer q .number) 0) (fedPost q r) r) cs
+fed b r (clocks b′ st d ∷ cs) = fed b (cond (eqb (clock b′ st d .number) 0) (seenAll b (clock b′ st d .lines) r) r) cs
+
+-- ---- the claim
+
+pub record Demand3 (b : Board) : Type 0 where
+  -- "the first cycle is no later than clock w + 1 .. once the history has that clock"
+  pub within : (w : World) (before : List Call) (q : Request) (calls : List Call) → Start b w → History b w before
+      → Accepted b (after w before) q → History b (posted b (after w before) q) calls
+      → waitFor b q + 1 ≤ length (answers calls)
+      → any (shows (q .master)) (take (waitFor b q + 1) (answers calls)) ≡ true
+  -- "the finish no later than clock w + own length"
+  pub finished : (w : World) (before : List Call) (q : Request) (calls : List Call) → Start b w → History b w before
+      → Accepted b (after w before) q → History b (posted b (after w before) q) calls
+      → waitFor b q + lengthOf b q ≤ length (answers calls)
+      → any (names (q .master)) (take (waitFor b q + lengthOf b q) (answers calls)) ≡ true
+  -- tight: for each connected pair a history in which a transfer has its first cycle at clock w + 1 exactly
+  pub exact : (w : World) → Start b w → (m s : ℕ) → m < b .«master_count» → connected b m s ≡ true
+      → (before : List Call) × (q : Request) × (calls : List Call)
+      × History b w before × Accepted b (after w before) q × (q .master ≡ m) × (slaveOf b q ≡ s)
+      × History b (posted b (after w before) q) calls
+      × (length (answers calls) ≡ waitOf b m s + 1)
+      × (any (shows m) (take (waitOf b m s) (answers calls)) ≡ false)
+      × (any (shows m) (answers calls) ≡ true)
+  -- "As the finishing clock leaves it, the front of its master's part .. equals what the read's step gave."
+  pub reads : (w : World) (calls : List Call) (m : ℕ) → Start b w → History b w calls
+      → let u = after w calls in
+      let a = clock b (u .state) (u .store) in
+      let r = seenAll b (a .lines) (fed b (referenceAt (w .store .memory)) calls) in
+      names m a ≡ true → r .request m .write ≡ false
+      → take (bytesIn b (r .request m)) (drop (partOf m) (storeAfterClock b (u .state) (u .store) .buffer)) ≡ r .given m
+  -- a call handed what the history left is refused for nothing of 2 to 9
+  pub served : (w : World) (calls : List Call) (q : Request) → Start b w → History b w calls
+      → let u = after w calls in
+      (clock b (u .state) (u .store) .number ≡ 0)
+      × ((post b (u .state) (u .store .buffer) q .number ≡ 0) ⊎ (11 ≤ post b (u .state) (u .store .buffer) q .number))
