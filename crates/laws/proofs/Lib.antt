@@ -1,1 +1,5 @@
 pub mod BitLaws
+pub mod Finite
+pub mod ListLaws
+pub mod TableLaws
+pub mod Tests
