@@ -1,3 +1,4 @@
 pub mod Sound
 pub mod CycleLaws
 pub mod StateLaws
+pub mod DecodeLaws

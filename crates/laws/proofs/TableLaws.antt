@@ -1,4 +1,4 @@
--- Laws of tables, of tests over the numbers below n, and of a mask as a sum of powers of two.
+-- Laws of tables, of tests, also over the numbers below n, and of a mask as a sum of powers of two.
 -- Assumes nothing.
 use mathlib.Core.Path.{_≡_, refl, sym, ap, _∙_}
 use mathlib.Core.Bool.{Bool, true, false, cond, _&&_, _||_, false≢true, true≢false}
@@ -8,13 +8,13 @@ use native.Mathlib.Nat.{zero-add, add-zero, pow-suc, add-mul-div-right, add-mul-
 use native.Mathlib.Numerals.{add-one}
 use native.Mathlib.Decide.{ℕ-discrete}
 use native.Mathlib.Omega.{arith}
-use lib.Dec.{ltb}
+use lib.Dec.{ltb, eqb}
 use lib.ListN.{length, getD, length-append, List·getD-append, List·getD-eq-default}
 use lib.Seq.{getD-at}
-use borrow.Author.Tests.{ltb-true, ltb-false}
+use borrow.Author.Tests.{ltb-true, ltb-false, eqb-true}
 use lib.Pow.{pow-pos, pow-add, high}
 use Rattle.laws.specs.Bits.{bit}
-use Rattle.laws.specs.Lists.{gather, table, sum, every, some, firstFrom, first}
+use Rattle.laws.specs.Lists.{member, gather, table, sum, every, some, firstFrom, first}
 use Rattle.laws.proofs.BitLaws.{bit-above}
 
 -- i is below n + 1: below n, or n itself
@@ -59,6 +59,25 @@ either-left false b e = refl
 pub either-right : (a b : Bool) → (a || b) ≡ false → b ≡ false
 either-right true b e = absurd (true≢false e)
 either-right false b e = e
+
+-- a refusal that is 0 has passed its first test
+pub passed : (c : Bool) (n x : ℕ) → cond c (suc n) x ≡ 0 → (c ≡ false) × (x ≡ 0)
+passed true n x e = absurd (omega arith)
+passed false n x e = (refl, e)
+
+-- what is true of each number of a list is true of its members
+abbrev pub Each : (ℕ → Type 0) → List ℕ → Type 0
+Each P [] = Unit {0}
+Each P (y ∷ ys) = P y × Each P ys
+
+pub member-each : (P : ℕ → Type 0) (x : ℕ) (ys : List ℕ) → Each P ys → member x ys ≡ true → P x
+unfolding member
+member-each P x [] f e = absurd (false≢true e)
+member-each P x (y ∷ ys) f e = go (eqb y x) refl (member-each P x ys (f .1))
+  where
+    go : (c : Bool) → eqb y x ≡ c → (member x ys ≡ true → P x) → P x
+    go true q r = rw (eqb-true y x q) at (f .0)
+    go false q r = r (rw (q, member) at e)
 
 module _ (test : ℕ → Bool) where
   pub every-at : (n : ℕ) → every test n ≡ true → (i : ℕ) → i < n → test i ≡ true

@@ -1,0 +1,203 @@
+-- Which slave a transfer is for: on an accepted board at most one, and what is true there of a transfer that post takes.
+-- Assumes nothing.
+use mathlib.Core.Path.{_≡_, refl, sym, ap, _∙_}
+use mathlib.Core.Bool.{Bool, true, false, cond, not, _&&_, _||_, true≢false}
+use mathlib.Core.Logic.{_≢_}
+use Prim.Native.Nat.{ℕ, suc, _+_, _*_, _/_, _%_, _≤_, _<_}
+use native.Mathlib.Nat.{div-add-mod', mod-lt, div-eq-of-lt-le, le-div-iff-mul-le, mul-le-mul}
+use native.Mathlib.Omega.{arith}
+use lib.Dec.{ltb, eqb}
+use borrow.Author.Tests.{lt-ltb, ltb-true, ltb-false, eq-eqb, eqb-true, eqb-false, not-false}
+use Rattle.laws.proofs.TableLaws.{both-left, both-right, either-left, either-right, passed, member-each, First, first-is, first-only}
+use Rattle.board.specs.declared.Master.{Master}
+use Rattle.board.specs.declared.Slave.{Slave}
+use Rattle.board.specs.declared.Board.{Board}
+use Rattle.board.specs.Records.{masterAt, slaveAt, sharesAt, connected}
+use Rattle.board.specs.Rules.{widths, spans, meets}
+use Rattle.board.proofs.Legal.{LegalSlave, Legal}
+use Rattle.geometry.specs.declared.Transfer.{Transfer}
+use Rattle.geometry.specs.Lanes.{postLanes}
+use Rattle.geometry.specs.Decoding.{agrees, selects, targetOf}
+use Rattle.geometry.specs.Accesses.{ratio, accesses}
+use Rattle.fabric.specs.declared.State.{State}
+use Rattle.fabric.specs.Records.{transferAt}
+use Rattle.fabric.specs.Posting.{wrongBeats, unaligned, wrongLanes, unmapped, passesEnd, transferRefusal}
+use Rattle.fabric.specs.Soundness.{requests}
+
+-- the address lies in the slave's span
+pub record Inside (sl : Slave) (address : ℕ) : Type 0 where
+  pub low : sl .base ≤ address
+  pub high : address < sl .base + sl .span
+
+module _ (sl : Slave) (address : ℕ) (legal : LegalSlave sl) where
+  pub span-pos : 0 < sl .span
+  span-pos = member-each (λ x. 0 < x) (sl .span) spans (omega arith) (legal .span)
+
+  pub agrees-inside : agrees sl address ≡ true → Inside sl address
+  unfolding agrees
+  agrees-inside e =
+      let same : address / sl .span * sl .span ≡ sl .base / sl .span * sl .span
+      = ap (λ (x : ℕ). x * sl .span) (eqb-true (address / sl .span) (sl .base / sl .span) e) in
+      let whole = div-add-mod' (sl .base) (sl .span) in
+      let parts = div-add-mod' address (sl .span) in
+      let rest = mod-lt address span-pos in
+      let exact = legal .aligned in
+      record { low = omega arith; high = omega arith }
+
+  pub inside-agrees : Inside sl address → agrees sl address ≡ true
+  unfolding agrees
+  inside-agrees i =
+      let whole = div-add-mod' (sl .base) (sl .span) in
+      let exact = legal .aligned in
+      eq-eqb (address / sl .span) (sl .base / sl .span) (div-eq-of-lt-le (sl .span) (omega arith) (omega arith))
+
+-- master m is connected to slave s, and the address is one of that slave
+pub record Selected (b : Board) (m address s : ℕ) : Type 0 where
+  pub within : s < b .«slave_count»
+  pub shares : 0 < sharesAt b m s
+  pub inside : Inside (slaveAt b s) address
+
+-- the accesses of a transfer with beats are some
+pub ratio-pos : (ma : Master) (sl : Slave) → LegalSlave sl → 1 ≤ ratio ma sl
+unfolding ratio
+ratio-pos ma sl legal = go (ltb (sl .width) (ma .width)) refl
+  where
+    go : (c : Bool) → ltb (sl .width) (ma .width) ≡ c → 1 ≤ cond c (ma .width / sl .width) 1
+    go true e =
+        let wider = ltb-true (sl .width) (ma .width) e in
+        le-div-iff-mul-le (member-each (λ x. 0 < x) (sl .width) widths (omega arith) (legal .width)) .1 (omega arith)
+    go false e = omega arith
+
+pub accesses-pos : (ma : Master) (sl : Slave) (t : Transfer) → LegalSlave sl → 1 ≤ t .beats → 1 ≤ accesses ma sl t
+unfolding accesses
+accesses-pos ma sl t legal h = mul-le-mul h (ratio-pos ma sl legal)
+
+pub target-first : (b : Board) (m address : ℕ)
+    → First (selects b m address) (b .«slave_count») (targetOf b m address)
+unfolding targetOf
+target-first b m address = first-is (selects b m address) (b .«slave_count»)
+
+module _ (b : Board) (legal : Legal b) where
+  -- no address lies in two spans
+  inside-below : (address s k : ℕ) → s < k → k < b .«slave_count» → Inside (slaveAt b s) address → Inside (slaveAt b k) address → ⊥
+  unfolding meets
+  inside-below address s k h hk i j =
+      let low = lt-ltb (slaveAt b k .base) (slaveAt b s .base + slaveAt b s .span) (omega arith) in
+      let high = lt-ltb (slaveAt b s .base) (slaveAt b k .base + slaveAt b k .span) (omega arith) in
+      true≢false (rw (low, high) at (legal .apart s k h hk))
+
+  pub inside-one : (address s k : ℕ) → s < b .«slave_count» → k < b .«slave_count» → Inside (slaveAt b s) address
+      → Inside (slaveAt b k) address → s ≡ k
+  inside-one address s k hs hk i j = go (ltb s k) refl (ltb k s) refl
+    where
+      go : (c : Bool) → ltb s k ≡ c → (d : Bool) → ltb k s ≡ d → s ≡ k
+      go true e d f = absurd (inside-below address s k (ltb-true s k e) hk i j)
+      go false e true f = absurd (inside-below address k s (ltb-true k s f) hs j i)
+      go false e false f = omega (arith, ltb-false s k e, ltb-false k s f)
+
+  pub selects-facts : (m address s : ℕ) → selects b m address s ≡ true → Selected b m address s
+  unfolding selects connected
+  selects-facts m address s e =
+      let pair = both-left (connected b m s) (agrees (slaveAt b s) address) e in
+      let within = ltb-true s (b .«slave_count») (both-left (ltb s (b .«slave_count»)) (ltb 0 (sharesAt b m s)) pair) in
+      record {
+        within = within;
+        shares = ltb-true 0 (sharesAt b m s) (both-right (ltb s (b .«slave_count»)) (ltb 0 (sharesAt b m s)) pair);
+        inside =
+            agrees-inside (slaveAt b s) address (legal .slave s within)
+            (both-right (connected b m s) (agrees (slaveAt b s) address) e);
+      }
+
+  pub selects-of : (m address s : ℕ) → Selected b m address s → selects b m address s ≡ true
+  unfolding selects connected
+  selects-of m address s f =
+      rw (lt-ltb s (b .«slave_count») (f .within), lt-ltb 0 (sharesAt b m s) (f .shares))
+      (inside-agrees (slaveAt b s) address (legal .slave s (f .within)) (f .inside))
+
+  -- so an address selects at most one slave, for whichever masters
+  pub selects-one : (m i address s k : ℕ) → selects b m address s ≡ true → selects b i address k ≡ true → s ≡ k
+  selects-one m i address s k e f =
+      let x = selects-facts m address s e in
+      let y = selects-facts i address k f in
+      inside-one address s k (x .within) (y .within) (x .inside) (y .inside)
+
+  pub selects-target : (m address s : ℕ) → selects b m address s ≡ true → targetOf b m address ≡ s
+  unfolding targetOf
+  selects-target m address s e =
+      first-only (selects b m address) (b .«slave_count») s (selects-facts m address s e .within) e
+      (λ k h f. selects-one m m address k s f e)
+
+-- a requester holds a transfer whose address selects the slave
+module _ (b : Board) (st : State) (s m : ℕ) where
+  pub requests-held : requests b st s m ≡ true → transferAt st m .held ≡ true
+  unfolding requests
+  requests-held e = both-left (transferAt st m .held) (selects b m (transferAt st m .address) s) e
+
+  pub requests-selects : requests b st s m ≡ true → selects b m (transferAt st m .address) s ≡ true
+  unfolding requests
+  requests-selects e = both-right (transferAt st m .held) (selects b m (transferAt st m .address) s) e
+
+  pub requests-of : transferAt st m .held ≡ true → selects b m (transferAt st m .address) s ≡ true → requests b st s m ≡ true
+  unfolding requests
+  requests-of h e = rw (h, e)
+
+  pub requests-not : transferAt st m .held ≡ false → requests b st s m ≡ false
+  unfolding requests
+  requests-not h = rw h
+
+  -- and requests that slave alone
+  pub requests-target : Legal b → requests b st s m ≡ true → targetOf b m (transferAt st m .address) ≡ s
+  requests-target legal e = selects-target b legal m (transferAt st m .address) s (requests-selects e)
+
+pub requests-one : (b : Board) (st : State) (m s k : ℕ) → Legal b → requests b st s m ≡ true → requests b st k m ≡ true → s ≡ k
+requests-one b st m s k legal e f =
+    selects-one b legal m m (transferAt st m .address) s k (requests-selects b st s m e) (requests-selects b st k m f)
+
+-- what is true of a transfer of master m that is not refused, at the slave s that it is for
+pub record Accepted (b : Board) (m : ℕ) (t : Transfer) (s : ℕ) : Type 0 where
+  pub some : 1 ≤ t .beats
+  pub few : t .beats ≤ masterAt b m .burst
+  pub aligned : t .address % masterAt b m .width ≡ 0
+  pub lanes : postLanes (masterAt b m .width) (t .lanes) (t .beats) ≡ true
+  pub target : targetOf b m (t .address) ≡ s
+  pub within : s < b .«slave_count»
+  pub selected : selects b m (t .address) s ≡ true
+  pub shares : 1 ≤ sharesAt b m s
+  pub low : slaveAt b s .base ≤ t .address
+  pub end : t .address + t .beats * masterAt b m .width ≤ slaveAt b s .base + slaveAt b s .span
+  pub accesses : 1 ≤ accesses (masterAt b m) (slaveAt b s) t
+
+module _ (b : Board) (legal : Legal b) (m : ℕ) (t : Transfer) (ok : transferRefusal b m t ≡ 0) where
+  -- it is for a slave
+  pub accepted : Accepted b m t (targetOf b m (t .address))
+  unfolding transferRefusal wrongBeats unaligned wrongLanes unmapped passesEnd
+  accepted =
+      let s = targetOf b m (t .address) in
+      let p = passed (wrongBeats (masterAt b m) t) 12 _ ok in
+      let q = passed (unaligned (masterAt b m) t) 13 _ (p .1) in
+      let r = passed (wrongLanes (masterAt b m) t) 14 _ (q .1) in
+      let u = passed (unmapped b m t) 15 _ (r .1) in
+      let v = passed (passesEnd (masterAt b m) (slaveAt b s) t) 16 _ (u .1) in
+      let f = target-first b m (t .address) in
+      let none = eqb-false s (b .«slave_count») (u .0) in
+      let within : s < b .«slave_count» = omega (arith, f .within) in
+      let x = selects-facts b legal m (t .address) s (f .found within) in
+      let zero-beats = eqb-false (t .beats) 0 (either-left (eqb (t .beats) 0) (ltb (masterAt b m .burst) (t .beats)) (p .0)) in
+      let some : 1 ≤ t .beats = omega arith in
+      record {
+        some = some;
+        few = ltb-false (masterAt b m .burst) (t .beats) (either-right (eqb (t .beats) 0) (ltb (masterAt b m .burst) (t .beats)) (p .0));
+        aligned = eqb-true (t .address % masterAt b m .width) 0 (not-false (eqb (t .address % masterAt b m .width) 0) (q .0));
+        lanes = not-false (postLanes (masterAt b m .width) (t .lanes) (t .beats)) (r .0);
+        target = refl;
+        within = within;
+        selected = f .found within;
+        shares = x .shares;
+        low = x .inside .low;
+        end = ltb-false (slaveAt b s .base + slaveAt b s .span) (t .address + t .beats * masterAt b m .width) (v .0);
+        accesses = accesses-pos (masterAt b m) (slaveAt b s) t (legal .slave s within) some;
+      }
+
+  -- and for each that it selects
+  pub accepted-at : (s : ℕ) → selects b m (t .address) s ≡ true → Accepted b m t s
+  accepted-at s e = rw (selects-target b legal m (t .address) s e) at accepted
