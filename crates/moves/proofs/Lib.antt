@@ -1,0 +1,4 @@
+pub mod MoveLaws
+pub mod Ranges
+pub mod PartLaws
+pub mod StoreLaws
