@@ -1,2 +1,3 @@
-pub mod Legal
 pub mod RuleLaws
+pub mod RunLaws
+pub mod Legal

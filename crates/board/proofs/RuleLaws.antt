@@ -1,10 +1,10 @@
 -- What the rules' tests say: bounds of the values in the lists, the first n slaves one by one, and what holds of a line
 -- that is not refused.
 -- Assumes nothing.
-use mathlib.Core.Path.{_≡_, refl, _∙_}
+use mathlib.Core.Path.{_≡_}
 use mathlib.Core.Bool.{Bool, true, false, not, _&&_, _||_}
-use mathlib.Core.List.{List, [], _∷_}
-use Prim.Native.Nat.{ℕ, _+_, _*_, _%_, _≤_, _<_}
+use mathlib.Core.List.{List}
+use Prim.Native.Nat.{ℕ, _+_, _%_, _≤_, _<_}
 use lib.Dec.{leb, ltb, eqb}
 use lib.ListN.{length, getD, drop, take}
 use borrow.Author.Tests.{eqb-true, eqb-false, leb-true, leb-false, ltb-false, not-false}
@@ -14,7 +14,8 @@ use Rattle.laws.proofs.Tests.{both, neither, passed}
 use Rattle.board.specs.declared.Slave.{Slave}
 use Rattle.board.specs.declared.Board.{Board}
 use Rattle.board.specs.Records.{noSlave, sharesAt, totalSpan}
-use Rattle.board.specs.Rules.{widths, bursts, spans, slaveValues, meets, overlaps, masterRefusal, slaveRefusal, shareRefusal}
+use Rattle.board.specs.Rules.{widths, bursts, spans, slaveValues, meets, overlaps}
+use Rattle.board.specs.Rules.{masterRefusal, slaveRefusal, shareRefusal}
 
 pub width-bound : (x : ℕ) → member x widths ≡ true → (1 ≤ x) × (x ≤ 8)
 width-bound x e = member-within 1 8 x widths tt e
@@ -38,7 +39,8 @@ module _ (slaves : List Slave) (n i : ℕ) where
     unfolding overlaps
     overlaps-next base span e = rw (drop-take-next slaves n i noSlave h fit, e)
 
-    pub total-next : totalSpan (drop i (take n slaves)) ≡ getD slaves i noSlave .span + totalSpan (drop (i + 1) (take n slaves))
+    pub total-next : totalSpan (drop i (take n slaves))
+        ≡ getD slaves i noSlave .span + totalSpan (drop (i + 1) (take n slaves))
     unfolding totalSpan
     total-next = rw (drop-take-next slaves n i noSlave h fit)
 
@@ -146,7 +148,8 @@ share-taken b m s shares e =
     let order = passed (eqb (b .«slave_count») 0) 1 _ e in
     let legal = passed (ltb shares 1 || ltb 100 shares) 2 _ (order .1) in
     let bounds = neither (ltb shares 1) _ (legal .0) in
-    let pair = passed (leb (b .«master_count») m || (leb (b .«slave_count») s || ltb 0 (sharesAt b m s))) 6 0 (legal .1) in
+    let pair = passed (leb (b .«master_count») m || (leb (b .«slave_count») s || ltb 0 (sharesAt b m s))) 6 0 (legal .1)
+    in
     let master = neither (leb (b .«master_count») m) _ (pair .0) in
     let slave = neither (leb (b .«slave_count») s) _ (master .1) in
     record {

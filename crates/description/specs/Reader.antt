@@ -17,15 +17,12 @@ use Rattle.description.specs.declared.Parsed.{Parsed}
 
 -- "The first field is one of three fixed words."
 abbrev pub masterWord : List ℕ
-unfolding bytesOf
 masterWord = bytesOf "master"
 
 abbrev pub slaveWord : List ℕ
-unfolding bytesOf
 slaveWord = bytesOf "slave"
 
 abbrev pub shareWord : List ℕ
-unfolding bytesOf
 shareWord = bytesOf "share"
 
 -- number i of a line

@@ -1,4 +1,4 @@
--- A fact about every number below n, from a test that antt computes: `each test n tt k h`, where `tt` makes antt run it.
+-- A fact about every number below n, from a test that antt computes: `each test n tt k h`, where `tt` has antt run it.
 -- Assumes nothing.
 use mathlib.Core.Path.{_≡_, refl, sym, subst}
 use mathlib.Core.Bool.{Bool, true, false, _&&_}

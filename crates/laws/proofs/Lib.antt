@@ -3,3 +3,4 @@ pub mod Finite
 pub mod ListLaws
 pub mod TableLaws
 pub mod Tests
+pub mod TextLists

@@ -1,0 +1,5 @@
+pub mod Pieces
+pub mod Values
+pub mod Decimal
+pub mod Puts
+pub mod Round
