@@ -72,13 +72,13 @@ above-lt n o h = ⊎-elim (λ a. omega arith) (λ a. omega arith) (above-cases n
 -- `between` without a difference
 between-cases : (cost : ℕ → ℕ) (n o m : ℕ) → o < n
     → ((o < m) × (between cost n o m + sum cost (suc o) ≡ sum cost m))
-      ⊎ ((m ≤ o) × (between cost n o m + sum cost (suc o) ≡ sum cost n + sum cost m))
+    ⊎ ((m ≤ o) × (between cost n o m + sum cost (suc o) ≡ sum cost n + sum cost m))
 unfolding between
 between-cases cost n o m h = go (ltb o m) refl
   where
     go : (b : Bool) → ltb o m ≡ b
         → let x = cond b (sum cost m - sum cost (suc o)) ((sum cost n + sum cost m) - sum cost (suc o)) in
-          ((o < m) × (x + sum cost (suc o) ≡ sum cost m)) ⊎ ((m ≤ o) × (x + sum cost (suc o) ≡ sum cost n + sum cost m))
+        ((o < m) × (x + sum cost (suc o) ≡ sum cost m)) ⊎ ((m ≤ o) × (x + sum cost (suc o) ≡ sum cost n + sum cost m))
     go true e = let l = ltb-true o m e in inl (l, omega (arith, sum-le cost (suc o) m l))
     go false e = inr (ltb-false o m e, omega (arith, sum-le cost (suc o) n h))
 
@@ -94,6 +94,7 @@ module _ (cost : ℕ → ℕ) (n o m : ℕ) (ho : o < n) (hm : m < n) where
       cases : ((o < m) × (between cost n o m + sum cost (suc o) ≡ sum cost m))
           ⊎ ((m ≤ o) × (between cost n o m + sum cost (suc o) ≡ sum cost n + sum cost m))
       cases = between-cases cost n o m ho
+
       round : suc o ≡ n → m ≡ 0 → (m ≤ o) × (between cost n o m + sum cost (suc o) ≡ sum cost n + sum cost m)
           → between cost n o m ≡ 0
       round p q b = omega (arith, ap (sum cost) p, ap (sum cost) q, sum-zero cost)
@@ -114,8 +115,8 @@ module _ (cost : ℕ → ℕ) (n o m : ℕ) (ho : o < n) (hm : m < n) where
       ⊎-elim
       (λ a. omega arith)
       (λ a.
-        ⊎-elim (λ b. omega (arith, ap (sum cost) h, sum-suc cost 0, sum-zero cost)) (λ b. omega arith)
-        (between-cases cost n 0 m (omega arith)))
+      ⊎-elim (λ b. omega (arith, ap (sum cost) h, sum-suc cost 0, sum-zero cost)) (λ b. omega arith)
+      (between-cases cost n 0 m (omega arith)))
       (between-cases cost n o m ho)
 
   -- or the next one does, and what lies between that one and m
@@ -169,11 +170,12 @@ within-step n k o m ho hm e w =
     ⊎-elim
     (λ a. rw (a .1) (⊎-elim (λ b. low (λ q. e (a .1 ∙ q)) b) (λ b. inr (omega arith, omega arith)) w))
     (λ a.
-      rw (a .1) (⊎-elim (λ b. inr (omega arith, omega arith)) (λ b. round (λ q. e (a .1 ∙ q)) (omega arith) b) w))
+    rw (a .1) (⊎-elim (λ b. inr (omega arith, omega arith)) (λ b. round (λ q. e (a .1 ∙ q)) (omega arith) b) w))
     (above-cases n o)
   where
     low : suc o ≢ m → (o < m) × (m ≤ o + suc k) → Within n k (suc o) m
     low d b = inl (omega arith, omega arith)
+
     round : 0 ≢ m → suc o ≡ n → (m ≤ o) × (m + n ≤ o + suc k) → Within n k 0 m
     round d p b = inl (omega arith, omega arith)
 
@@ -199,7 +201,7 @@ module _ (requests : ℕ → Bool) (cost : ℕ → ℕ) (n m : ℕ) (hm : m < n)
         low = above-lt n o ho;
         skipped = 0;
         none = λ f. refl;
-        place = inl (q, between-next cost n o m ho hm q)
+        place = inl (q, between-next cost n o m ho hm q);
       }
   here k o ho e (no q) =
       record {
@@ -209,7 +211,7 @@ module _ (requests : ℕ → Bool) (cost : ℕ → ℕ) (n m : ℕ) (hm : m < n)
         low = above-lt n o ho;
         skipped = 0;
         none = λ f. refl;
-        place = inr (q, omega (arith, between-step cost n o m ho hm q))
+        place = inr (q, omega (arith, between-step cost n o m ho hm q));
       }
 
   later : (k o : ℕ) → o < n → requests (above n o) ≡ false → above n o ≢ m
@@ -224,10 +226,10 @@ module _ (requests : ℕ → Bool) (cost : ℕ → ℕ) (n m : ℕ) (hm : m < n)
         skipped = cost (above n o) + c .skipped;
         none = λ f. omega (arith, c .none f, f (above n o) (above-lt n o ho) e);
         place =
-          ⊎-elim
-          (λ a. inl (a .0, omega (arith, between-step cost n o m ho hm q)))
-          (λ a. inr (a .0, omega (arith, between-step cost n o m ho hm q)))
-          (c .place)
+            ⊎-elim
+            (λ a. inl (a .0, omega (arith, between-step cost n o m ho hm q)))
+            (λ a. inr (a .0, omega (arith, between-step cost n o m ho hm q)))
+            (c .place);
       }
 
   found : (k o : ℕ) → o < n → Within n k o m → Found requests cost n o m (tried requests n (above n o) k)

@@ -49,19 +49,22 @@ grant-next n requests shares beats o r j k e = go (requests o) (ltb 0 r) refl re
     fresh : (x : Choice) → chosen requests n o ≡ x → (r ≡ 0) ⊎ (requests o ≡ false) → grantTo shares beats x ≡ Granted j k
         → (p : ℕ) × (k ≡ kept (beats j) p) × Next requests shares o r (chosen requests n o) j p
     fresh (Requester i) c h f =
-        let q = granted-master i j _ k f in
-        (shares j - 1,
-        sym (granted-left i j _ k f) ∙ ap (λ (z : ℕ). kept (beats z) (shares z - 1)) q,
-        record { how = inr (c ∙ ap Requester q, refl, h) })
+        let q = granted-master i j _ k f in (
+          shares j - 1,
+          sym (granted-left i j _ k f) ∙ ap (λ (z : ℕ). kept (beats z) (shares z - 1)) q,
+          record { how = inr (c ∙ ap Requester q, refl, h) },
+        )
     fresh Nobody c h f = absurd (granted-apart j k (sym f))
+
     go : (b c : Bool) → requests o ≡ b → ltb 0 r ≡ c
         → cond (b && c) (Granted o (kept (beats o) (r - 1))) (grantTo shares beats (chosen requests n o)) ≡ Granted j k
         → (p : ℕ) × (k ≡ kept (beats j) p) × Next requests shares o r (chosen requests n o) j p
     go true true q c f =
-        let i = granted-master o j _ k f in
-        (r - 1,
-        sym (granted-left o j _ k f) ∙ ap (λ (z : ℕ). kept (beats z) (r - 1)) i,
-        record { how = inl (sym i, q, omega (arith, ltb-true 0 r c)) })
+        let i = granted-master o j _ k f in (
+          r - 1,
+          sym (granted-left o j _ k f) ∙ ap (λ (z : ℕ). kept (beats z) (r - 1)) i,
+          record { how = inl (sym i, q, omega (arith, ltb-true 0 r c)) },
+        )
     go true false q c f = fresh (chosen requests n o) refl (inl (omega (arith, ltb-false 0 r c))) f
     go false c q d f = fresh (chosen requests n o) refl (inr q) f
 
@@ -92,9 +95,13 @@ module _ (n : ℕ) (shares single serve : ℕ → ℕ)
     where
       go : Dec (o ≡ m) → pot m o r left ≤ quoted m
       go (yes q) =
-          omega
-          (arith, a q, credit-zero (single o) (serve o) r (a q .0), quoted-between m hm,
-          ap (λ (z : ℕ). between turn n z m) q)
+          omega (
+            arith,
+            a q,
+            credit-zero (single o) (serve o) r (a q .0),
+            quoted-between m hm,
+            ap (λ (z : ℕ). between turn n z m) q,
+          )
       go (no q) = omega (arith, quoted-between m hm, between-owner turn n o m ho hm q)
 
   -- what is asked of the slave, and how long each request lasts
@@ -110,8 +117,10 @@ module _ (n : ℕ) (shares single serve : ℕ → ℕ)
       where
         f : Found requests turn n o m (chosen requests n o)
         f = chosen-found requests turn n m hm q o ho
+
         fresh : (x : Choice) → x ≡ Requester (f .master) → grantTo shares beats x ≢ Silent
         fresh x i d = granted-apart _ _ (ap (grantTo shares beats) (sym i) ∙ d)
+
         go : (b : Bool) → cond b (Granted o (kept (beats o) (r - 1))) (grantTo shares beats (chosen requests n o)) ≢ Silent
         go true d = granted-apart _ _ d
         go false d = fresh (chosen requests n o) (f .is) d
@@ -145,11 +154,11 @@ module _ (n : ℕ) (shares single serve : ℕ → ℕ)
           let a = asks j (grant-asks .0) (grant-asks .1) in
           ⊎-elim
           (λ h.
-            let b : suc (next .0) ≤ shares j = ⊎-elim (λ z. absurd (omega (arith, h .2))) (λ z. omega (arith, h .2, ap shares (h .0))) l in
-            omega (arith, grant-spend, credit-le (single j) (serve j) (suc (next .0)) (shares j) b))
+          let b : suc (next .0) ≤ shares j = ⊎-elim (λ z. absurd (omega (arith, h .2))) (λ z. omega (arith, h .2, ap shares (h .0))) l in
+          omega (arith, grant-spend, credit-le (single j) (serve j) (suc (next .0)) (shares j) b))
           (λ h.
-            let b : suc (next .0) ≡ shares j = omega (arith, h .1) in
-            omega (arith, grant-spend, ap (afford j) b))
+          let b : suc (next .0) ≡ shares j = omega (arith, h .1) in
+          omega (arith, grant-spend, ap (afford j) b))
           (next .2 .how)
 
       pub grant-remains : (r ≡ 0) ⊎ (r < shares o) → (k ≡ 0) ⊎ (k < shares j)
@@ -167,15 +176,19 @@ module _ (n : ℕ) (shares single serve : ℕ → ℕ)
       grant-falls d a =
           ⊎-elim
           (λ h.
-            omega
-            (arith, grant-spend, ap (λ (z : ℕ). between turn n z m) (h .0), ap (λ (z : ℕ). afford z (suc (next .0))) (h .0),
-            ap (afford o) (h .2)))
+          omega (
+            arith,
+            grant-spend,
+            ap (λ (z : ℕ). between turn n z m) (h .0),
+            ap (λ (z : ℕ). afford z (suc (next .0))) (h .0),
+            ap (afford o) (h .2),
+          ))
           (λ h. fresh h (f .place))
           (next .2 .how)
         where
           fresh : (chosen requests n o ≡ Requester j) × (next .0 ≡ shares j - 1) × ((r ≡ 0) ⊎ (requests o ≡ false))
               → ((f .master ≡ m) × (between turn n o m ≡ f .skipped))
-                ⊎ ((f .master ≢ m) × (f .skipped + turn (f .master) + between turn n (f .master) m ≡ between turn n o m))
+              ⊎ ((f .master ≢ m) × (f .skipped + turn (f .master) + between turn n (f .master) m ≡ between turn n o m))
               → long j + afford j k + between turn n j m ≤ afford o r + between turn n o m
           fresh h (inl c) = absurd (d (sym (fresh-master (h .0)) ∙ c .0))
           fresh h (inr c) =
@@ -208,33 +221,44 @@ module _ (n : ℕ) (shares single serve : ℕ → ℕ)
         grant-equal d l =
             ⊎-elim
             (λ h.
-              omega
-              (arith, grant-exact, ap (λ (z : ℕ). between turn n z m) (h .0), ap (λ (z : ℕ). afford z (suc (next .0))) (h .0),
-              ap (afford o) (h .2)))
+            omega (
+              arith,
+              grant-exact,
+              ap (λ (z : ℕ). between turn n z m) (h .0),
+              ap (λ (z : ℕ). afford z (suc (next .0))) (h .0),
+              ap (afford o) (h .2),
+            ))
             (λ h. fresh h (f .place))
             (next .2 .how)
           where
             fresh : (chosen requests n o ≡ Requester j) × (next .0 ≡ shares j - 1) × ((r ≡ 0) ⊎ (requests o ≡ false))
                 → ((f .master ≡ m) × (between turn n o m ≡ f .skipped))
-                  ⊎ ((f .master ≢ m) × (f .skipped + turn (f .master) + between turn n (f .master) m ≡ between turn n o m))
+                ⊎ ((f .master ≢ m) × (f .skipped + turn (f .master) + between turn n (f .master) m ≡ between turn n o m))
                 → long j + afford j k + between turn n j m ≡ afford o r + between turn n o m
             fresh h (inl c) = absurd (d (sym (fresh-master (h .0)) ∙ c .0))
             fresh h (inr c) =
                 let e = fresh-master (h .0) in
                 let s = asks j (grant-asks .0) (grant-asks .1) .0 in
                 let b : suc (next .0) ≡ shares j = omega (arith, h .1) in
-                omega
-                (arith, grant-exact, no-skip, c .1, ap turn e, ap (λ (z : ℕ). between turn n z m) e, ap (afford j) b,
-                credit-zero (single o) (serve o) r (no-grants l (h .2)))
+                omega (
+                  arith,
+                  grant-exact,
+                  no-skip,
+                  c .1,
+                  ap turn e,
+                  ap (λ (z : ℕ). between turn n z m) e,
+                  ap (afford j) b,
+                  credit-zero (single o) (serve o) r (no-grants l (h .2)),
+                )
 
       -- with nothing left to wait for, m is the one
       pub grant-last : afford o r + between turn n o m ≡ 0 → j ≡ m
       grant-last z =
           ⊎-elim
           (λ h.
-            absurd
-            (let e = some-credit o ho (ap requests (sym (h .0)) ∙ grant-asks .1) (suc (next .0)) (omega arith) in
-            omega (arith, e, ap (afford o) (h .2))))
+          absurd
+          (let e = some-credit o ho (ap requests (sym (h .0)) ∙ grant-asks .1) (suc (next .0)) (omega arith) in
+          omega (arith, e, ap (afford o) (h .2))))
           (λ h. fresh h (f .place))
           (next .2 .how)
         where
@@ -242,9 +266,10 @@ module _ (n : ℕ) (shares single serve : ℕ → ℕ)
           some-credit i h q p l =
               let a = sizes i h (asks i h q .0) in
               credit-some (single i) (serve i) p (omega arith) l
+
           fresh : (chosen requests n o ≡ Requester j) × (next .0 ≡ shares j - 1) × ((r ≡ 0) ⊎ (requests o ≡ false))
               → ((f .master ≡ m) × (between turn n o m ≡ f .skipped))
-                ⊎ ((f .master ≢ m) × (f .skipped + turn (f .master) + between turn n (f .master) m ≡ between turn n o m))
+              ⊎ ((f .master ≢ m) × (f .skipped + turn (f .master) + between turn n (f .master) m ≡ between turn n o m))
               → j ≡ m
           fresh h (inl c) = sym (fresh-master (h .0)) ∙ c .0
           fresh h (inr c) =

@@ -86,11 +86,11 @@ module _ (ma : Master) (sl : Slave) (t : Transfer) (slot : Slot) (on : slot .ser
     where
       go : (b : Bool) → ltb (slot .waited) (waitOf sl t) ≡ b → (c : Bool) → ltb (slot .done + 1) (accesses ma sl t) ≡ c
           → Cycle ma sl t slot
-            (cond b
-            (record { slot = slotWaiting slot; line = lineOf ma sl t slot 1; finished = false })
-            (cond c
-            (record { slot = slotAccessed slot; line = lineOf ma sl t slot 2; finished = false })
-            (record { slot = slotFinished slot; line = lineOf ma sl t slot 2; finished = true })))
+          (cond b
+          (record { slot = slotWaiting slot; line = lineOf ma sl t slot 1; finished = false })
+          (cond c
+          (record { slot = slotAccessed slot; line = lineOf ma sl t slot 2; finished = false })
+          (record { slot = slotFinished slot; line = lineOf ma sl t slot 2; finished = true })))
       go true p c q =
           record {
             owner = refl;
@@ -99,32 +99,32 @@ module _ (ma : Master) (sl : Slave) (t : Transfer) (slot : Slot) (on : slot .ser
             some = some;
             shown = refl;
             line = refl;
-            ends = refl
+            ends = refl;
           }
       go false p true q =
           record {
             owner = refl;
             remaining = refl;
             left =
-              left-access (accesses ma sl t) (waitOf sl t) (slot .done) (slot .waited) more
-              (omega (arith, ltb-false (slot .waited) (waitOf sl t) p))
-              ∙ ap (λ (z : ℕ). z - 1) (sym was);
+                left-access (accesses ma sl t) (waitOf sl t) (slot .done) (slot .waited) more
+                (omega (arith, ltb-false (slot .waited) (waitOf sl t) p))
+                ∙ ap (λ (z : ℕ). z - 1) (sym was);
             some = some;
             shown = refl;
             line = refl;
-            ends = refl
+            ends = refl;
           }
       go false p false q =
           record {
             owner = refl;
             remaining = refl;
             left =
-              left-last (accesses ma sl t) (waitOf sl t) (slot .done) (slot .waited) more
-              (ltb-false (slot .done + 1) (accesses ma sl t) q)
-              (omega (arith, ltb-false (slot .waited) (waitOf sl t) p))
-              ∙ ap (λ (z : ℕ). z - 1) (sym was);
+                left-last (accesses ma sl t) (waitOf sl t) (slot .done) (slot .waited) more
+                (ltb-false (slot .done + 1) (accesses ma sl t) q)
+                (omega (arith, ltb-false (slot .waited) (waitOf sl t) p))
+                ∙ ap (λ (z : ℕ). z - 1) (sym was);
             some = some;
             shown = refl;
             line = refl;
-            ends = refl
+            ends = refl;
           }

@@ -21,7 +21,7 @@ use Rattle.history.specs.Claim.{Call, posts, clocks, numberOf, Handed, l
 abbrev pub withPost : World → Request → World
 withPost w q = record {
   state = stateWith (w .state) (q .master) (transferOf q);
-  store = record { memory = w .store .memory; buffer = posted (q .master) (q .words) (w .store .buffer) }
+  store = record { memory = w .store .memory; buffer = posted (q .master) (q .words) (w .store .buffer) };
 }
 
 -- what a clock that is taken leaves, and answers
@@ -33,7 +33,7 @@ answerOf b w = record {
   number = 0;
   state = stateAfter b (w .state);
   mask = maskOf b (w .state);
-  lines = linesOf b (w .state)
+  lines = linesOf b (w .state);
 }
 
 pub post-leaves : (b : Board) (w : World) (q : Request) → postRefusal b (w .state) (w .store .buffer) q ≡ 0

@@ -47,7 +47,7 @@ takes-grant b st s e = rw e
 
 pub step-serving : (b : Board) (st : State) (s : ℕ) → slotAfterGrant b st s .serving ≡ true
     → let slot = slotAfterGrant b st s in
-      stepOf b st s ≡ served (masterAt b (slot .owner)) (slaveAt b s) (transferAt st (slot .owner)) slot
+    stepOf b st s ≡ served (masterAt b (slot .owner)) (slaveAt b s) (transferAt st (slot .owner)) slot
 unfolding stepOf
 step-serving b st s e = rw e
 
@@ -103,11 +103,12 @@ module _ (b : Board) (legal : Legal b) (st : State) (sound : Sound b st) (s : �
   asks-fit j hj q =
       let a = asks-accepted j q in
       let w = width-bound (masterAt b j .width) (legal .master j hj .width) in
-      let f : beats j * masterAt b j .width ≤ slaveAt b s .span = omega (arith, a .low, a .end) in
-      (a .shares,
-      long-serve (masterAt b j) (slaveAt b s) (transferAt st j)
-      (beats-most (masterAt b j) (slaveAt b s) (beats j) (w .0) (a .few) f),
-      long-single (masterAt b j) (slaveAt b s) (transferAt st j))
+      let f : beats j * masterAt b j .width ≤ slaveAt b s .span = omega (arith, a .low, a .end) in (
+        a .shares,
+        long-serve (masterAt b j) (slaveAt b s) (transferAt st j)
+            (beats-most (masterAt b j) (slaveAt b s) (beats j) (w .0) (a .few) f),
+        long-single (masterAt b j) (slaveAt b s) (transferAt st j),
+      )
 
   abbrev owner : ℕ
   owner = slotAt st s .owner
@@ -131,7 +132,7 @@ module _ (b : Board) (legal : Legal b) (st : State) (sound : Sound b st) (s : �
 
   module _ (acting : now .serving ≡ true → Acting)
       (stays : now .serving ≡ true → stepOf b st s .slot .serving ≡ true
-        → transferAt (stateAfter b st) (now .owner) ≡ transferAt st (now .owner)) where
+      → transferAt (stateAfter b st) (now .owner) ≡ transferAt st (now .owner)) where
     after-slot : slotAt (stateAfter b st) s ≡ stepOf b st s .slot
     after-slot = slot-after b st s hs (legal .fewSlaves)
 
@@ -159,7 +160,7 @@ module _ (b : Board) (legal : Legal b) (st : State) (sound : Sound b st) (s : �
       where
         go : (c : Bool) → stepOf b st s .slot .serving ≡ c
             → leftOf (masterAt b (now .owner)) (slaveAt b s) (transferAt (stateAfter b st) (now .owner)) (stepOf b st s .slot)
-              ≡ leftOf (masterAt b (now .owner)) (slaveAt b s) (transferAt st (now .owner)) (stepOf b st s .slot)
+            ≡ leftOf (masterAt b (now .owner)) (slaveAt b s) (transferAt st (now .owner)) (stepOf b st s .slot)
         go true e =
             ap (λ (t : Transfer). leftOf (masterAt b (now .owner)) (slaveAt b s) t (stepOf b st s .slot)) (stays on e)
         go false e =
@@ -196,22 +197,23 @@ module _ (b : Board) (legal : Legal b) (st : State) (sound : Sound b st) (s : �
 
     pub rests-after : now .serving ≡ false → (slotAt (stateAfter b st) s .remaining ≡ 0) × (leftAt b (stateAfter b st) s ≡ 0)
     rests-after e =
-        let x : slotAt (stateAfter b st) s ≡ now = after-slot ∙ step-resting b st s e in
-        (ap (λ (y : Slot). y .remaining) x ∙ no-remaining e,
-        left-resting _ (slaveAt b s) _ (slotAt (stateAfter b st) s) (ap (λ (y : Slot). y .serving) x ∙ e))
+        let x : slotAt (stateAfter b st) s ≡ now = after-slot ∙ step-resting b st s e in (
+          ap (λ (y : Slot). y .remaining) x ∙ no-remaining e,
+          left-resting _ (slaveAt b s) _ (slotAt (stateAfter b st) s) (ap (λ (y : Slot). y .serving) x ∙ e),
+        )
 
     -- ---- within the owner's turn
 
     -- how the slave comes to serve: it did, or this clock grants it
     pub granted-now : slotAt st s .serving ≡ false → now .serving ≡ true
         → (j : ℕ) × (k : ℕ) × (grantAt b st s ≡ Granted j k)
-          × (now ≡ record { owner = j; remaining = k; serving = true; done = 0; waited = 0 })
+        × (now ≡ record { owner = j; remaining = k; serving = true; done = 0; waited = 0 })
     unfolding slotGranted
     granted-now off on = go (grantAt b st s) refl
       where
         go : (g : Grant) → grantAt b st s ≡ g
             → (j : ℕ) × (k : ℕ) × (grantAt b st s ≡ Granted j k)
-              × (now ≡ record { owner = j; remaining = k; serving = true; done = 0; waited = 0 })
+            × (now ≡ record { owner = j; remaining = k; serving = true; done = 0; waited = 0 })
         go (Granted j k) q = (j, k, q, takes-grant b st s off ∙ ap (slotGranted (slotAt st s)) q)
         go Silent q =
             absurd
@@ -235,8 +237,8 @@ module _ (b : Board) (legal : Legal b) (st : State) (sound : Sound b st) (s : �
         go true e =
             subst
             (λ (x : Slot).
-              InTurn b legal s hs (x .owner) (x .remaining)
-              (leftOf (masterAt b (x .owner)) (slaveAt b s) (transferAt st (x .owner)) x))
+            InTurn b legal s hs (x .owner) (x .remaining)
+            (leftOf (masterAt b (x .owner)) (slaveAt b s) (transferAt st (x .owner)) x))
             (sym (keeps-serving b st s e)) p
         go false e =
             let g = granted-now e on in
@@ -244,16 +246,17 @@ module _ (b : Board) (legal : Legal b) (st : State) (sound : Sound b st) (s : �
             let a = acting on in
             subst
             (λ (x : Slot).
-              InTurn b legal s hs (x .owner) (x .remaining)
-              (leftOf (masterAt b (x .owner)) (slaveAt b s) (transferAt st (x .owner)) x))
+            InTurn b legal s hs (x .owner) (x .remaining)
+            (leftOf (masterAt b (x .owner)) (slaveAt b s) (transferAt st (x .owner)) x))
             (sym (g .3))
-            (omega
-            (arith,
-            left-whole (masterAt b (g .0)) (slaveAt b s) (transferAt st (g .0))
-            (record { owner = g .0; remaining = g .1; serving = true; done = 0; waited = 0 }) refl refl refl,
-            grant-turn masters shares single serve (sizes b legal s hs) (requests b st s) beats long asks-fit (g .0) owner remaining
-            (subst (λ (i : ℕ). i < masters) o (a .low)) owner-low (ap (requests b st s) (sym o) ∙ a .asks) (g .0) (g .1) (g .2)
-            (sound .remaining s hs)))
+            (omega (
+              arith,
+              left-whole (masterAt b (g .0)) (slaveAt b s) (transferAt st (g .0))
+                  (record { owner = g .0; remaining = g .1; serving = true; done = 0; waited = 0 }) refl refl refl,
+              grant-turn masters shares single serve (sizes b legal s hs) (requests b st s) beats long asks-fit (g .0) owner remaining
+                  (subst (λ (i : ℕ). i < masters) o (a .low)) owner-low (ap (requests b st s) (sym o) ∙ a .asks) (g .0) (g .1) (g .2)
+                  (sound .remaining s hs),
+            ))
 
     pub pace-after : Paced b legal s hs st → Paced b legal s hs (stateAfter b st)
     unfolding InTurn
@@ -285,45 +288,49 @@ module _ (b : Board) (legal : Legal b) (st : State) (sound : Sound b st) (s : �
       pub nearer : (K : ℕ) → (slotAt st s .serving ≡ true → owner ≢ m)
           → ((owner ≡ m → remaining ≡ 0) → potAt b legal s hs m st ≤ K)
           → ((now .serving ≡ true) × (now .owner ≡ m))
-            ⊎ ((now .serving ≡ true) × (now .owner ≢ m) × (1 ≤ K) × (potAt b legal s hs m (stateAfter b st) ≤ K - 1))
+          ⊎ ((now .serving ≡ true) × (now .owner ≢ m) × (1 ≤ K) × (potAt b legal s hs m (stateAfter b st) ≤ K - 1))
       unfolding grantAt
       nearer K off bound = go (slotAt st s .serving) refl
         where
           falls : (on : now .serving ≡ true) → suc (leftNow - 1 + credit (single (now .owner)) (serve (now .owner)) (now .remaining)
-                + between (λ j. credit (single j) (serve j) (shares j)) masters (now .owner) m) ≤ K
+              + between (λ j. credit (single j) (serve j) (shares j)) masters (now .owner) m) ≤ K
               → (1 ≤ K) × (potAt b legal s hs m (stateAfter b st) ≤ K - 1)
-          falls on h =
-              (omega (arith, h),
-              subst₃
-              (λ (o r l : ℕ). pot masters shares single serve (sizes b legal s hs) m o r l ≤ K - 1)
-              (sym (owner-after on)) (sym (remaining-after on)) (sym (left-after on)) (omega (arith, h)))
+          falls on h = (
+            omega (arith, h),
+            subst₃
+                (λ (o r l : ℕ). pot masters shares single serve (sizes b legal s hs) m o r l ≤ K - 1)
+                (sym (owner-after on)) (sym (remaining-after on)) (sym (left-after on)) (omega (arith, h)),
+          )
+
           go : (c : Bool) → slotAt st s .serving ≡ c
               → ((now .serving ≡ true) × (now .owner ≡ m))
-                ⊎ ((now .serving ≡ true) × (now .owner ≢ m) × (1 ≤ K) × (potAt b legal s hs m (stateAfter b st) ≤ K - 1))
+              ⊎ ((now .serving ≡ true) × (now .owner ≢ m) × (1 ≤ K) × (potAt b legal s hs m (stateAfter b st) ≤ K - 1))
           go true e =
               let x = keeps-serving b st s e in
               let on : now .serving ≡ true = ap (λ (y : Slot). y .serving) x ∙ e in
               let d : now .owner ≢ m = λ q. off e (sym (ap (λ (y : Slot). y .owner) x) ∙ q) in
               let p = bound (λ q. absurd (off e q)) in
               let f =
-                  falls on
-                  (subst
-                  (λ (y : Slot).
-                    suc (leftOf (masterAt b (y .owner)) (slaveAt b s) (transferAt st (y .owner)) y - 1
-                    + credit (single (y .owner)) (serve (y .owner)) (y .remaining)
-                    + between (λ j. credit (single j) (serve j) (shares j)) masters (y .owner) m) ≤ K)
-                  (sym x)
-                  (omega
-                  (arith, p,
-                  subst
-                  (λ (y : Slot). 1 ≤ leftOf (masterAt b (y .owner)) (slaveAt b s) (transferAt st (y .owner)) y) x
-                  (acts on .some)))) in
+              falls on
+              (subst
+              (λ (y : Slot).
+              suc (leftOf (masterAt b (y .owner)) (slaveAt b s) (transferAt st (y .owner)) y - 1
+              + credit (single (y .owner)) (serve (y .owner)) (y .remaining)
+              + between (λ j. credit (single j) (serve j) (shares j)) masters (y .owner) m) ≤ K)
+              (sym x)
+              (omega (
+                arith,
+                p,
+                subst
+                    (λ (y : Slot). 1 ≤ leftOf (masterAt b (y .owner)) (slaveAt b s) (transferAt st (y .owner)) y) x
+                    (acts on .some),
+              ))) in
               inr (on, d, f .0, f .1)
           go false e = grants (grantAt b st s) refl
             where
               grants : (g : Grant) → grantAt b st s ≡ g
                   → ((now .serving ≡ true) × (now .owner ≡ m))
-                    ⊎ ((now .serving ≡ true) × (now .owner ≢ m) × (1 ≤ K) × (potAt b legal s hs m (stateAfter b st) ≤ K - 1))
+                  ⊎ ((now .serving ≡ true) × (now .owner ≢ m) × (1 ≤ K) × (potAt b legal s hs m (stateAfter b st) ≤ K - 1))
               grants Silent q =
                   absurd
                   (some-grant masters shares single serve (sizes b legal s hs) (requests b st s) beats long asks-fit m owner remaining
@@ -337,24 +344,24 @@ module _ (b : Board) (legal : Legal b) (st : State) (sound : Sound b st) (s : �
                       × (now ≡ record { owner = j; remaining = k; serving = true; done = 0; waited = 0 })
                       → Dec (now .owner ≡ m) → now .serving ≡ true
                       → ((now .serving ≡ true) × (now .owner ≡ m))
-                        ⊎ ((now .serving ≡ true) × (now .owner ≢ m) × (1 ≤ K) × (potAt b legal s hs m (stateAfter b st) ≤ K - 1))
+                      ⊎ ((now .serving ≡ true) × (now .owner ≢ m) × (1 ≤ K) × (potAt b legal s hs m (stateAfter b st) ≤ K - 1))
                   choose g (yes d) on = inl (on, d)
                   choose g (no d) on =
                       let i : now .owner ≡ g .0 = ap (λ (y : Slot). y .owner) (g .3) in
                       let r : now .remaining ≡ g .1 = ap (λ (y : Slot). y .remaining) (g .3) in
                       let d′ : g .0 ≢ m = λ z. d (i ∙ z) in
                       let h =
-                          grant-falls masters shares single serve (sizes b legal s hs) (requests b st s) beats long asks-fit m owner
-                          remaining hm owner-low waiting (g .0) (g .1) (g .2) d′ (put-aside (g .0) (g .1) (g .2) d′) in
+                      grant-falls masters shares single serve (sizes b legal s hs) (requests b st s) beats long asks-fit m owner
+                      remaining hm owner-low waiting (g .0) (g .1) (g .2) d′ (put-aside (g .0) (g .1) (g .2) d′) in
                       let p = bound (put-aside (g .0) (g .1) (g .2) d′) in
                       let z = left-resting (masterAt b owner) (slaveAt b s) (transferAt st owner) (slotAt st s) e in
                       let l = left-granted (g .0) (g .1) (g .3) in
                       let f =
-                          falls on
-                          (subst₃
-                          (λ (o r l : ℕ).
-                            suc (l - 1 + credit (single o) (serve o) r
-                            + between (λ j. credit (single j) (serve j) (shares j)) masters o m) ≤ K)
-                          (sym i) (sym r) (sym l)
-                          (omega (arith, h, p, z, l, acts on .some))) in
+                      falls on
+                      (subst₃
+                      (λ (o r l : ℕ).
+                      suc (l - 1 + credit (single o) (serve o) r
+                      + between (λ j. credit (single j) (serve j) (shares j)) masters o m) ≤ K)
+                      (sym i) (sym r) (sym l)
+                      (omega (arith, h, p, z, l, acts on .some))) in
                       inr (on, d, f .0, f .1)

@@ -1,0 +1,4 @@
+pub mod AccessLaws
+pub mod DecodeLaws
+pub mod LaneLaws
+pub mod LaneMeaning
