@@ -1,4 +1,4 @@
--- A fact about every number below n, from a test that antt computes: `each test n tt k h`, where `tt` has antt run it.
+-- A test that antt computes at every number below n, and the fact at one of them.
 -- Assumes nothing.
 use mathlib.Core.Path.{_≡_, refl, sym, subst}
 use mathlib.Core.Bool.{Bool, true, false, _&&_}
@@ -7,24 +7,28 @@ use Prim.Native.Nat.{ℕ, zero, suc, _<_}
 use native.Mathlib.Nat.{not-suc-le-zero, eq-or-lt-of-le, le-of-suc-le-suc}
 use lib.Dec.{T}
 
--- every number below n passes; an abbrev, so that it computes wherever it stands
-abbrev pub upto : (ℕ → Bool) → ℕ → Bool
-upto test zero = true
-upto test (suc n) = test n && upto test n
+-- every number below n passes the test; by computation
+abbrev pub upto : ℕ → (ℕ → Bool) → Bool
+upto zero f = true
+upto (suc n) f = f n && upto n f
 
-both : (a b : Bool) → T (a && b) → T a × T b
-both true b t = (tt, t)
-both false b t = absurd t
+left : (a b : Bool) → T (a && b) → T a
+left true b t = tt
+left false b t = t
 
--- so does each of them
-pub each : (test : ℕ → Bool) (n : ℕ) → T (upto test n) → (k : ℕ) → k < n → T (test k)
-each test zero t k h = absurd (not-suc-le-zero h)
-each test (suc n) t k h =
-    let parts = both (test n) (upto test n) t in
-    ⊎-elim (λ e. subst (λ (m : ℕ). T (test m)) (sym e) (parts .0)) (λ l. each test n (parts .1) k l)
+right : (a b : Bool) → T (a && b) → T b
+right true b t = t
+right false b t = absurd t
+
+-- so one of them does
+pub each : (f : ℕ → Bool) (n : ℕ) → T (upto n f) → (k : ℕ) → k < n → T (f k)
+each f zero t k h = absurd (not-suc-le-zero h)
+each f (suc n) t k h =
+    ⊎-elim (λ e. subst (λ (m : ℕ). T (f m)) (sym e) (left (f n) (upto n f) t))
+    (λ l. each f n (right (f n) (upto n f) t) k l)
     (eq-or-lt-of-le (le-of-suc-le-suc h))
 
--- both tests say the same
+-- two tests have one answer
 abbrev pub agree : Bool → Bool → Bool
 agree true b = b
 agree false true = false
