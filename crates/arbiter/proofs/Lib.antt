@@ -1,2 +1,3 @@
 pub mod ChoiceLaws
 pub mod GrantLaws
+pub mod OrderLaws

@@ -1,14 +1,14 @@
 -- Which slave a transfer is for: on an accepted board at most one, and what is true there of a transfer that post takes.
 -- Assumes nothing.
-use mathlib.Core.Path.{_≡_, refl, sym, ap, _∙_}
-use mathlib.Core.Bool.{Bool, true, false, cond, not, _&&_, _||_, true≢false}
-use mathlib.Core.Logic.{_≢_}
-use Prim.Native.Nat.{ℕ, suc, _+_, _*_, _/_, _%_, _≤_, _<_}
+use mathlib.Core.Path.{_≡_, refl, ap}
+use mathlib.Core.Bool.{Bool, true, false, cond, true≢false}
+use Prim.Native.Nat.{ℕ, _+_, _*_, _/_, _%_, _≤_, _<_}
 use native.Mathlib.Nat.{div-add-mod', mod-lt, div-eq-of-lt-le, le-div-iff-mul-le, mul-le-mul}
 use native.Mathlib.Omega.{arith}
 use lib.Dec.{ltb, eqb}
 use borrow.Author.Tests.{lt-ltb, ltb-true, ltb-false, eq-eqb, eqb-true, eqb-false, not-false}
-use Rattle.laws.proofs.TableLaws.{both-left, both-right, either-left, either-right, passed, member-each, First, first-is, first-only}
+use Rattle.laws.proofs.Tests.{both, neither, passed}
+use Rattle.laws.proofs.TableLaws.{member-each, First, first-is, first-only}
 use Rattle.board.specs.declared.Master.{Master}
 use Rattle.board.specs.declared.Slave.{Slave}
 use Rattle.board.specs.declared.Board.{Board}
@@ -79,7 +79,8 @@ target-first b m address = first-is (selects b m address) (b .«slave_count»)
 
 module _ (b : Board) (legal : Legal b) where
   -- no address lies in two spans
-  inside-below : (address s k : ℕ) → s < k → k < b .«slave_count» → Inside (slaveAt b s) address → Inside (slaveAt b k) address → ⊥
+  inside-below : (address s k : ℕ) → s < k → k < b .«slave_count» → Inside (slaveAt b s) address
+      → Inside (slaveAt b k) address → ⊥
   unfolding meets
   inside-below address s k h hk i j =
       let low = lt-ltb (slaveAt b k .base) (slaveAt b s .base + slaveAt b s .span) (omega arith) in
@@ -98,14 +99,13 @@ module _ (b : Board) (legal : Legal b) where
   pub selects-facts : (m address s : ℕ) → selects b m address s ≡ true → Selected b m address s
   unfolding selects connected
   selects-facts m address s e =
-      let pair = both-left (connected b m s) (agrees (slaveAt b s) address) e in
-      let within = ltb-true s (b .«slave_count») (both-left (ltb s (b .«slave_count»)) (ltb 0 (sharesAt b m s)) pair) in
+      let p = both (connected b m s) (agrees (slaveAt b s) address) e in
+      let q = both (ltb s (b .«slave_count»)) (ltb 0 (sharesAt b m s)) (p .0) in
+      let within = ltb-true s (b .«slave_count») (q .0) in
       record {
         within = within;
-        shares = ltb-true 0 (sharesAt b m s) (both-right (ltb s (b .«slave_count»)) (ltb 0 (sharesAt b m s)) pair);
-        inside =
-            agrees-inside (slaveAt b s) address (legal .slave s within)
-            (both-right (connected b m s) (agrees (slaveAt b s) address) e);
+        shares = ltb-true 0 (sharesAt b m s) (q .1);
+        inside = agrees-inside (slaveAt b s) address (legal .slave s within) (p .1);
       }
 
   pub selects-of : (m address s : ℕ) → Selected b m address s → selects b m address s ≡ true
@@ -131,11 +131,11 @@ module _ (b : Board) (legal : Legal b) where
 module _ (b : Board) (st : State) (s m : ℕ) where
   pub requests-held : requests b st s m ≡ true → transferAt st m .held ≡ true
   unfolding requests
-  requests-held e = both-left (transferAt st m .held) (selects b m (transferAt st m .address) s) e
+  requests-held e = both (transferAt st m .held) (selects b m (transferAt st m .address) s) e .0
 
   pub requests-selects : requests b st s m ≡ true → selects b m (transferAt st m .address) s ≡ true
   unfolding requests
-  requests-selects e = both-right (transferAt st m .held) (selects b m (transferAt st m .address) s) e
+  requests-selects e = both (transferAt st m .held) (selects b m (transferAt st m .address) s) e .1
 
   pub requests-of : transferAt st m .held ≡ true → selects b m (transferAt st m .address) s ≡ true → requests b st s m ≡ true
   unfolding requests
@@ -182,11 +182,12 @@ module _ (b : Board) (legal : Legal b) (m : ℕ) (t : Transfer) (ok : transferRe
       let none = eqb-false s (b .«slave_count») (u .0) in
       let within : s < b .«slave_count» = omega (arith, f .within) in
       let x = selects-facts b legal m (t .address) s (f .found within) in
-      let zero-beats = eqb-false (t .beats) 0 (either-left (eqb (t .beats) 0) (ltb (masterAt b m .burst) (t .beats)) (p .0)) in
+      let beats = neither (eqb (t .beats) 0) (ltb (masterAt b m .burst) (t .beats)) (p .0) in
+      let nothing = eqb-false (t .beats) 0 (beats .0) in
       let some : 1 ≤ t .beats = omega arith in
       record {
         some = some;
-        few = ltb-false (masterAt b m .burst) (t .beats) (either-right (eqb (t .beats) 0) (ltb (masterAt b m .burst) (t .beats)) (p .0));
+        few = ltb-false (masterAt b m .burst) (t .beats) (beats .1);
         aligned = eqb-true (t .address % masterAt b m .width) 0 (not-false (eqb (t .address % masterAt b m .width) 0) (q .0));
         lanes = not-false (postLanes (masterAt b m .width) (t .lanes) (t .beats)) (r .0);
         target = refl;

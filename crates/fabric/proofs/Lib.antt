@@ -1,4 +1,6 @@
 pub mod Sound
-pub mod CycleLaws
 pub mod StateLaws
 pub mod DecodeLaws
+pub mod StepLaws
+pub mod SoundLaws
+pub mod CycleLaws

@@ -1,24 +1,26 @@
--- Reading the state after a clock or a post, the slave lines and the mask.
+-- Reading the state after a reset, a post or a clock, the slave lines and the mask.
 -- Assumes nothing.
-use mathlib.Core.Path.{_≡_, refl, sym, ap, _∙_}
-use mathlib.Core.Bool.{Bool, true, false, cond, _&&_, true≢false}
+use mathlib.Core.Path.{_≡_, refl, sym, _∙_}
+use mathlib.Core.Bool.{Bool, true, false, false≢true, true≢false}
 use mathlib.Core.Logic.{_≢_}
-use Prim.Native.Nat.{ℕ, _≤_, _<_}
+use Prim.Native.Nat.{ℕ, _-_, _≤_, _<_}
 use native.Mathlib.Omega.{arith}
 use lib.Dec.{ltb, eqb}
 use lib.ListN.{length, getD, length-set}
 use lib.Seq.{getD-set-same, getD-set-other}
-use borrow.Author.Tests.{lt-ltb, le-ltb, ltb-true, ltb-false, eq-eqb, eqb-true, ne-eqb}
+use borrow.Author.Tests.{lt-ltb, le-ltb, ltb-true, ltb-false, eq-eqb, eqb-true}
 use Rattle.laws.specs.Bits.{bit}
-use Rattle.laws.specs.Lists.{table}
-use Rattle.laws.proofs.TableLaws.{length-table, getD-table, getD-table-past, both-left, both-right, some-at, some-here, bit-mask, bit-mask-past}
+use Rattle.laws.proofs.TableLaws.{length-table, getD-table, getD-table-past, getD-replicate-all}
+use Rattle.laws.proofs.Tests.{both}
+use Rattle.laws.proofs.TableLaws.{some-at, some-here, bit-mask, bit-mask-past}
 use Rattle.board.specs.declared.Board.{Board}
 use Rattle.geometry.specs.declared.Transfer.{Transfer}
 use Rattle.geometry.specs.Accesses.{noTransfer}
 use Rattle.fabric.specs.declared.State.{State}
 use Rattle.fabric.specs.Records.{noLine, noSlot, transferAt, slotAt}
-use Rattle.fabric.specs.Control.{stepOf, lineAfter, slotAfter, finishes, finished, maskOf, transferAfter, stateAfter, linesOf}
-use Rattle.fabric.specs.Calls.{stateWith}
+use Rattle.fabric.specs.Control.{stepOf, lineAfter, slotAfter, finishes, finished, maskOf, transferAfter}
+use Rattle.fabric.specs.Control.{stateAfter, linesOf}
+use Rattle.fabric.specs.Calls.{slotAtReset, stateAtReset, stateWith}
 
 module _ (b : Board) (st : State) where
   pub transfers-after : length (stateAfter b st .transfers) ≡ 8
@@ -71,12 +73,9 @@ module _ (b : Board) (st : State) where
       → (s : ℕ) × (s < b .«slave_count») × (stepOf b st s .finished ≡ true) × (stepOf b st s .line .owner ≡ m)
   unfolding finished finishes
   finished-by m e =
-      let r = some-at (finishes b st m) (b .«slave_count») e in (
-        r .0,
-        r .1,
-        both-left (stepOf b st (r .0) .finished) (eqb (stepOf b st (r .0) .line .owner) m) (r .2),
-        eqb-true (stepOf b st (r .0) .line .owner) m (both-right (stepOf b st (r .0) .finished) (eqb (stepOf b st (r .0) .line .owner) m) (r .2)),
-      )
+      let r = some-at (finishes b st m) (b .«slave_count») e in
+      let p = both (stepOf b st (r .0) .finished) (eqb (stepOf b st (r .0) .line .owner) m) (r .2) in
+      (r .0, r .1, p .0, eqb-true (stepOf b st (r .0) .line .owner) m (p .1))
 
   pub finished-here : (m s : ℕ) → s < b .«slave_count» → stepOf b st s .finished ≡ true → stepOf b st s .line .owner ≡ m
       → finished b st m ≡ true
@@ -105,6 +104,19 @@ module _ (b : Board) (st : State) where
   unfolding transferAfter
   transfer-kept m e = rw e
 
+  -- who holds a transfer after the clock held it before, and is not finished
+  pub held-after : (m : ℕ) → transferAt (stateAfter b st) m .held ≡ true
+      → (finished b st m ≡ false) × (transferAt (stateAfter b st) m ≡ transferAt st m)
+  held-after m q = go (ltb m 8) refl (finished b st m) refl
+    where
+      go : (c : Bool) → ltb m 8 ≡ c → (d : Bool) → finished b st m ≡ d
+          → (finished b st m ≡ false) × (transferAt (stateAfter b st) m ≡ transferAt st m)
+      go true h true f =
+          let gone = transfer-after m (ltb-true m 8 h) ∙ transfer-finished m f in
+          absurd (false≢true (rw gone at q))
+      go true h false f = (f, transfer-after m (ltb-true m 8 h) ∙ transfer-kept m f)
+      go false h d f = absurd (false≢true (rw (transfer-after-past m (ltb-false m 8 h)) at q))
+
 -- a post changes one transfer, and no slot
 module _ (st : State) (m : ℕ) (t : Transfer) where
   pub transfers-with : length (stateWith st m t .transfers) ≡ length (st .transfers)
@@ -126,3 +138,14 @@ module _ (st : State) (m : ℕ) (t : Transfer) where
   pub slot-with : (s : ℕ) → slotAt (stateWith st m t) s ≡ slotAt st s
   unfolding stateWith
   slot-with s = refl
+
+-- reset: no transfers, and every slave's last owner is the highest master
+pub transfer-reset : (b : Board) (m : ℕ) → transferAt (stateAtReset b) m ≡ noTransfer
+unfolding stateAtReset
+transfer-reset b m = getD-replicate-all 8 m noTransfer
+
+pub slot-reset : (b : Board) (s : ℕ) → s < b .«slave_count» → b .«slave_count» ≤ 16
+    → slotAt (stateAtReset b) s
+    ≡ record { owner = b .«master_count» - 1; remaining = 0; serving = false; done = 0; waited = 0 }
+unfolding stateAtReset slotAtReset
+slot-reset b s h l = getD-table (slotAtReset b) 16 noSlot s (omega arith) ∙ rw (lt-ltb s (b .«slave_count») h)

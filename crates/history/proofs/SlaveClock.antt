@@ -57,7 +57,7 @@ unfolding stepOf
 step-resting b st s e = rw e
 
 -- what is left of a transfer, with what the remaining grants may last, is within the owner's turn
-pub InTurn : (b : Board) (legal : Legal b) (s : ℕ) → s < b .«slave_count» → ℕ → ℕ → ℕ → Type 0
+unfoldable pub InTurn : (b : Board) (legal : Legal b) (s : ℕ) → s < b .«slave_count» → ℕ → ℕ → ℕ → Type 0
 InTurn b legal s hs o r left =
     left + credit (singleOf b legal s hs o) (serveOf b legal s hs o) r
     ≤ credit (singleOf b legal s hs o) (serveOf b legal s hs o) (sharesOf b legal s hs o)

@@ -2,20 +2,21 @@
 -- Assumes nothing.
 use mathlib.Core.Path.{_≡_, refl, sym, ap, _∙_}
 use mathlib.Core.Bool.{Bool, true, false, cond, _&&_, _||_, false≢true, true≢false}
-use mathlib.Core.List.{List, [], _∷_, _++_}
-use Prim.Native.Nat.{ℕ, zero, suc, _+_, _-_, _*_, _/_, _%_, _^_, _≤_, _<_}
+use mathlib.Core.List.{List, [], _∷_}
+use Prim.Native.Nat.{ℕ, zero, suc, _+_, _-_, _*_, _^_, _≤_, _<_}
 use native.Mathlib.Nat.{zero-add, add-zero, pow-suc, add-mul-div-right, add-mul-mod-self-right}
 use native.Mathlib.Numerals.{add-one}
 use native.Mathlib.Decide.{ℕ-discrete}
 use native.Mathlib.Omega.{arith}
 use lib.Dec.{ltb, eqb}
-use lib.ListN.{length, getD, length-append, List·getD-append, List·getD-eq-default}
+use lib.ListN.{length, getD, replicate, length-append, List·getD-append, List·getD-eq-default}
 use lib.Seq.{getD-at}
 use borrow.Author.Tests.{ltb-true, ltb-false, eqb-true}
 use lib.Pow.{pow-pos, pow-add, high}
 use Rattle.laws.specs.Bits.{bit}
 use Rattle.laws.specs.Lists.{member, gather, table, sum, every, some, firstFrom, first}
 use Rattle.laws.proofs.BitLaws.{bit-above}
+use Rattle.laws.proofs.Tests.{both, neither}
 
 -- i is below n + 1: below n, or n itself
 pub below-suc : {P : ℕ → Type 0} (n : ℕ) → ((i : ℕ) → i < n → P i) → P n → (i : ℕ) → i < suc n → P i
@@ -43,27 +44,10 @@ module _ {X : Type 0} (f : ℕ → X) where
   pub getD-table-past : (n : ℕ) (d : X) (i : ℕ) → n ≤ i → getD (table f n) i d ≡ d
   getD-table-past n d i h = List·getD-eq-default (table f n) d (rw (length-table n) h)
 
--- both of two tests, one of two
-pub both-left : (a b : Bool) → (a && b) ≡ true → a ≡ true
-both-left true b e = refl
-both-left false b e = e
-
-pub both-right : (a b : Bool) → (a && b) ≡ true → b ≡ true
-both-right true b e = e
-both-right false b e = absurd (false≢true e)
-
-pub either-left : (a b : Bool) → (a || b) ≡ false → a ≡ false
-either-left true b e = e
-either-left false b e = refl
-
-pub either-right : (a b : Bool) → (a || b) ≡ false → b ≡ false
-either-right true b e = absurd (true≢false e)
-either-right false b e = e
-
--- a refusal that is 0 has passed its first test
-pub passed : (c : Bool) (n x : ℕ) → cond c (suc n) x ≡ 0 → (c ≡ false) × (x ≡ 0)
-passed true n x e = absurd (omega arith)
-passed false n x e = (refl, e)
+pub getD-replicate-all : {X : Type 0} (n i : ℕ) (a : X) → getD (replicate n a) i a ≡ a
+getD-replicate-all zero i a = refl
+getD-replicate-all (suc n) zero a = refl
+getD-replicate-all (suc n) (suc i) a = getD-replicate-all n i a
 
 -- what is true of each number of a list is true of its members
 abbrev pub Each : (ℕ → Type 0) → List ℕ → Type 0
@@ -84,7 +68,8 @@ module _ (test : ℕ → Bool) where
   unfolding every
   every-at zero e i h = absurd (omega arith)
   every-at (suc n) e i h =
-      below-suc n (every-at n (both-left (every test n) (test n) e)) (both-right (every test n) (test n) e) i h
+      let p = both (every test n) (test n) e in
+      below-suc n (every-at n (p .0)) (p .1) i h
 
   pub every-all : (n : ℕ) → ((i : ℕ) → i < n → test i ≡ true) → every test n ≡ true
   unfolding every
@@ -105,7 +90,8 @@ module _ (test : ℕ → Bool) where
   unfolding some
   none-at zero e i h = absurd (omega arith)
   none-at (suc n) e i h =
-      below-suc n (none-at n (either-left (some test n) (test n) e)) (either-right (some test n) (test n) e) i h
+      let p = neither (some test n) (test n) e in
+      below-suc n (none-at n (p .0)) (p .1) i h
 
   pub none-all : (n : ℕ) → ((i : ℕ) → i < n → test i ≡ false) → some test n ≡ false
   unfolding some
@@ -146,7 +132,9 @@ module _ (test : ℕ → Bool) (n : ℕ) where
     where
       go : (c : Bool) → ltb r (first test n) ≡ c → first test n ≡ r
       go true q = absurd (true≢false (sym e ∙ first-is .before r (ltb-true _ _ q)))
-      go false q = let l : first test n < n = omega (arith, ltb-false r (first test n) q) in f (first test n) l (first-is .found l)
+      go false q =
+          let l : first test n < n = omega (arith, ltb-false r (first test n) q) in
+          f (first test n) l (first-is .found l)
 
 -- a power of two added to a smaller number is its bit there, and leaves the bits below
 bit-added : (x n : ℕ) → x < 2 ^ n → (c : Bool) → bit (x + cond c (2 ^ n) 0) n ≡ c
@@ -179,7 +167,11 @@ module _ (test : ℕ → Bool) where
   pub bit-mask : (n m : ℕ) → m < n → bit (mask test n) m ≡ test m
   unfolding sum
   bit-mask zero m h = absurd (omega arith)
-  bit-mask (suc n) m h = below-suc n (λ i l. go i l (test n) ∙ bit-mask n i l) (bit-added (mask test n) n (mask-lt n) (test n)) m h
+  bit-mask (suc n) m h =
+      below-suc n
+      (λ i l. go i l (test n) ∙ bit-mask n i l)
+      (bit-added (mask test n) n (mask-lt n) (test n))
+      m h
     where
       go : (i : ℕ) → i < n → (c : Bool) → bit (mask test n + cond c (2 ^ n) 0) i ≡ bit (mask test n) i
       go i l true =

@@ -1,0 +1,236 @@
+-- What stands after every call of a history: a sound state, each slave within its owner's turn, memory and buffer of their lengths.
+-- Assumes nothing.
+use mathlib.Core.Path.{_≡_, refl, sym, ap, subst, subst₃, _∙_}
+use mathlib.Core.Bool.{Bool, true, false, cond, not, _||_, true≢false, false≢true}
+use mathlib.Core.List.{List, [], _∷_}
+use mathlib.Core.Logic.{_⊎_, inl, inr, ⊎-elim, _≢_}
+use Prim.Native.Nat.{ℕ, zero, suc, _+_, _-_, _*_, _≤_, _<_}
+use native.Mathlib.Omega.{arith}
+use lib.Dec.{eqb, leb}
+use lib.ListN.{length}
+use borrow.Author.Tests.{eq-eqb, eqb-true, leb-false, not-false}
+use Rattle.laws.proofs.Tests.{neither, passed}
+use Rattle.board.specs.declared.Board.{Board}
+use Rattle.board.specs.Records.{masterAt, slaveAt, memoryLength, startOf}
+use Rattle.board.specs.Items.{checkBoard}
+use Rattle.board.proofs.Legal.{Legal}
+use Rattle.geometry.specs.declared.Transfer.{Transfer}
+use Rattle.moves.specs.Bytes.{Store, bufferLength, posted, accessed, written, fetched}
+use Rattle.moves.proofs.MoveLaws.{length-move}
+use Rattle.fabric.specs.declared.Slot.{Slot}
+use Rattle.fabric.specs.declared.State.{State}
+use Rattle.fabric.specs.declared.Step.{Step}
+use Rattle.fabric.specs.Records.{noSlot, transferAt, slotAt}
+use Rattle.geometry.specs.Decoding.{targetOf}
+use Rattle.fabric.specs.Posting.{Request, transferOf, wrongBeats, unaligned, wrongLanes, unmapped, passesEnd, transferRefusal}
+use Rattle.fabric.specs.Soundness.{requests, sound}
+use Rattle.fabric.specs.Control.{slotAfterGrant, stepOf, stateAfter}
+use Rattle.fabric.specs.Carrying.{carriesOut, carried, carriedBy, storeAfter}
+use Rattle.fabric.specs.Calls.{World, stateAtReset, reset, postRefusal, post, stateWith, clockRefusal, wrongWords}
+use Rattle.fabric.proofs.Sound.{Sound}
+use Rattle.fabric.proofs.CycleLaws.{leftOf, left-resting, cycle}
+use Rattle.fabric.proofs.StateLaws.{slot-with, transfer-with-other, slot-reset}
+use Rattle.fabric.proofs.DecodeLaws.{requests-held}
+use Rattle.fabric.proofs.SoundLaws.{sound-test, reset-sound, post-sound, clock-sound, grant-sound, served-kept}
+use Rattle.bounds.proofs.Credit.{credit, credit-zero}
+use Rattle.history.specs.Claim.{Call, Start, History, next, after}
+use Rattle.history.proofs.Pairs.{sharesOf, singleOf, serveOf}
+use Rattle.history.proofs.SlaveClock.{leftAt, InTurn, Paced, Acting, step-serving, pace-after}
+use Rattle.history.proofs.Calls.{withPost, withClock, Came, refused, postTaken, clockTaken, came}
+
+-- ---- lengths
+
+accessed-length : (b : Board) (st : State) (s : ℕ) (d : Store)
+    → (length (carried b st s d .memory) ≡ length (d .memory)) × (length (carried b st s d .buffer) ≡ length (d .buffer))
+unfolding carried accessed written fetched
+accessed-length b st s d = go (carriesOut b st s (slotAfterGrant b st s)) (transferAt st (slotAfterGrant b st s .owner) .write)
+  where
+    slot : Slot
+    slot = slotAfterGrant b st s
+    go : (c e : Bool)
+        → let x =
+            cond c
+            (cond e
+            (written (masterAt b (slot .owner)) (slaveAt b s) (transferAt st (slot .owner)) (slot .owner) (startOf b s) (slot .done) d)
+            (fetched (masterAt b (slot .owner)) (slaveAt b s) (transferAt st (slot .owner)) (slot .owner) (startOf b s) (slot .done) d))
+            d in
+          (length (x .memory) ≡ length (d .memory)) × (length (x .buffer) ≡ length (d .buffer))
+    go true true = (length-move _ _ _ _ _ _ (d .memory), refl)
+    go true false = (refl, length-move _ _ _ _ _ _ (d .buffer))
+    go false e = (refl, refl)
+
+carried-length : (b : Board) (st : State) (n : ℕ) (d : Store)
+    → (length (carriedBy b st n d .memory) ≡ length (d .memory)) × (length (carriedBy b st n d .buffer) ≡ length (d .buffer))
+unfolding carriedBy
+carried-length b st zero d = (refl, refl)
+carried-length b st (suc n) d =
+    let x = accessed-length b st n (carriedBy b st n d) in
+    let y = carried-length b st n d in
+    (x .0 ∙ y .0, x .1 ∙ y .1)
+
+-- ---- what stands
+
+pub record Standing (b : Board) (legal : Legal b) (w : World) : Type 0 where
+  pub sound : Sound b (w .state)
+  pub paced : (s : ℕ) (hs : s < b .«slave_count») → Paced b legal s hs (w .state)
+  pub memory : length (w .store .memory) ≡ memoryLength b
+  pub buffer : length (w .store .buffer) ≡ bufferLength
+
+-- what is true of a post that is taken
+pub record Taken (b : Board) (st : State) (q : Request) : Type 0 where
+  pub master : q .master < b .«master_count»
+  pub free : transferAt st (q .master) .held ≡ false
+  pub fits : transferRefusal b (q .master) (transferOf q) ≡ 0
+  pub words : wrongWords b q ≡ false
+
+own-number : (t : Bool) (n x : ℕ) → cond (not (eqb n 0)) n x ≡ 0 → (n ≡ 0) × (x ≡ 0)
+own-number t n x e = go (eqb n 0) refl e
+  where
+    go : (c : Bool) → eqb n 0 ≡ c → cond (not c) n x ≡ 0 → (n ≡ 0) × (x ≡ 0)
+    go true q f = (eqb-true n 0 q, f)
+    go false q f = absurd (false≢true (sym q ∙ eq-eqb n 0 f))
+
+pub post-taken : (b : Board) (st : State) (buffer : List ℕ) (q : Request) → postRefusal b st buffer q ≡ 0 → Taken b st q
+unfolding postRefusal
+post-taken b st buffer q e =
+    let p = own-number true (checkBoard b) _ e in
+    let r = passed (not (eqb (length buffer) bufferLength)) 7 _ (p .1) in
+    let u = passed (not (sound b st)) 8 _ (r .1) in
+    let v = passed (leb (b .«master_count») (q .master)) 10 _ (u .1) in
+    let x = passed (transferAt st (q .master) .held) 11 _ (v .1) in
+    let y = own-number true (transferRefusal b (q .master) (transferOf q)) _ (x .1) in
+    let z = passed (wrongWords b q) 17 0 (y .1) in
+    record { master = leb-false _ _ (v .0); free = x .0; fits = y .0; words = z .0 }
+
+-- taken, or refused with 11 or more
+abbrev Late : ℕ → Type 0
+Late n = (n ≡ 0) ⊎ (11 ≤ n)
+
+late : (c : Bool) (n x : ℕ) → Late n → Late x → Late (cond c n x)
+late true n x a b = a
+late false n x a b = b
+
+late-transfer : (b : Board) (m : ℕ) (t : Transfer) → Late (transferRefusal b m t)
+unfolding transferRefusal
+late-transfer b m t =
+    late (wrongBeats (masterAt b m) t) 13 _ (inr (omega arith))
+    (late (unaligned (masterAt b m) t) 14 _ (inr (omega arith))
+    (late (wrongLanes (masterAt b m) t) 15 _ (inr (omega arith))
+    (late (unmapped b m t) 16 _ (inr (omega arith))
+    (late (passesEnd (masterAt b m) (slaveAt b (targetOf b m (t .address))) t) 17 0 (inr (omega arith)) (inl refl)))))
+
+module _ (b : Board) (legal : Legal b) where
+  -- a post changes no slot, and no serving slave's owner
+  pub left-with : (st : State) → Sound b st → (m : ℕ) (t : Transfer) → transferAt st m .held ≡ false → (s : ℕ) → s < b .«slave_count»
+      → leftAt b (stateWith st m t) s ≡ leftAt b st s
+  left-with st x m t free s hs =
+      ap (λ (y : Slot). leftOf (masterAt b (y .owner)) (slaveAt b s) (transferAt (stateWith st m t) (y .owner)) y) (slot-with st m t s)
+      ∙ go (slotAt st s .serving) refl
+    where
+      go : (c : Bool) → slotAt st s .serving ≡ c
+          → leftOf (masterAt b (slotAt st s .owner)) (slaveAt b s) (transferAt (stateWith st m t) (slotAt st s .owner)) (slotAt st s)
+            ≡ leftAt b st s
+      go true e =
+          let held = requests-held b st s (slotAt st s .owner) (x .serving s hs e .asks) in
+          ap (λ (y : Transfer). leftOf (masterAt b (slotAt st s .owner)) (slaveAt b s) y (slotAt st s))
+          (transfer-with-other st m t (slotAt st s .owner)
+          (λ q. true≢false (sym held ∙ ap (λ (i : ℕ). transferAt st i .held) q ∙ free)))
+      go false e =
+          left-resting (masterAt b (slotAt st s .owner)) (slaveAt b s) _ (slotAt st s) e
+          ∙ sym (left-resting (masterAt b (slotAt st s .owner)) (slaveAt b s) _ (slotAt st s) e)
+
+  pub post-stands : (w : World) (q : Request) → Standing b legal w → Taken b (w .state) q → Standing b legal (withPost w q)
+  unfolding posted
+  post-stands w q x t = record {
+    sound = post-sound b (w .state) (q .master) (transferOf q) legal (x .sound) (t .master) (t .free) (t .fits) refl;
+    paced = λ s hs.
+      let e = slot-with (w .state) (q .master) (transferOf q) s in
+      subst₃ (InTurn b legal s hs) (sym (ap (λ (y : Slot). y .owner) e)) (sym (ap (λ (y : Slot). y .remaining) e))
+      (sym (left-with (w .state) (x .sound) (q .master) (transferOf q) (t .free) s hs)) (x .paced s hs);
+    memory = x .memory;
+    buffer = length-move _ _ _ _ _ _ (w .store .buffer) ∙ x .buffer
+  }
+
+  -- the facts of one clock that the theory of one slave asks for
+  pub acting : (st : State) (x : Sound b st) (s : ℕ) (hs : s < b .«slave_count») → slotAfterGrant b st s .serving ≡ true
+      → Acting b legal st x s hs
+  acting st x s hs on =
+      let g = grant-sound b st legal x s hs in
+      let v = g .serving on in
+      record { asks = v .asks; low = g .owner; done = v .done; waited = v .waited }
+
+  pub stays : (st : State) (x : Sound b st) (s : ℕ) (hs : s < b .«slave_count») → slotAfterGrant b st s .serving ≡ true
+      → stepOf b st s .slot .serving ≡ true
+      → transferAt (stateAfter b st) (slotAfterGrant b st s .owner) ≡ transferAt st (slotAfterGrant b st s .owner)
+  stays st x s hs on e =
+      let now = slotAfterGrant b st s in
+      let v = acting st x s hs on in
+      let y = step-serving b st s on in
+      let c = cycle (masterAt b (now .owner)) (slaveAt b s) (transferAt st (now .owner)) now on (v .done) (v .waited) in
+      served-kept b st legal x s hs on
+      (ap (λ (z : Step). z .finished) y ∙ c .ends ∙ ap not (sym (ap (λ (z : Step). z .slot .serving) y) ∙ e))
+
+  pub clock-stands : (w : World) → Standing b legal w → Standing b legal (withClock b w)
+  unfolding storeAfter
+  clock-stands w x = record {
+    sound = clock-sound b (w .state) legal (x .sound);
+    paced = λ s hs.
+      pace-after b legal (w .state) (x .sound) s hs (acting (w .state) (x .sound) s hs) (stays (w .state) (x .sound) s hs)
+      (x .paced s hs);
+    memory = carried-length b (w .state) (b .«slave_count») (w .store) .0 ∙ x .memory;
+    buffer = carried-length b (w .state) (b .«slave_count») (w .store) .1 ∙ x .buffer
+  }
+
+  -- ---- from the reset on
+
+  pub start-stands : (w : World) → Start b w → Standing b legal w
+  unfolding reset InTurn
+  start-stands w x = record {
+    sound = subst (Sound b) (sym first) (reset-sound b legal);
+    paced = λ s hs.
+      let e : slotAt (w .state) s ≡ _ = ap (λ (y : State). slotAt y s) first ∙ slot-reset b s hs (legal .fewSlaves) in
+      let o = slotAt (w .state) s .owner in
+      omega
+      (arith,
+      left-resting (masterAt b o) (slaveAt b s) (transferAt (w .state) o) (slotAt (w .state) s) (ap (λ (y : Slot). y .serving) e),
+      credit-zero (singleOf b legal s hs o) (serveOf b legal s hs o) (slotAt (w .state) s .remaining)
+      (ap (λ (y : Slot). y .remaining) e));
+    memory = x .memory;
+    buffer = x .buffer
+  }
+    where
+      first : w .state ≡ stateAtReset b
+      first = x .state ∙ rw (eq-eqb (checkBoard b) 0 (x .accepted))
+
+  pub next-stands : (w : World) (c : Call) → Standing b legal w → Came b w c → Standing b legal (next w c)
+  next-stands w c x (refused e f g) = subst (Standing b legal) (sym e) x
+  next-stands w c x (postTaken q t e f g) =
+      subst (Standing b legal) (sym e) (post-stands w q x (post-taken b (w .state) (w .store .buffer) q t))
+  next-stands w c x (clockTaken t e f g) = subst (Standing b legal) (sym e) (clock-stands w x)
+
+  pub history-stands : (cs : List Call) (w : World) → Standing b legal w → History b w cs → Standing b legal (after w cs)
+  unfolding History after
+  history-stands [] w x h = x
+  history-stands (c ∷ cs) w x h = history-stands cs (next w c) (next-stands w c x (came b w c (h .0))) (h .1)
+
+  -- ---- where this stands, nothing of 2 to 9 is refused
+
+  pub clock-free : checkBoard b ≡ 0 → (w : World) → Standing b legal w → clockRefusal b (w .state) (w .store) ≡ 0
+  unfolding clockRefusal
+  clock-free ok w x =
+      rw
+      (eq-eqb (checkBoard b) 0 ok, eq-eqb (length (w .store .memory)) (memoryLength b) (x .memory),
+      eq-eqb (length (w .store .buffer)) bufferLength (x .buffer), sound-test b (w .state) legal (x .sound))
+
+  -- a post is taken, or refused for its own part
+  pub post-free : checkBoard b ≡ 0 → (w : World) → Standing b legal w → (q : Request)
+      → (postRefusal b (w .state) (w .store .buffer) q ≡ 0) ⊎ (11 ≤ postRefusal b (w .state) (w .store .buffer) q)
+  unfolding postRefusal
+  post-free ok w x q =
+      rw
+      (eq-eqb (checkBoard b) 0 ok, eq-eqb (length (w .store .buffer)) bufferLength (x .buffer),
+      sound-test b (w .state) legal (x .sound))
+      (late (leb (b .«master_count») (q .master)) 11 _ (inr (omega arith))
+      (late (transferAt (w .state) (q .master) .held) 12 _ (inr (omega arith))
+      (late (not (eqb (transferRefusal b (q .master) (transferOf q)) 0)) _ _ (late-transfer b (q .master) (transferOf q))
+      (late (wrongWords b q) 18 0 (inr (omega arith)) (inl refl)))))
