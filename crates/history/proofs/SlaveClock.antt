@@ -221,7 +221,7 @@ module _ (b : Board) (legal : Legal b) (st : State) (sound : Sound b st) (s : �
             (sym on ∙ ap (λ (x : Slot). x .serving) (takes-grant b st s off ∙ ap (slotGranted (slotAt st s)) q)))
 
     -- at a grant all of the transfer is left
-    left-granted : (j k : ℕ) → now ≡ record { owner = j; remaining = k; serving = true; done = 0; waited = 0 } → leftNow ≡ long j
+    pub left-granted : (j k : ℕ) → now ≡ record { owner = j; remaining = k; serving = true; done = 0; waited = 0 } → leftNow ≡ long j
     left-granted j k e =
         ap (λ (x : Slot). leftOf (masterAt b (x .owner)) (slaveAt b s) (transferAt st (x .owner)) x) e
         ∙ left-whole (masterAt b j) (slaveAt b s) (transferAt st j) _ refl refl refl
