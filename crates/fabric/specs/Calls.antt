@@ -12,26 +12,17 @@ use Rattle.board.specs.Items.{checkBoard}
 use Rattle.geometry.specs.declared.Transfer.{Transfer}
 use Rattle.geometry.specs.Accesses.{noTransfer}
 use Rattle.moves.specs.Bytes.{Store, bufferLength, posted}
-use Rattle.fabric.specs.declared.Slot.{Slot}
-use Rattle.fabric.specs.declared.State.{State}
+use Rattle.state.specs.declared.Slot.{Slot}
+use Rattle.state.specs.declared.State.{State}
 use Rattle.fabric.specs.declared.Started.{Started}
 use Rattle.fabric.specs.declared.Posted.{Posted}
 use Rattle.fabric.specs.declared.Clocked.{Clocked}
-use Rattle.fabric.specs.Records.{noSlot, noLine, noState, transferAt}
-use Rattle.fabric.specs.Posting.{Request, transferOf, transferRefusal}
-use Rattle.fabric.specs.Soundness.{sound}
-use Rattle.fabric.specs.Control.{stateAfter, maskOf, linesOf}
-use Rattle.fabric.specs.Carrying.{storeAfter}
-
--- "Reset: no transfers, last owner the highest master, all else in the state 0"
-unfoldable pub slotAtReset : Board → ℕ → Slot
-slotAtReset b s =
-    cond (ltb s (b .«slave_count»))
-    (record { owner = b .«master_count» - 1; remaining = 0; serving = Bool.false; done = 0; waited = 0 })
-    noSlot
-
-unfoldable pub stateAtReset : Board → State
-stateAtReset b = record { transfers = replicate 8 noTransfer; slots = table (slotAtReset b) 16 }
+use Rattle.state.specs.Records.{noSlot, noLine, noState, transferAt}
+use Rattle.state.specs.Posting.{Request, transferOf, transferRefusal, stateWith}
+use Rattle.state.specs.Resetting.{stateAtReset}
+use Rattle.state.specs.Soundness.{sound}
+use Rattle.state.specs.Control.{stateAfter, maskOf, linesOf}
+use Rattle.state.specs.Carrying.{storeAfter}
 
 -- what `reset` answers; "memory and buffer are not touched"
 unfoldable pub reset : Board → Started
@@ -52,10 +43,6 @@ postRefusal b st buffer q =
     (cond (not (eqb (transferRefusal b (q .master) (transferOf q)) 0)) (transferRefusal b (q .master) (transferOf q))
     (cond (wrongWords b q) 18
     0))))))
-
--- "A master holds one transfer until it is finished."
-unfoldable pub stateWith : State → ℕ → Transfer → State
-stateWith st m t = record { transfers = set (st .transfers) m t; slots = st .slots }
 
 -- what `post` answers: "the state stay[s] unchanged" on a refusal
 unfoldable pub post : Board → State → List ℕ → Request → Posted

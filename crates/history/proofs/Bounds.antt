@@ -16,21 +16,22 @@ use Rattle.board.specs.Records.{masterAt, slaveAt}
 use Rattle.board.proofs.Legal.{Legal}
 use Rattle.geometry.specs.declared.Transfer.{Transfer}
 use Rattle.geometry.specs.Accesses.{accesses, ownLength}
-use Rattle.fabric.specs.declared.Slot.{Slot}
-use Rattle.fabric.specs.declared.State.{State}
-use Rattle.fabric.specs.declared.Line.{Line}
-use Rattle.fabric.specs.declared.Step.{Step}
+use Rattle.state.specs.declared.Slot.{Slot}
+use Rattle.state.specs.declared.State.{State}
+use Rattle.state.specs.declared.Line.{Line}
+use Rattle.state.specs.declared.Step.{Step}
 use Rattle.fabric.specs.declared.Clocked.{Clocked}
-use Rattle.fabric.specs.Records.{noLine, transferAt, slotAt}
-use Rattle.fabric.specs.Posting.{Request, transferOf}
-use Rattle.fabric.specs.Soundness.{requests}
-use Rattle.fabric.specs.Control.{slotAfterGrant, stepOf, stateAfter, finished, linesOf, maskOf}
-use Rattle.fabric.specs.Calls.{World, postRefusal, post, stateWith}
-use Rattle.fabric.proofs.Sound.{Sound}
-use Rattle.fabric.proofs.CycleLaws.{leftOf, left-resting, Cycle}
-use Rattle.fabric.proofs.StateLaws.{line-after, slot-after, transfer-after, transfer-kept, transfer-with, transfer-with-other, slot-with, mask-bit, finished-here}
-use Rattle.fabric.proofs.DecodeLaws.{Accepted, accepted, requests-held, requests-of}
-use Rattle.fabric.proofs.SoundLaws.{clock-sound, finished-only, requests-same}
+use Rattle.state.specs.Records.{noLine, transferAt, slotAt}
+use Rattle.state.specs.Posting.{Request, transferOf}
+use Rattle.state.specs.Soundness.{requests}
+use Rattle.state.specs.Control.{slotAfterGrant, stepOf, stateAfter, finished, linesOf, maskOf}
+use Rattle.state.specs.Posting.{stateWith}
+use Rattle.fabric.specs.Calls.{World, postRefusal, post}
+use Rattle.state.proofs.Sound.{Sound}
+use Rattle.state.proofs.CycleLaws.{leftOf, left-resting, Cycle}
+use Rattle.state.proofs.StateLaws.{line-after, slot-after, transfer-after, transfer-kept, transfer-with, transfer-with-other, slot-with, mask-bit, finished-here}
+use Rattle.state.proofs.DecodeLaws.{Accepted, accepted, requests-held, requests-of}
+use Rattle.state.proofs.SoundLaws.{clock-sound, finished-only, requests-same}
 use Rattle.quote.specs.Waits as quote
 use Rattle.bounds.proofs.Potential.{pot, pot-quoted}
 use Rattle.history.specs.Claim.{Call, Start, History, next, after, answers, owns, shows, names, any}
@@ -140,16 +141,17 @@ module _ (b : Board) (legal : Legal b) (m : ℕ) (hm : m < b .«master_count») 
     wait-clock K y =
         ⊎-elim inl
         (λ n.
-          let f = unfinished (y .asks) (n .0) (n .1) in
-          let k = keeps (y .asks) f in
-          inr
-          (n .2,
+        let f = unfinished (y .asks) (n .0) (n .1) in
+        let k = keeps (y .asks) f in
+        inr (
+          n .2,
           record {
             holds = k ∙ y .holds;
             asks = requests-same b st (stateAfter b st) m s k ∙ y .asks;
             off = λ e q. n .1 (sym (owner-next (n .0)) ∙ q);
-            bound = λ a. n .3
-          }))
+            bound = λ a. n .3;
+          },
+        ))
         (nearer b legal st (x .sound) s hs (acting b legal st (x .sound) s hs) (stays b legal st (x .sound) s hs) m hm (y .asks) K
         (y .off) (y .bound))
 
@@ -164,20 +166,22 @@ module _ (b : Board) (legal : Legal b) (m : ℕ) (hm : m < b .«master_count») 
       where
         c : Cycle (masterAt b (now .owner)) (slaveAt b s) (transferAt st (now .owner)) now (stepOf b st s)
         c = acts-now (n .0)
+
         slot : slotAt (stateAfter b st) s ≡ stepOf b st s .slot
         slot = slot-after b st s hs (legal .fewSlaves)
+
         go : (z : Bool) → stepOf b st s .slot .serving ≡ z → (names m (answerOf b w) ≡ true) ⊎ InService (L - 1) (stateAfter b st)
         go true e =
             let k = stays b legal st (x .sound) s hs (n .0) e in
             let k′ : transferAt (stateAfter b st) m ≡ transferAt st m =
-                subst (λ (i : ℕ). transferAt (stateAfter b st) i ≡ transferAt st i) (n .1) k in
+            subst (λ (i : ℕ). transferAt (stateAfter b st) i ≡ transferAt st i) (n .1) k in
             inr
             (record {
               holds = k′ ∙ h;
               asks = requests-same b st (stateAfter b st) m s k′ ∙ q;
               on = ap (λ (y : Slot). y .serving) slot ∙ e;
               own = owner-next (n .0) ∙ n .1;
-              bound = omega (arith, left-next (n .0), l)
+              bound = omega (arith, left-next (n .0), l);
             })
         go false e =
             inl
@@ -199,12 +203,12 @@ module _ (b : Board) (legal : Legal b) (m : ℕ) (hm : m < b .«master_count») 
             whole false e =
                 let g = granted-now b legal st (x .sound) s hs (acting b legal st (x .sound) s hs) (stays b legal st (x .sound) s hs) e (n .0) in
                 let l =
-                    left-granted b legal st (x .sound) s hs (acting b legal st (x .sound) s hs) (stays b legal st (x .sound) s hs)
-                    (g .0) (g .1) (g .3) in
+                left-granted b legal st (x .sound) s hs (acting b legal st (x .sound) s hs) (stays b legal st (x .sound) s hs)
+                (g .0) (g .1) (g .3) in
                 let i : g .0 ≡ m = sym (ap (λ (y : Slot). y .owner) (g .3)) ∙ n .1 in
                 let k : ownLength (masterAt b (g .0)) (slaveAt b s) (transferAt st (g .0)) ≡ ownLength (masterAt b m) (slaveAt b s) t =
-                    ap (λ (j : ℕ). ownLength (masterAt b j) (slaveAt b s) (transferAt st j)) i
-                    ∙ ap (ownLength (masterAt b m) (slaveAt b s)) (z .holds) in
+                ap (λ (j : ℕ). ownLength (masterAt b j) (slaveAt b s) (transferAt st j)) i
+                ∙ ap (ownLength (masterAt b m) (slaveAt b s)) (z .holds) in
                 omega (arith, l, k)
 
     serve-clock : (L : ℕ) → InService L st → (names m (answerOf b w) ≡ true) ⊎ InService (L - 1) (stateAfter b st)
@@ -241,26 +245,26 @@ module _ (b : Board) (legal : Legal b) (m : ℕ) (hm : m < b .«master_count») 
         holds = kept-with (y .asks) ∙ y .holds;
         asks = requests-same b st (stateWith st (q .master) (transferOf q)) m s (kept-with (y .asks)) ∙ y .asks;
         off = subst (λ (z : Slot). z .serving ≡ true → z .owner ≢ m) (sym same-slot) (y .off);
-        bound = bounded (sym same-slot) (sym same-left) (y .bound)
+        bound = bounded (sym same-slot) (sym same-left) (y .bound);
       }
         where
           bounded : {z : Slot} → slotAt st s ≡ z → {l : ℕ} → leftAt b st s ≡ l
               → ((slotAt st s .owner ≡ m → slotAt st s .remaining ≡ 0) → potAt b legal s hs m st ≤ K)
               → (z .owner ≡ m → z .remaining ≡ 0)
               → pot (b .«master_count») (sharesOf b legal s hs) (singleOf b legal s hs) (serveOf b legal s hs) (sizes b legal s hs) m
-                (z .owner) (z .remaining) l ≤ K
+              (z .owner) (z .remaining) l ≤ K
           bounded {z} e {l} f g =
               subst
               (λ (z : Slot).
-                (z .owner ≡ m → z .remaining ≡ 0)
-                → pot (b .«master_count») (sharesOf b legal s hs) (singleOf b legal s hs) (serveOf b legal s hs) (sizes b legal s hs)
-                  m (z .owner) (z .remaining) l ≤ K)
+              (z .owner ≡ m → z .remaining ≡ 0)
+              → pot (b .«master_count») (sharesOf b legal s hs) (singleOf b legal s hs) (serveOf b legal s hs) (sizes b legal s hs)
+              m (z .owner) (z .remaining) l ≤ K)
               e
               (subst
               (λ (l : ℕ).
-                (slotAt st s .owner ≡ m → slotAt st s .remaining ≡ 0)
-                → pot (b .«master_count») (sharesOf b legal s hs) (singleOf b legal s hs) (serveOf b legal s hs) (sizes b legal s hs)
-                  m (slotAt st s .owner) (slotAt st s .remaining) l ≤ K)
+              (slotAt st s .owner ≡ m → slotAt st s .remaining ≡ 0)
+              → pot (b .«master_count») (sharesOf b legal s hs) (singleOf b legal s hs) (serveOf b legal s hs) (sizes b legal s hs)
+              m (slotAt st s .owner) (slotAt st s .remaining) l ≤ K)
               f g)
 
       serve-post : (L : ℕ) → InService L st → InService L (stateWith st (q .master) (transferOf q))
@@ -269,7 +273,7 @@ module _ (b : Board) (legal : Legal b) (m : ℕ) (hm : m < b .«master_count») 
         asks = requests-same b st (stateWith st (q .master) (transferOf q)) m s (kept-with (y .asks)) ∙ y .asks;
         on = ap (λ (z : Slot). z .serving) same-slot ∙ y .on;
         own = ap (λ (z : Slot). z .owner) same-slot ∙ y .own;
-        bound = omega (arith, same-left, y .bound)
+        bound = omega (arith, same-left, y .bound);
       }
 
   -- ---- along a history
@@ -298,7 +302,7 @@ module _ (b : Board) (legal : Legal b) (m : ℕ) (hm : m < b .«master_count») 
     where
       go : (n : ℕ) → K ≡ n
           → ((slotAfterGrant b (w .state) s .serving ≡ true) × (slotAfterGrant b (w .state) s .owner ≡ m))
-            ⊎ ((1 ≤ K) × Waiting (K - 1) (stateAfter b (w .state)))
+          ⊎ ((1 ≤ K) × Waiting (K - 1) (stateAfter b (w .state)))
           → Soon (shows m) n (answerOf b w ∷ answers cs)
       go n k (inl a) l = any-here (shows m) (answerOf b w) (take n (answers cs)) (shown w x a)
       go zero k (inr a) l = absurd (omega (arith, a .0))
@@ -367,13 +371,15 @@ module _ (b : Board) (legal : Legal b) (m : ℕ) (hm : m < b .«master_count») 
   finish-step c cs w K o x y (clockTaken t e f g) h rest =
       subst (By (names m) (K + own)) (sym (f cs))
       (λ l.
-        ap (λ (n : ℕ). any (names m) (take n (answerOf b w ∷ answers cs))) p
-        ∙ go (omega arith) (wait-clock w x K y))
+      ap (λ (n : ℕ). any (names m) (take n (answerOf b w ∷ answers cs))) p
+      ∙ go (omega arith) (wait-clock w x K y))
     where
       p : K + own ≡ suc (K + own - 1)
       p = omega arith
+
       stands : Standing b legal (next w c)
       stands = subst (Standing b legal) (sym e) (clock-stands b legal w x)
+
       started : K + own ≤ suc (length (answers cs))
           → (names m (answerOf b w) ≡ true) ⊎ InService (own - 1) (stateAfter b (w .state))
           → any (names m) (answerOf b w ∷ take (K + own - 1) (answers cs)) ≡ true
@@ -382,9 +388,10 @@ module _ (b : Board) (legal : Legal b) (m : ℕ) (hm : m < b .«master_count») 
           any-later (names m) (answerOf b w) (take (K + own - 1) (answers cs))
           (any-more (names m) (own - 1) (K + own - 1) (answers cs) (omega arith)
           (serve-within cs (next w c) (own - 1) stands (subst (λ (u : World). InService (own - 1) (u .state)) (sym e) a) h (omega arith)))
+
       go : K + own ≤ suc (length (answers cs))
           → ((slotAfterGrant b (w .state) s .serving ≡ true) × (slotAfterGrant b (w .state) s .owner ≡ m))
-            ⊎ ((1 ≤ K) × Waiting (K - 1) (stateAfter b (w .state)))
+          ⊎ ((1 ≤ K) × Waiting (K - 1) (stateAfter b (w .state)))
           → any (names m) (answerOf b w ∷ take (K + own - 1) (answers cs)) ≡ true
       go l (inl a) = started l (start-clock w x (inr (K, y)) a)
       go l (inr a) =

@@ -9,12 +9,13 @@ use lib.Dec.{eqb}
 use borrow.Author.Tests.{eqb-true, eqb-false, eq-eqb, ne-eqb}
 use Rattle.board.specs.declared.Board.{Board}
 use Rattle.moves.specs.Bytes.{Store, posted}
-use Rattle.fabric.specs.declared.State.{State}
+use Rattle.state.specs.declared.State.{State}
 use Rattle.fabric.specs.declared.Clocked.{Clocked}
-use Rattle.fabric.specs.Posting.{Request, transferOf}
-use Rattle.fabric.specs.Control.{stateAfter, maskOf, linesOf}
-use Rattle.fabric.specs.Carrying.{storeAfter}
-use Rattle.fabric.specs.Calls.{World, postRefusal, post, bufferAfterPost, stateWith, clockRefusal, clock, storeAfterClock}
+use Rattle.state.specs.Posting.{Request, transferOf}
+use Rattle.state.specs.Control.{stateAfter, maskOf, linesOf}
+use Rattle.state.specs.Carrying.{storeAfter}
+use Rattle.state.specs.Posting.{stateWith}
+use Rattle.fabric.specs.Calls.{World, postRefusal, post, bufferAfterPost, clockRefusal, clock, storeAfterClock}
 use Rattle.history.specs.Claim.{Call, posts, clocks, numberOf, Handed, leaves, next, after, History, answers, Reference, fed, fedPost, seenAll}
 
 -- what a post that is taken leaves

@@ -16,14 +16,15 @@ use Rattle.board.proofs.Legal.{Legal}
 use Rattle.geometry.specs.declared.Transfer.{Transfer}
 use Rattle.geometry.specs.Accesses.{waitOf, ownLength}
 use Rattle.geometry.specs.Decoding.{selects, targetOf}
-use Rattle.fabric.specs.declared.Slot.{Slot}
-use Rattle.fabric.specs.declared.State.{State}
-use Rattle.fabric.specs.Records.{transferAt, slotAt}
-use Rattle.fabric.specs.Posting.{Request, transferOf}
-use Rattle.fabric.specs.Calls.{World, reset, postRefusal, post, stateWith, clock}
-use Rattle.fabric.proofs.CycleLaws.{left-resting}
-use Rattle.fabric.proofs.StateLaws.{transfer-with, slot-with}
-use Rattle.fabric.proofs.DecodeLaws.{Accepted, accepted, requests-held, requests-of}
+use Rattle.state.specs.declared.Slot.{Slot}
+use Rattle.state.specs.declared.State.{State}
+use Rattle.state.specs.Records.{transferAt, slotAt}
+use Rattle.state.specs.Posting.{Request, transferOf}
+use Rattle.state.specs.Posting.{stateWith}
+use Rattle.fabric.specs.Calls.{World, reset, postRefusal, post, clock}
+use Rattle.state.proofs.CycleLaws.{left-resting}
+use Rattle.state.proofs.StateLaws.{transfer-with, slot-with}
+use Rattle.state.proofs.DecodeLaws.{Accepted, accepted, requests-held, requests-of}
 use Rattle.quote.specs.Waits as quote
 use Rattle.bounds.proofs.Potential.{pot, pot-quoted}
 use Rattle.history.specs.Claim as claim
@@ -69,8 +70,8 @@ module _ (b : Board) (legal : Legal b) where
 
     bound : (slotAt st s .owner ≡ m → slotAt st s .remaining ≡ 0)
         → pot (b .«master_count») (sharesOf b legal s (fits .within)) (singleOf b legal s (fits .within))
-          (serveOf b legal s (fits .within)) (sizes b legal s (fits .within)) m (slotAt st s .owner) (slotAt st s .remaining)
-          (leftAt b st s) ≤ quote.waitOf b m s
+        (serveOf b legal s (fits .within)) (sizes b legal s (fits .within)) m (slotAt st s .owner) (slotAt st s .remaining)
+        (leftAt b st s) ≤ quote.waitOf b m s
     unfolding InTurn
     bound a =
         let p : InTurn b legal s (fits .within) (slotAt st s .owner) (slotAt st s .remaining) (leftAt b st s) = x .paced s (fits .within) in
@@ -83,20 +84,21 @@ module _ (b : Board) (legal : Legal b) where
     posted-waits = record {
       holds = holds;
       asks =
-        requests-of b (stateWith st m (transferOf q)) s m (ap (λ (t : Transfer). t .held) holds)
-        (subst (λ (t : Transfer). selects b m (t .address) s ≡ true) (sym holds) (fits .selected));
+          requests-of b (stateWith st m (transferOf q)) s m (ap (λ (t : Transfer). t .held) holds)
+          (subst (λ (t : Transfer). selects b m (t .address) s ≡ true) (sym holds) (fits .selected));
       off = subst (λ (z : Slot). z .serving ≡ true → z .owner ≢ m) (sym (slot-with st m (transferOf q) s)) off;
       bound = λ a.
-        subst₃
-        (λ (o r l : ℕ).
+          subst₃
+          (λ (o r l : ℕ).
           pot (b .«master_count») (sharesOf b legal s (fits .within)) (singleOf b legal s (fits .within))
           (serveOf b legal s (fits .within)) (sizes b legal s (fits .within)) m o r l ≤ quote.waitOf b m s)
-        (sym owner) (sym remaining) (sym (left-with b legal st (x .sound) m (transferOf q) (taken .free) s (fits .within)))
-        (bound (λ o. sym remaining ∙ a (owner ∙ o)))
+          (sym owner) (sym remaining) (sym (left-with b legal st (x .sound) m (transferOf q) (taken .free) s (fits .within)))
+          (bound (λ o. sym remaining ∙ a (owner ∙ o)));
     }
       where
         owner : slotAt (stateWith st m (transferOf q)) s .owner ≡ slotAt st s .owner
         owner = ap (λ (z : Slot). z .owner) (slot-with st m (transferOf q) s)
+
         remaining : slotAt (stateWith st m (transferOf q)) s .remaining ≡ slotAt st s .remaining
         remaining = ap (λ (z : Slot). z .remaining) (slot-with st m (transferOf q) s)
 
@@ -140,8 +142,8 @@ module _ (b : Board) (legal : Legal b) where
             let e = add-one (quote.waitOf b (q .master) (slaveOf b q)) in
             ap (λ (n : ℕ). any (shows (q .master)) (take n (answers calls))) e
             ∙ first-within b legal (q .master) (taken .master) (slaveOf b q) (fits (after w before) stands q taken .within) (transferOf q)
-              calls (withPost (after w before) q) (quote.waitOf b (q .master) (slaveOf b q))
-              (post-stands b legal (after w before) q stands taken) (posted-waits (after w before) stands q taken) later′ (omega arith)
+            calls (withPost (after w before) q) (quote.waitOf b (q .master) (slaveOf b q))
+            (post-stands b legal (after w before) q stands taken) (posted-waits (after w before) stands q taken) later′ (omega arith)
 
         pub finished : waitFor b q + lengthOf b q ≤ length (answers calls)
             → any (names (q .master)) (take (waitFor b q + lengthOf b q) (answers calls)) ≡ true
@@ -153,9 +155,10 @@ module _ (b : Board) (legal : Legal b) where
 
     pub served : (q : Request)
         → let u = after w before in
-          (clock b (u .state) (u .store) .number ≡ 0)
-          × ((post b (u .state) (u .store .buffer) q .number ≡ 0) ⊎ (11 ≤ post b (u .state) (u .store .buffer) q .number))
+        (clock b (u .state) (u .store) .number ≡ 0)
+        × ((post b (u .state) (u .store .buffer) q .number ≡ 0) ⊎ (11 ≤ post b (u .state) (u .store .buffer) q .number))
     unfolding post
-    served q =
-        (clock-number b (after w before .state) (after w before .store) ∙ clock-free b legal checked (after w before) stands,
-        post-free b legal checked (after w before) stands q)
+    served q = (
+      clock-number b (after w before .state) (after w before .store) ∙ clock-free b legal checked (after w before) stands,
+      post-free b legal checked (after w before) stands q,
+    )

@@ -15,16 +15,16 @@ use Rattle.geometry.specs.declared.Transfer.{Transfer}
 use Rattle.geometry.specs.Accesses.{accesses, waitOf, ownLength}
 use Rattle.arbiter.specs.declared.Grant.{Grant}
 use Rattle.arbiter.specs.declared.Grant.the-variants.{Granted, Silent}
-use Rattle.fabric.specs.declared.Slot.{Slot}
-use Rattle.fabric.specs.declared.State.{State}
-use Rattle.fabric.specs.declared.Step.{Step}
-use Rattle.fabric.specs.Records.{transferAt, slotAt}
-use Rattle.fabric.specs.Soundness.{requests}
-use Rattle.fabric.specs.Control.{grantAt, slotGranted, slotAfterGrant, served, stepOf, stateAfter, finished, transferAfter}
-use Rattle.fabric.proofs.Sound.{Sound, Serves}
-use Rattle.fabric.proofs.CycleLaws.{leftOf, left-resting, left-serving, left-whole, Cycle, cycle}
-use Rattle.fabric.proofs.StateLaws.{slot-after, transfer-after, transfer-kept}
-use Rattle.fabric.proofs.DecodeLaws.{Accepted, accepted-at, requests-held, requests-selects}
+use Rattle.state.specs.declared.Slot.{Slot}
+use Rattle.state.specs.declared.State.{State}
+use Rattle.state.specs.declared.Step.{Step}
+use Rattle.state.specs.Records.{transferAt, slotAt}
+use Rattle.state.specs.Soundness.{requests}
+use Rattle.state.specs.Control.{grantAt, slotGranted, slotAfterGrant, served, stepOf, stateAfter, finished, transferAfter}
+use Rattle.state.proofs.Sound.{Sound, Serves}
+use Rattle.state.proofs.CycleLaws.{leftOf, left-resting, left-serving, left-whole, Cycle, cycle}
+use Rattle.state.proofs.StateLaws.{slot-after, transfer-after, transfer-kept}
+use Rattle.state.proofs.DecodeLaws.{Accepted, accepted-at, requests-held, requests-selects}
 use Rattle.bounds.proofs.Order.{between}
 use Rattle.bounds.proofs.Credit.{credit, credit-zero}
 use Rattle.bounds.proofs.Potential.{pot, pot-quoted, quoted, some-grant, grant-asks, grant-turn, grant-falls, grant-next}

@@ -17,21 +17,23 @@ use Rattle.board.proofs.Legal.{Legal}
 use Rattle.geometry.specs.declared.Transfer.{Transfer}
 use Rattle.moves.specs.Bytes.{Store, bufferLength, posted, accessed, written, fetched}
 use Rattle.moves.proofs.MoveLaws.{length-move}
-use Rattle.fabric.specs.declared.Slot.{Slot}
-use Rattle.fabric.specs.declared.State.{State}
-use Rattle.fabric.specs.declared.Step.{Step}
-use Rattle.fabric.specs.Records.{noSlot, transferAt, slotAt}
+use Rattle.state.specs.declared.Slot.{Slot}
+use Rattle.state.specs.declared.State.{State}
+use Rattle.state.specs.declared.Step.{Step}
+use Rattle.state.specs.Records.{noSlot, transferAt, slotAt}
 use Rattle.geometry.specs.Decoding.{targetOf}
-use Rattle.fabric.specs.Posting.{Request, transferOf, wrongBeats, unaligned, wrongLanes, unmapped, passesEnd, transferRefusal}
-use Rattle.fabric.specs.Soundness.{requests, sound}
-use Rattle.fabric.specs.Control.{slotAfterGrant, stepOf, stateAfter}
-use Rattle.fabric.specs.Carrying.{carriesOut, carried, carriedBy, storeAfter}
-use Rattle.fabric.specs.Calls.{World, stateAtReset, reset, postRefusal, post, stateWith, clockRefusal, wrongWords}
-use Rattle.fabric.proofs.Sound.{Sound}
-use Rattle.fabric.proofs.CycleLaws.{leftOf, left-resting, cycle}
-use Rattle.fabric.proofs.StateLaws.{slot-with, transfer-with-other, slot-reset}
-use Rattle.fabric.proofs.DecodeLaws.{requests-held}
-use Rattle.fabric.proofs.SoundLaws.{sound-test, reset-sound, post-sound, clock-sound, grant-sound, served-kept}
+use Rattle.state.specs.Posting.{Request, transferOf, wrongBeats, unaligned, wrongLanes, unmapped, passesEnd, transferRefusal}
+use Rattle.state.specs.Soundness.{requests, sound}
+use Rattle.state.specs.Control.{slotAfterGrant, stepOf, stateAfter}
+use Rattle.state.specs.Carrying.{carriesOut, carried, carriedBy, storeAfter}
+use Rattle.state.specs.Resetting.{stateAtReset}
+use Rattle.state.specs.Posting.{stateWith}
+use Rattle.fabric.specs.Calls.{World, reset, postRefusal, post, clockRefusal, wrongWords}
+use Rattle.state.proofs.Sound.{Sound}
+use Rattle.state.proofs.CycleLaws.{leftOf, left-resting, cycle}
+use Rattle.state.proofs.StateLaws.{slot-with, transfer-with-other, slot-reset}
+use Rattle.state.proofs.DecodeLaws.{requests-held}
+use Rattle.state.proofs.SoundLaws.{sound-test, reset-sound, post-sound, clock-sound, grant-sound, served-kept}
 use Rattle.bounds.proofs.Credit.{credit, credit-zero}
 use Rattle.history.specs.Claim.{Call, Start, History, next, after}
 use Rattle.history.proofs.Pairs.{sharesOf, singleOf, serveOf}
@@ -47,14 +49,15 @@ accessed-length b st s d = go (carriesOut b st s (slotAfterGrant b st s)) (trans
   where
     slot : Slot
     slot = slotAfterGrant b st s
+
     go : (c e : Bool)
         → let x =
-            cond c
-            (cond e
-            (written (masterAt b (slot .owner)) (slaveAt b s) (transferAt st (slot .owner)) (slot .owner) (startOf b s) (slot .done) d)
-            (fetched (masterAt b (slot .owner)) (slaveAt b s) (transferAt st (slot .owner)) (slot .owner) (startOf b s) (slot .done) d))
-            d in
-          (length (x .memory) ≡ length (d .memory)) × (length (x .buffer) ≡ length (d .buffer))
+        cond c
+        (cond e
+        (written (masterAt b (slot .owner)) (slaveAt b s) (transferAt st (slot .owner)) (slot .owner) (startOf b s) (slot .done) d)
+        (fetched (masterAt b (slot .owner)) (slaveAt b s) (transferAt st (slot .owner)) (slot .owner) (startOf b s) (slot .done) d))
+        d in
+        (length (x .memory) ≡ length (d .memory)) × (length (x .buffer) ≡ length (d .buffer))
     go true true = (length-move _ _ _ _ _ _ (d .memory), refl)
     go true false = (refl, length-move _ _ _ _ _ _ (d .buffer))
     go false e = (refl, refl)
@@ -129,7 +132,7 @@ module _ (b : Board) (legal : Legal b) where
     where
       go : (c : Bool) → slotAt st s .serving ≡ c
           → leftOf (masterAt b (slotAt st s .owner)) (slaveAt b s) (transferAt (stateWith st m t) (slotAt st s .owner)) (slotAt st s)
-            ≡ leftAt b st s
+          ≡ leftAt b st s
       go true e =
           let held = requests-held b st s (slotAt st s .owner) (x .serving s hs e .asks) in
           ap (λ (y : Transfer). leftOf (masterAt b (slotAt st s .owner)) (slaveAt b s) y (slotAt st s))
@@ -144,11 +147,11 @@ module _ (b : Board) (legal : Legal b) where
   post-stands w q x t = record {
     sound = post-sound b (w .state) (q .master) (transferOf q) legal (x .sound) (t .master) (t .free) (t .fits) refl;
     paced = λ s hs.
-      let e = slot-with (w .state) (q .master) (transferOf q) s in
-      subst₃ (InTurn b legal s hs) (sym (ap (λ (y : Slot). y .owner) e)) (sym (ap (λ (y : Slot). y .remaining) e))
-      (sym (left-with (w .state) (x .sound) (q .master) (transferOf q) (t .free) s hs)) (x .paced s hs);
+        let e = slot-with (w .state) (q .master) (transferOf q) s in
+        subst₃ (InTurn b legal s hs) (sym (ap (λ (y : Slot). y .owner) e)) (sym (ap (λ (y : Slot). y .remaining) e))
+        (sym (left-with (w .state) (x .sound) (q .master) (transferOf q) (t .free) s hs)) (x .paced s hs);
     memory = x .memory;
-    buffer = length-move _ _ _ _ _ _ (w .store .buffer) ∙ x .buffer
+    buffer = length-move _ _ _ _ _ _ (w .store .buffer) ∙ x .buffer;
   }
 
   -- the facts of one clock that the theory of one slave asks for
@@ -175,10 +178,10 @@ module _ (b : Board) (legal : Legal b) where
   clock-stands w x = record {
     sound = clock-sound b (w .state) legal (x .sound);
     paced = λ s hs.
-      pace-after b legal (w .state) (x .sound) s hs (acting (w .state) (x .sound) s hs) (stays (w .state) (x .sound) s hs)
-      (x .paced s hs);
+        pace-after b legal (w .state) (x .sound) s hs (acting (w .state) (x .sound) s hs) (stays (w .state) (x .sound) s hs)
+        (x .paced s hs);
     memory = carried-length b (w .state) (b .«slave_count») (w .store) .0 ∙ x .memory;
-    buffer = carried-length b (w .state) (b .«slave_count») (w .store) .1 ∙ x .buffer
+    buffer = carried-length b (w .state) (b .«slave_count») (w .store) .1 ∙ x .buffer;
   }
 
   -- ---- from the reset on
@@ -188,15 +191,16 @@ module _ (b : Board) (legal : Legal b) where
   start-stands w x = record {
     sound = subst (Sound b) (sym first) (reset-sound b legal);
     paced = λ s hs.
-      let e : slotAt (w .state) s ≡ _ = ap (λ (y : State). slotAt y s) first ∙ slot-reset b s hs (legal .fewSlaves) in
-      let o = slotAt (w .state) s .owner in
-      omega
-      (arith,
-      left-resting (masterAt b o) (slaveAt b s) (transferAt (w .state) o) (slotAt (w .state) s) (ap (λ (y : Slot). y .serving) e),
-      credit-zero (singleOf b legal s hs o) (serveOf b legal s hs o) (slotAt (w .state) s .remaining)
-      (ap (λ (y : Slot). y .remaining) e));
+        let e : slotAt (w .state) s ≡ _ = ap (λ (y : State). slotAt y s) first ∙ slot-reset b s hs (legal .fewSlaves) in
+        let o = slotAt (w .state) s .owner in
+        omega (
+          arith,
+          left-resting (masterAt b o) (slaveAt b s) (transferAt (w .state) o) (slotAt (w .state) s) (ap (λ (y : Slot). y .serving) e),
+          credit-zero (singleOf b legal s hs o) (serveOf b legal s hs o) (slotAt (w .state) s .remaining)
+              (ap (λ (y : Slot). y .remaining) e),
+        );
     memory = x .memory;
-    buffer = x .buffer
+    buffer = x .buffer;
   }
     where
       first : w .state ≡ stateAtReset b
@@ -218,18 +222,23 @@ module _ (b : Board) (legal : Legal b) where
   pub clock-free : checkBoard b ≡ 0 → (w : World) → Standing b legal w → clockRefusal b (w .state) (w .store) ≡ 0
   unfolding clockRefusal
   clock-free ok w x =
-      rw
-      (eq-eqb (checkBoard b) 0 ok, eq-eqb (length (w .store .memory)) (memoryLength b) (x .memory),
-      eq-eqb (length (w .store .buffer)) bufferLength (x .buffer), sound-test b (w .state) legal (x .sound))
+      rw (
+        eq-eqb (checkBoard b) 0 ok,
+        eq-eqb (length (w .store .memory)) (memoryLength b) (x .memory),
+        eq-eqb (length (w .store .buffer)) bufferLength (x .buffer),
+        sound-test b (w .state) legal (x .sound),
+      )
 
   -- a post is taken, or refused for its own part
   pub post-free : checkBoard b ≡ 0 → (w : World) → Standing b legal w → (q : Request)
       → (postRefusal b (w .state) (w .store .buffer) q ≡ 0) ⊎ (11 ≤ postRefusal b (w .state) (w .store .buffer) q)
   unfolding postRefusal
   post-free ok w x q =
-      rw
-      (eq-eqb (checkBoard b) 0 ok, eq-eqb (length (w .store .buffer)) bufferLength (x .buffer),
-      sound-test b (w .state) legal (x .sound))
+      rw (
+        eq-eqb (checkBoard b) 0 ok,
+        eq-eqb (length (w .store .buffer)) bufferLength (x .buffer),
+        sound-test b (w .state) legal (x .sound),
+      )
       (late (leb (b .«master_count») (q .master)) 11 _ (inr (omega arith))
       (late (transferAt (w .state) (q .master) .held) 12 _ (inr (omega arith))
       (late (not (eqb (transferRefusal b (q .master) (transferOf q)) 0)) _ _ (late-transfer b (q .master) (transferOf q))

@@ -15,11 +15,11 @@ use Rattle.geometry.specs.Accesses.{ownLength}
 use Rattle.geometry.specs.Decoding.{targetOf}
 use Rattle.moves.specs.Moving.{move}
 use Rattle.moves.specs.Bytes.{Store, bufferLength, partOf, memoryPlace, enabled}
-use Rattle.fabric.specs.declared.State.{State}
-use Rattle.fabric.specs.declared.Line.{Line}
+use Rattle.state.specs.declared.State.{State}
+use Rattle.state.specs.declared.Line.{Line}
 use Rattle.fabric.specs.declared.Clocked.{Clocked}
-use Rattle.fabric.specs.Records.{noLine}
-use Rattle.fabric.specs.Posting.{Request, transferOf}
+use Rattle.state.specs.Records.{noLine}
+use Rattle.state.specs.Posting.{Request, transferOf}
 use Rattle.fabric.specs.Calls.{World, reset, post, bufferAfterPost, clock, storeAfterClock}
 use Rattle.quote.specs.Waits.{waitOf}
 

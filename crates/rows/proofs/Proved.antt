@@ -19,12 +19,14 @@ use Rattle.arbiter.specs.Choosing.{above, tried, chosen}
 use Rattle.arbiter.specs.Granting.{kept, grantTo, granted}
 use Rattle.moves.specs.Moving.{move}
 use Rattle.moves.specs.Bytes.{posted, enabled, memoryPlace, written, fetched, accessed}
-use Rattle.fabric.specs.Records.{noState}
-use Rattle.fabric.specs.Posting.{wrongBeats, unaligned, wrongLanes, unmapped, passesEnd, transferRefusal}
-use Rattle.fabric.specs.Soundness.{requests, soundTransfer, soundOwner, soundRemaining, soundService, soundRest, soundSlot, sound}
-use Rattle.fabric.specs.Control.{grantAt, slotGranted, slotAfterGrant, lineOf, waits, slotWaiting, slotAccessed, slotFinished, served, stepOf, lineAfter, slotAfter, finishes, finished, maskOf, transferAfter, stateAfter, linesOf}
-use Rattle.fabric.specs.Carrying.{carriesOut, carried, carriedBy, storeAfter}
-use Rattle.fabric.specs.Calls.{slotAtReset, stateAtReset, reset, wrongWords, postRefusal, stateWith, post, bufferAfterPost, clockRefusal, clock, storeAfterClock, afterPost, afterClock}
+use Rattle.state.specs.Records.{noState}
+use Rattle.state.specs.Posting.{wrongBeats, unaligned, wrongLanes, unmapped, passesEnd, transferRefusal}
+use Rattle.state.specs.Soundness.{requests, soundTransfer, soundOwner, soundRemaining, soundService, soundRest, soundSlot, sound}
+use Rattle.state.specs.Control.{grantAt, slotGranted, slotAfterGrant, lineOf, waits, slotWaiting, slotAccessed, slotFinished, served, stepOf, lineAfter, slotAfter, finishes, finished, maskOf, transferAfter, stateAfter, linesOf}
+use Rattle.state.specs.Carrying.{carriesOut, carried, carriedBy, storeAfter}
+use Rattle.state.specs.Resetting.{slotAtReset, stateAtReset}
+use Rattle.state.specs.Posting.{stateWith}
+use Rattle.fabric.specs.Calls.{reset, wrongWords, postRefusal, post, bufferAfterPost, clockRefusal, clock, storeAfterClock, afterPost, afterClock}
 use Rattle.quote.specs.Waits as quoted
 use Rattle.quote.specs.Answers.{heading, pairLine, tableText, refusedText, printed}
 use Rattle.rows.specs.Runs.{runs, started, lineNow, phases, grants}

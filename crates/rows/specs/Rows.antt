@@ -13,7 +13,7 @@ use Rattle.geometry.specs.declared.Transfer.{Transfer}
 use Rattle.geometry.specs.Lanes.{legalLanes}
 use Rattle.description.specs.Reader.{readText}
 use Rattle.quote.specs.Answers.{printed}
-use Rattle.fabric.specs.Posting.{Request}
+use Rattle.state.specs.Posting.{Request}
 use Rattle.fabric.specs.Calls.{afterPost}
 use Rattle.rows.specs.Runs.{runs, started, phases, grants}
 

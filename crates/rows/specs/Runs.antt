@@ -14,9 +14,9 @@ use Rattle.geometry.specs.declared.Transfer.{Transfer}
 use Rattle.geometry.specs.Accesses.{accesses}
 use Rattle.geometry.specs.Runs.{placeOf, runOf}
 use Rattle.moves.specs.Bytes.{Store, bufferLength}
-use Rattle.fabric.specs.declared.Line.{Line}
-use Rattle.fabric.specs.Records.{noLine, slotAt}
-use Rattle.fabric.specs.Posting.{Request}
+use Rattle.state.specs.declared.Line.{Line}
+use Rattle.state.specs.Records.{noLine, slotAt}
+use Rattle.state.specs.Posting.{Request}
 use Rattle.fabric.specs.Calls.{World, reset, clock, afterPost, afterClock}
 
 -- the lengths of a transfer's runs, each taken at its first access

@@ -19,10 +19,10 @@ use Rattle.geometry.specs.declared.Transfer.{Transfer}
 use Rattle.geometry.specs.Lanes.{postLanes}
 use Rattle.geometry.specs.Decoding.{agrees, selects, targetOf}
 use Rattle.geometry.specs.Accesses.{ratio, accesses}
-use Rattle.fabric.specs.declared.State.{State}
-use Rattle.fabric.specs.Records.{transferAt}
-use Rattle.fabric.specs.Posting.{wrongBeats, unaligned, wrongLanes, unmapped, passesEnd, transferRefusal}
-use Rattle.fabric.specs.Soundness.{requests}
+use Rattle.state.specs.declared.State.{State}
+use Rattle.state.specs.Records.{transferAt}
+use Rattle.state.specs.Posting.{wrongBeats, unaligned, wrongLanes, unmapped, passesEnd, transferRefusal}
+use Rattle.state.specs.Soundness.{requests}
 
 -- the address lies in the slave's span
 pub record Inside (sl : Slave) (address : ℕ) : Type 0 where

@@ -8,10 +8,10 @@ use lib.ListN.{length}
 use Rattle.board.specs.declared.Board.{Board}
 use Rattle.board.specs.Records.{masterAt, slaveAt, sharesAt}
 use Rattle.geometry.specs.Accesses.{accesses, waitOf}
-use Rattle.fabric.specs.declared.State.{State}
-use Rattle.fabric.specs.Records.{transferAt, slotAt}
-use Rattle.fabric.specs.Posting.{transferRefusal}
-use Rattle.fabric.specs.Soundness.{requests}
+use Rattle.state.specs.declared.State.{State}
+use Rattle.state.specs.Records.{transferAt, slotAt}
+use Rattle.state.specs.Posting.{transferRefusal}
+use Rattle.state.specs.Soundness.{requests}
 
 -- a serving slave's owner holds a transfer for it, of which something is left
 pub record Serves (b : Board) (st : State) (s : ℕ) : Type 0 where

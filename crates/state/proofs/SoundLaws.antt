@@ -20,22 +20,23 @@ use Rattle.geometry.specs.Accesses.{noTransfer, accesses, waitOf}
 use Rattle.arbiter.specs.declared.Grant.{Grant}
 use Rattle.arbiter.specs.declared.Grant.the-variants.{Granted, Silent}
 use Rattle.arbiter.proofs.OrderLaws.{Grants, granted-facts}
-use Rattle.fabric.specs.declared.Slot.{Slot}
-use Rattle.fabric.specs.declared.State.{State}
-use Rattle.fabric.specs.Records.{transferAt, slotAt}
-use Rattle.fabric.specs.Posting.{transferRefusal}
-use Rattle.fabric.specs.Soundness.{requests, soundTransfer, soundSlot, sound}
-use Rattle.fabric.specs.Soundness.{soundOwner, soundRemaining, soundService, soundRest}
-use Rattle.fabric.specs.Control.{grantAt, slotGranted, slotAfterGrant, slotWaiting, slotAccessed, slotFinished}
-use Rattle.fabric.specs.Control.{stepOf, finished, stateAfter}
-use Rattle.fabric.specs.Calls.{slotAtReset, stateAtReset, stateWith}
-use Rattle.fabric.proofs.Sound.{Sound}
-use Rattle.fabric.proofs.StateLaws.{transfers-after, slots-after, slot-after, transfer-after, finished-by}
-use Rattle.fabric.proofs.StateLaws.{transfer-kept, held-after, transfer-reset, slot-reset}
-use Rattle.fabric.proofs.StateLaws.{transfers-with, slots-with, transfer-with, transfer-with-other, slot-with}
-use Rattle.fabric.proofs.DecodeLaws.{requests-held, requests-one, Accepted, accepted-at, requests-selects}
-use Rattle.fabric.proofs.StepLaws.{waitNow, accessesNow, Turn, rests, waiting, works, ends, turn}
-use Rattle.fabric.proofs.StepLaws.{grant-serving, grant-given, line-owner, finished-serving}
+use Rattle.state.specs.declared.Slot.{Slot}
+use Rattle.state.specs.declared.State.{State}
+use Rattle.state.specs.Records.{transferAt, slotAt}
+use Rattle.state.specs.Posting.{transferRefusal}
+use Rattle.state.specs.Soundness.{requests, soundTransfer, soundSlot, sound}
+use Rattle.state.specs.Soundness.{soundOwner, soundRemaining, soundService, soundRest}
+use Rattle.state.specs.Control.{grantAt, slotGranted, slotAfterGrant, slotWaiting, slotAccessed, slotFinished}
+use Rattle.state.specs.Control.{stepOf, finished, stateAfter}
+use Rattle.state.specs.Resetting.{slotAtReset, stateAtReset}
+use Rattle.state.specs.Posting.{stateWith}
+use Rattle.state.proofs.Sound.{Sound}
+use Rattle.state.proofs.StateLaws.{transfers-after, slots-after, slot-after, transfer-after, finished-by}
+use Rattle.state.proofs.StateLaws.{transfer-kept, held-after, transfer-reset, slot-reset}
+use Rattle.state.proofs.StateLaws.{transfers-with, slots-with, transfer-with, transfer-with-other, slot-with}
+use Rattle.state.proofs.DecodeLaws.{requests-held, requests-one, Accepted, accepted-at, requests-selects}
+use Rattle.state.proofs.StepLaws.{waitNow, accessesNow, Turn, rests, waiting, works, ends, turn}
+use Rattle.state.proofs.StepLaws.{grant-serving, grant-given, line-owner, finished-serving}
 
 -- the slot x of slave s: it serves a transfer of which something is left
 pub record SlotServes (b : Board) (st : State) (s : ℕ) (x : Slot) : Type 0 where

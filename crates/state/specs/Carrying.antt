@@ -5,10 +5,10 @@ use Prim.Native.Nat.{ℕ, zero, suc}
 use Rattle.board.specs.declared.Board.{Board}
 use Rattle.board.specs.Records.{masterAt, slaveAt, startOf}
 use Rattle.moves.specs.Bytes.{Store, accessed}
-use Rattle.fabric.specs.declared.Slot.{Slot}
-use Rattle.fabric.specs.declared.State.{State}
-use Rattle.fabric.specs.Records.{transferAt}
-use Rattle.fabric.specs.Control.{slotAfterGrant, waits}
+use Rattle.state.specs.declared.Slot.{Slot}
+use Rattle.state.specs.declared.State.{State}
+use Rattle.state.specs.Records.{transferAt}
+use Rattle.state.specs.Control.{slotAfterGrant, waits}
 
 -- slave s, after rule 1, carries out an access in this clock
 unfoldable pub carriesOut : Board → State → ℕ → Slot → Bool

@@ -8,11 +8,11 @@ use borrow.Author.Tests.{lt-ltb, le-ltb, ltb-true, ltb-false}
 use Rattle.board.specs.declared.Board.{Board}
 use Rattle.board.specs.Records.{masterAt, slaveAt}
 use Rattle.geometry.specs.Accesses.{accesses, waitOf}
-use Rattle.fabric.specs.declared.State.{State}
-use Rattle.fabric.specs.declared.Line.{Line}
-use Rattle.fabric.specs.Records.{noLine, transferAt, slotAt}
-use Rattle.fabric.specs.Control.{grantAt, slotGranted, slotAfterGrant, lineOf, waits}
-use Rattle.fabric.specs.Control.{slotWaiting, slotAccessed, slotFinished, served, stepOf}
+use Rattle.state.specs.declared.State.{State}
+use Rattle.state.specs.declared.Line.{Line}
+use Rattle.state.specs.Records.{noLine, transferAt, slotAt}
+use Rattle.state.specs.Control.{grantAt, slotGranted, slotAfterGrant, lineOf, waits}
+use Rattle.state.specs.Control.{slotWaiting, slotAccessed, slotFinished, served, stepOf}
 
 -- of the transfer in service after rule 1: its wait, its accesses, its line
 abbrev pub waitNow : Board → State → ℕ → ℕ

@@ -8,10 +8,10 @@ use Rattle.board.specs.declared.Board.{Board}
 use Rattle.board.specs.Records.{masterAt, slaveAt, sharesAt}
 use Rattle.geometry.specs.Decoding.{selects}
 use Rattle.geometry.specs.Accesses.{accesses, waitOf}
-use Rattle.fabric.specs.declared.Slot.{Slot}
-use Rattle.fabric.specs.declared.State.{State}
-use Rattle.fabric.specs.Records.{transferAt, slotAt}
-use Rattle.fabric.specs.Posting.{transferRefusal}
+use Rattle.state.specs.declared.Slot.{Slot}
+use Rattle.state.specs.declared.State.{State}
+use Rattle.state.specs.Records.{transferAt, slotAt}
+use Rattle.state.specs.Posting.{transferRefusal}
 
 -- "a requester is a master whose transfer is for this slave"
 unfoldable pub requests : Board → State → ℕ → ℕ → Bool

@@ -5,9 +5,9 @@ use Prim.Native.Nat.{ℕ}
 use lib.ListN.{getD, replicate}
 use Rattle.geometry.specs.declared.Transfer.{Transfer}
 use Rattle.geometry.specs.Accesses.{noTransfer}
-use Rattle.fabric.specs.declared.Slot.{Slot}
-use Rattle.fabric.specs.declared.State.{State}
-use Rattle.fabric.specs.declared.Line.{Line}
+use Rattle.state.specs.declared.Slot.{Slot}
+use Rattle.state.specs.declared.State.{State}
+use Rattle.state.specs.declared.Line.{Line}
 
 abbrev pub noSlot : Slot
 noSlot = record { owner = 0; remaining = 0; serving = false; done = 0; waited = 0 }

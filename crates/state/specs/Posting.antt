@@ -4,6 +4,7 @@ use mathlib.Core.Bool.{Bool, true, cond, not, _||_}
 use mathlib.Core.List.{List}
 use Prim.Native.Nat.{ℕ, _+_, _*_, _%_}
 use lib.Dec.{ltb, eqb}
+use lib.ListN.{set}
 use Rattle.board.specs.declared.Master.{Master}
 use Rattle.board.specs.declared.Slave.{Slave}
 use Rattle.board.specs.declared.Board.{Board}
@@ -11,6 +12,7 @@ use Rattle.board.specs.Records.{masterAt, slaveAt}
 use Rattle.geometry.specs.declared.Transfer.{Transfer}
 use Rattle.geometry.specs.Lanes.{postLanes}
 use Rattle.geometry.specs.Decoding.{targetOf}
+use Rattle.state.specs.declared.State.{State}
 
 -- a post: the master and its transfer, "read or write, a 32-bit byte address, lanes (bit k for byte k), beats and, for a write, the words"
 pub record Request : Type 0 where
@@ -54,3 +56,7 @@ transferRefusal b m t =
     (cond (unmapped b m t) 16
     (cond (passesEnd (masterAt b m) (slaveAt b (targetOf b m (t .address))) t) 17
     0))))
+
+-- "A master holds one transfer until it is finished."
+unfoldable pub stateWith : State → ℕ → Transfer → State
+stateWith st m t = record { transfers = set (st .transfers) m t; slots = st .slots }

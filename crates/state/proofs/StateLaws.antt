@@ -16,11 +16,12 @@ use Rattle.laws.proofs.TableLaws.{some-at, some-here, bit-mask, bit-mask-past}
 use Rattle.board.specs.declared.Board.{Board}
 use Rattle.geometry.specs.declared.Transfer.{Transfer}
 use Rattle.geometry.specs.Accesses.{noTransfer}
-use Rattle.fabric.specs.declared.State.{State}
-use Rattle.fabric.specs.Records.{noLine, noSlot, transferAt, slotAt}
-use Rattle.fabric.specs.Control.{stepOf, lineAfter, slotAfter, finishes, finished, maskOf, transferAfter}
-use Rattle.fabric.specs.Control.{stateAfter, linesOf}
-use Rattle.fabric.specs.Calls.{slotAtReset, stateAtReset, stateWith}
+use Rattle.state.specs.declared.State.{State}
+use Rattle.state.specs.Records.{noLine, noSlot, transferAt, slotAt}
+use Rattle.state.specs.Control.{stepOf, lineAfter, slotAfter, finishes, finished, maskOf, transferAfter}
+use Rattle.state.specs.Control.{stateAfter, linesOf}
+use Rattle.state.specs.Resetting.{slotAtReset, stateAtReset}
+use Rattle.state.specs.Posting.{stateWith}
 
 module _ (b : Board) (st : State) where
   pub transfers-after : length (stateAfter b st .transfers) ≡ 8

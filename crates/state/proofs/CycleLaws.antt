@@ -11,9 +11,9 @@ use Rattle.board.specs.declared.Master.{Master}
 use Rattle.board.specs.declared.Slave.{Slave}
 use Rattle.geometry.specs.declared.Transfer.{Transfer}
 use Rattle.geometry.specs.Accesses.{accesses, waitOf, ownLength}
-use Rattle.fabric.specs.declared.Slot.{Slot}
-use Rattle.fabric.specs.declared.Step.{Step}
-use Rattle.fabric.specs.Control.{waits, slotWaiting, slotAccessed, slotFinished, lineOf, served}
+use Rattle.state.specs.declared.Slot.{Slot}
+use Rattle.state.specs.declared.Step.{Step}
+use Rattle.state.specs.Control.{waits, slotWaiting, slotAccessed, slotFinished, lineOf, served}
 
 -- the clocks left of a transfer with d of its t accesses done, v of the w waits before the next one passed
 unfoldable pub clocksLeft : ℕ → ℕ → ℕ → ℕ → ℕ

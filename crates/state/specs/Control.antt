@@ -16,12 +16,12 @@ use Rattle.arbiter.specs.declared.Arbiter.{Arbiter}
 use Rattle.arbiter.specs.declared.Grant.{Grant}
 use Rattle.arbiter.specs.declared.Grant.the-variants.{Granted, Silent}
 use Rattle.arbiter.specs.Granting.{granted}
-use Rattle.fabric.specs.declared.Slot.{Slot}
-use Rattle.fabric.specs.declared.State.{State}
-use Rattle.fabric.specs.declared.Line.{Line}
-use Rattle.fabric.specs.declared.Step.{Step}
-use Rattle.fabric.specs.Records.{noLine, transferAt, slotAt}
-use Rattle.fabric.specs.Soundness.{requests}
+use Rattle.state.specs.declared.Slot.{Slot}
+use Rattle.state.specs.declared.State.{State}
+use Rattle.state.specs.declared.Line.{Line}
+use Rattle.state.specs.declared.Step.{Step}
+use Rattle.state.specs.Records.{noLine, transferAt, slotAt}
+use Rattle.state.specs.Soundness.{requests}
 
 -- Rule 1. The grant of slave s, which is not serving
 unfoldable pub grantAt : Board → State → ℕ → Grant

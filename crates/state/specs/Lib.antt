@@ -1,0 +1,6 @@
+pub mod Records
+pub mod Posting
+pub mod Soundness
+pub mod Control
+pub mod Carrying
+pub mod Resetting
