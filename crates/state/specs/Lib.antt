@@ -4,3 +4,4 @@ pub mod Soundness
 pub mod Control
 pub mod Carrying
 pub mod Resetting
+pub mod Targets
