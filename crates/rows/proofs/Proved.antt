@@ -10,6 +10,7 @@ use Rattle.text.specs.Digits.{digitsIn, digits, fieldsText, lineText}
 use Rattle.board.specs.Records.{noBoard, connected, totalSpan, startOf, memoryLength}
 use Rattle.board.specs.Rules.{slaveValues, meets, overlaps, masterRefusal, slaveRefusal, shareRefusal, itemRefusal, withMaster, withSlave, withShare, withItem, isShare, refused, start, taken, step, run, finish, described}
 use Rattle.board.specs.Items.{masterItem, slaveItem, shareItem, items, checkBoard}
+use Rattle.description.specs.Writer.{itemText, itemsText, writeText}
 use Rattle.description.specs.Reader.{masterLine, slaveLine, shareLine, itemOfFields, itemOf, unended, itemsOfPieces, itemsOf, reading, readText}
 use Rattle.geometry.specs.Lanes.{lowest, adjacent, legalLanes, postLanes}
 use Rattle.geometry.specs.Decoding.{agrees, selects, targetOf}
@@ -28,8 +29,9 @@ use Rattle.state.specs.Resetting.{slotAtReset, stateAtReset}
 use Rattle.state.specs.Posting.{stateWith}
 use Rattle.fabric.specs.Calls.{reset, wrongWords, postRefusal, post, bufferAfterPost, clockRefusal, clock, storeAfterClock, afterPost, afterClock}
 use Rattle.quote.specs.Waits as quoted
-use Rattle.quote.specs.Answers.{heading, pairLine, tableText, refusedText, printed}
+use Rattle.quote.specs.Answers.{bytes64, pairBytes, waitRefusal, waitOutput, heading, pairLine, tableText, refusedText, printed}
 use Rattle.rows.specs.Runs.{runs, started, lineNow, phases, grants}
+use Rattle.rows.specs.Examples.{readAnswers, slaveAnswers, Examples}
 use Rattle.rows.specs.Rows.{boardText, sharesText, tableOutput, masterOf, slaveOf, burstOf, wordRead, Rows}
 
 pub rows : Rows
@@ -63,4 +65,43 @@ rows = record {
   shares = refl;
   lines = refl;
   alone = refl;
+}
+
+pub examples : Examples
+unfolding
+    ones onesIn trailingZeros bytesOf bit member same gather table sum every some firstFrom first
+    push split isDigit scan shaped numberOf noNumbers withNumber collect numbersOf digitsIn digits fieldsText lineText
+    noBoard connected totalSpan startOf memoryLength
+    slaveValues meets overlaps masterRefusal slaveRefusal shareRefusal itemRefusal withMaster withSlave withShare withItem isShare
+    refused start taken step run finish described masterItem slaveItem shareItem items checkBoard
+    masterLine slaveLine shareLine itemOfFields itemOf unended itemsOfPieces itemsOf reading readText
+    lowest adjacent legalLanes postLanes agrees selects targetOf
+    ratio accesses accessBytes firstByte accessOffset wordOffset writeLanes slaveLanes waitOf ownLength runLimit placeOf runOf
+    above tried chosen kept grantTo granted move posted enabled memoryPlace written fetched accessed
+    noState wrongBeats unaligned wrongLanes unmapped passesEnd transferRefusal
+    requests soundTransfer soundOwner soundRemaining soundService soundRest soundSlot sound
+    grantAt slotGranted slotAfterGrant lineOf waits slotWaiting slotAccessed slotFinished served stepOf lineAfter slotAfter finishes
+    finished maskOf transferAfter stateAfter linesOf carriesOut carried carriedBy storeAfter
+    slotAtReset stateAtReset reset wrongWords postRefusal stateWith post bufferAfterPost clockRefusal clock storeAfterClock
+    quoted.longest quoted.mostBeats quoted.single quoted.serve quoted.turn quoted.otherTurn quoted.turnsOf quoted.waitOf quoted.serveOf
+    heading pairLine tableText refusedText printed runs started afterPost afterClock lineNow phases grants
+    boardText itemText itemsText writeText bytes64 pairBytes waitRefusal waitOutput readAnswers slaveAnswers
+examples = record {
+  lastWord = refl;
+  pastEnd = refl;
+  odd = refl;
+  nobody = refl;
+  tooMany = refl;
+  noBeat = refl;
+  eight = refl;
+  four = refl;
+  shifted = refl;
+  emptyText = refl;
+  emptyLine = refl;
+  unconnected = refl;
+  written = refl;
+  pair = refl;
+  short = refl;
+  noMaster = refl;
+  noSlave = refl
 }

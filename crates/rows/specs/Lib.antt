@@ -1,2 +1,3 @@
 pub mod Runs
 pub mod Rows
+pub mod Examples
