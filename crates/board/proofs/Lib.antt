@@ -1,3 +1,4 @@
 pub mod RuleLaws
 pub mod RunLaws
 pub mod Legal
+pub mod StartLaws

@@ -55,7 +55,9 @@ module _ (on : ℕ → Bool) (source : List ℕ) (from at first : ℕ) where
   next-other : (n : ℕ) (d : List ℕ) (j : ℕ) → j ≢ at + (first + n)
       → getD (move on source from at first (suc n) d) j 0 ≡ getD (move on source from at first n d) j 0
   unfolding move
-  next-other n d j h = put-other (on (first + n)) (move on source from at first n d) (at + (first + n)) j (getD source (from + (first + n)) 0) h
+  next-other n d j h =
+      put-other (on (first + n)) (move on source from at first n d) (at + (first + n)) j
+      (getD source (from + (first + n)) 0) h
 
   pub move-below : (n : ℕ) (d : List ℕ) (j : ℕ) → j < at + first → getD (move on source from at first n d) j 0 ≡ getD d j 0
   move-below zero d j h = unfold move in refl
@@ -80,7 +82,9 @@ module _ (on : ℕ → Bool) (source : List ℕ) (from at first : ℕ) where
       let h′ : i < length d = omega (arith, add-suc first n) in
       ⊎-elim
       (λ (e : t ≡ first + n).
-      rw e (put-same (on (first + n)) before i v (rw length-move h′) ∙ ap (cond (on (first + n)) v) (move-above n d i (omega arith))))
+      rw e
+      (put-same (on (first + n)) before i v (rw length-move h′)
+      ∙ ap (cond (on (first + n)) v) (move-above n d i (omega arith))))
       (λ (f : t ≢ first + n).
       next-other n d (at + t) (λ e. f (omega arith)) ∙ move-inside n d (omega arith) t p (omega (arith, add-suc first n, f)))
       (equal-or t (first + n))
@@ -92,7 +96,8 @@ module _ (on : ℕ → Bool) (source : List ℕ) (from at first : ℕ) where
   move-none d = refl
 
   move-next : (n : ℕ) (d p : List ℕ) → p ≡ move on source from at first n d
-      → put (on (first + n)) p (at + (first + n)) (getD source (from + (first + n)) 0) ≡ move on source from at first (n + 1) d
+      → put (on (first + n)) p (at + (first + n)) (getD source (from + (first + n)) 0)
+      ≡ move on source from at first (n + 1) d
   unfolding move
   move-next n d p e = rw (e, add-one)
 

@@ -36,8 +36,8 @@ module _ (on : ℕ → Bool) (source : List ℕ) (from at first : ℕ) where
   unfolding move
   move-take-below zero k d h = refl
   move-take-below (suc n) k d h =
-      put-take-below (on (first + n)) k (move on source from at first n d) (at + (first + n)) (getD source (from + (first + n)) 0)
-      (omega arith)
+      put-take-below (on (first + n)) k (move on source from at first n d) (at + (first + n))
+      (getD source (from + (first + n)) 0) (omega arith)
       ∙ move-take-below n k d h
 
   pub move-take : (n k : ℕ) (d : List ℕ) → at + (first + n) ≤ k
@@ -46,7 +46,8 @@ module _ (on : ℕ → Bool) (source : List ℕ) (from at first : ℕ) where
   move-take zero k d h = refl
   move-take (suc n) k d h =
       let h′ : at + (first + n) < k = omega (arith, add-suc first n) in
-      put-take (on (first + n)) k (move on source from at first n d) (at + (first + n)) (getD source (from + (first + n)) 0) h′
+      put-take (on (first + n)) k (move on source from at first n d) (at + (first + n))
+      (getD source (from + (first + n)) 0) h′
       ∙ rw (move-take n k d (omega arith))
 
   -- what lies behind the places, and from one before them on
@@ -65,12 +66,14 @@ module _ (on : ℕ → Bool) (source : List ℕ) (from at first : ℕ) where
   move-drop zero k d = refl
   move-drop (suc n) k d =
       rw (add-assoc k at (first + n))
-      (put-drop (on (first + n)) k (move on source from (k + at) first n d) (at + (first + n)) (getD source (from + (first + n)) 0)
+      (put-drop (on (first + n)) k (move on source from (k + at) first n d) (at + (first + n))
+      (getD source (from + (first + n)) 0)
       ∙ rw (move-drop n k d))
 
 -- a part of len bytes from place k is lent, moved into, and put back
 pub move-back : (on : ℕ → Bool) (source : List ℕ) (from first n k len : ℕ) (d : List ℕ) → first + n ≤ len
-    → take k d ++ (move on source from 0 first n (take len (drop k d)) ++ drop len (drop k d)) ≡ move on source from k first n d
+    → take k d ++ (move on source from 0 first n (take len (drop k d)) ++ drop len (drop k d))
+    ≡ move on source from k first n d
 move-back on source from first n k len d h =
     let whole = move on source from k first n d in
     let inner : drop k whole ≡ move on source from 0 first n (drop k d) =

@@ -89,7 +89,8 @@ pub front-at : (n at : ℕ) (d : List ℕ) (i : ℕ) → i < n → getD (front n
 front-at n at d i h = getD-take n (drop at d) i 0 h ∙ getD-drop at d i 0
 
 -- lists of one length agree there
-pub front-same : (n at lo hi : ℕ) {d e : List ℕ} → length d ≡ length e → Agree lo hi d e → lo ≤ at → at + n ≤ hi → front n at d ≡ front n at e
+pub front-same : (n at lo hi : ℕ) {d e : List ℕ} → length d ≡ length e → Agree lo hi d e → lo ≤ at → at + n ≤ hi
+    → front n at d ≡ front n at e
 front-same n at lo hi {d} {e} l g p q =
     ext-getD 0 (front n at d) (front n at e) (simp (length-take, length-drop, l))
     (λ i h.

@@ -2,6 +2,7 @@
 -- Assumes nothing.
 use mathlib.Core.Path.{_≡_, refl}
 use mathlib.Core.Bool.{Bool, true, false, cond}
+use mathlib.Core.List.{List}
 use mathlib.Core.Logic.{⊎-elim, inl, inr, _≢_}
 use Prim.Native.Nat.{ℕ, _+_, _≤_, _<_}
 use native.Mathlib.Omega.{arith}
@@ -11,21 +12,40 @@ use Rattle.board.specs.declared.Slave.{Slave}
 use Rattle.geometry.specs.declared.Transfer.{Transfer}
 use Rattle.geometry.specs.Accesses.{accessBytes, firstByte}
 use Rattle.moves.specs.Moving.{all, move}
-use Rattle.moves.specs.Bytes.{Store, partOf, enabled, memoryPlace, written, fetched, accessed}
+use Rattle.moves.specs.Bytes.{Store, partOf, posted, enabled, memoryPlace, written, fetched, accessed}
 use Rattle.moves.proofs.MoveLaws.{length-move, move-join, less-or}
 use Rattle.moves.proofs.Ranges.{Agree, agree-refl, Apart, move-apart, move-agree}
 
--- ---- one access, by its direction
+-- ---- a post, and one access by its direction
 
-pub accessed-write : (ma : Master) (sl : Slave) (t : Transfer) (m start a : ℕ) (d : Store) → t .write ≡ true
-    → accessed ma sl t m start a d ≡ written ma sl t m start a d
-unfolding accessed
-accessed-write ma sl t m start a d e = rw e
+pub length-posted : (m : ℕ) (words buffer : List ℕ) → length (posted m words buffer) ≡ length buffer
+unfolding posted
+length-posted m words buffer = length-move all words 0 (partOf m) 0 (length words) buffer
 
-pub accessed-read : (ma : Master) (sl : Slave) (t : Transfer) (m start a : ℕ) (d : Store) → t .write ≡ false
-    → accessed ma sl t m start a d ≡ fetched ma sl t m start a d
-unfolding accessed
-accessed-read ma sl t m start a d e = rw e
+module _ (ma : Master) (sl : Slave) (t : Transfer) (m start a : ℕ) (d : Store) where
+  pub accessed-write : t .write ≡ true → accessed ma sl t m start a d ≡ written ma sl t m start a d
+  unfolding accessed
+  accessed-write e = rw e
+
+  pub accessed-read : t .write ≡ false → accessed ma sl t m start a d ≡ fetched ma sl t m start a d
+  unfolding accessed
+  accessed-read e = rw e
+
+  pub length-memory : length (accessed ma sl t m start a d .memory) ≡ length (d .memory)
+  unfolding written fetched
+  length-memory = go (t .write) refl
+    where
+      go : (w : Bool) → t .write ≡ w → length (accessed ma sl t m start a d .memory) ≡ length (d .memory)
+      go true e = rw (accessed-write e) (length-move _ _ _ _ _ _ (d .memory))
+      go false e = rw (accessed-read e)
+
+  pub length-buffer : length (accessed ma sl t m start a d .buffer) ≡ length (d .buffer)
+  unfolding written fetched
+  length-buffer = go (t .write) refl
+    where
+      go : (w : Bool) → t .write ≡ w → length (accessed ma sl t m start a d .buffer) ≡ length (d .buffer)
+      go true e = rw (accessed-write e)
+      go false e = rw (accessed-read e) (length-move _ _ _ _ _ _ (d .buffer))
 
 -- ---- bytes of a transfer
 
@@ -49,14 +69,6 @@ pub record Alike (lo hi lo′ hi′ : ℕ) (d e : Store) : Type 0 where
   pub memory : Agree lo hi (d .memory) (e .memory)
   pub buffer : Agree lo′ hi′ (d .buffer) (e .buffer)
 
-pub alike-refl : (lo hi lo′ hi′ : ℕ) (d : Store) → Alike lo hi lo′ hi′ d d
-alike-refl lo hi lo′ hi′ d = record {
-  memoryLength = refl;
-  bufferLength = refl;
-  memory = agree-refl lo hi (d .memory);
-  buffer = agree-refl lo′ hi′ (d .buffer);
-}
-
 pub carry-none : (write : Bool) (on : ℕ → Bool) (part place first : ℕ) (d : Store) → carry write on part place first 0 d ≡ d
 unfolding carry move
 carry-none true on part place first d = refl
@@ -64,28 +76,26 @@ carry-none false on part place first d = refl
 
 -- a part of the bytes, and then those behind it
 pub carry-join : (write : Bool) (on : ℕ → Bool) (part place first n k : ℕ) (d : Store)
-    → carry write on part place (first + n) k (carry write on part place first n d) ≡ carry write on part place first (n + k) d
+    → carry write on part place (first + n) k (carry write on part place first n d)
+    ≡ carry write on part place first (n + k) d
 unfolding carry
 carry-join true on part place first n k d = rw (move-join on (d .buffer) part place first n k (d .memory))
 carry-join false on part place first n k d = rw (move-join all (d .memory) place part first n k (d .buffer))
 
 -- ranges apart from the bytes' own are left alone
-pub carry-apart : (write : Bool) (on : ℕ → Bool) (part place first n lo hi lo′ hi′ : ℕ) (d : Store)
-    → Apart (place + first) (place + (first + n)) lo hi → Apart (part + first) (part + (first + n)) lo′ hi′
-    → Alike lo hi lo′ hi′ (carry write on part place first n d) d
+pub carry-memory : (write : Bool) (on : ℕ → Bool) (part place first n lo hi : ℕ) (d : Store)
+    → Apart (place + first) (place + (first + n)) lo hi
+    → Agree lo hi (carry write on part place first n d .memory) (d .memory)
 unfolding carry
-carry-apart true on part place first n lo hi lo′ hi′ d p q = record {
-  memoryLength = length-move on (d .buffer) part place first n (d .memory);
-  bufferLength = refl;
-  memory = move-apart on (d .buffer) part place first n lo hi (d .memory) p;
-  buffer = agree-refl lo′ hi′ (d .buffer);
-}
-carry-apart false on part place first n lo hi lo′ hi′ d p q = record {
-  memoryLength = refl;
-  bufferLength = length-move all (d .memory) place part first n (d .buffer);
-  memory = agree-refl lo hi (d .memory);
-  buffer = move-apart all (d .memory) place part first n lo′ hi′ (d .buffer) q;
-}
+carry-memory true on part place first n lo hi d h = move-apart on (d .buffer) part place first n lo hi (d .memory) h
+carry-memory false on part place first n lo hi d h = agree-refl lo hi (d .memory)
+
+pub carry-buffer : (write : Bool) (on : ℕ → Bool) (part place first n lo hi : ℕ) (d : Store)
+    → Apart (part + first) (part + (first + n)) lo hi
+    → Agree lo hi (carry write on part place first n d .buffer) (d .buffer)
+unfolding carry
+carry-buffer true on part place first n lo hi d h = agree-refl lo hi (d .buffer)
+carry-buffer false on part place first n lo hi d h = move-apart all (d .memory) place part first n lo hi (d .buffer) h
 
 -- stores that are alike where the bytes lie are alike there afterwards
 pub carry-alike : (write : Bool) (on : ℕ → Bool) (part place first n lo hi lo′ hi′ : ℕ) {d e : Store}
