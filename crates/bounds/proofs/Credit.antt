@@ -23,11 +23,6 @@ pub credit-suc : (single serve r : ℕ) → credit single serve (suc r) ≡ r * 
 unfolding credit
 credit-suc single serve r = refl
 
-pub credit-some : (single serve r : ℕ) → 1 ≤ serve → 1 ≤ r → 1 ≤ credit single serve r
-unfolding credit
-credit-some single serve zero s h = absurd (omega arith)
-credit-some single serve (suc r) s h = omega arith
-
 pub credit-le : (single serve a b : ℕ) → a ≤ b → credit single serve a ≤ credit single serve b
 unfolding credit
 credit-le single serve zero b h = omega arith

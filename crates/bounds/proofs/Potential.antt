@@ -17,7 +17,7 @@ use Rattle.arbiter.specs.declared.Grant.the-variants.{Granted, Silent}
 use Rattle.arbiter.specs.Choosing.{chosen}
 use Rattle.arbiter.specs.Granting.{kept, grantTo, granted}
 use Rattle.bounds.proofs.Order.{between, between-all, between-owner, sum-except, Found, chosen-found, chosen-nobody}
-use Rattle.bounds.proofs.Credit.{credit, credit-zero, credit-some, credit-le, kept-le, spend, spend-all}
+use Rattle.bounds.proofs.Credit.{credit, credit-zero, credit-le, kept-le, spend}
 
 -- the master granted with what remains to it: the last owner again, or the first requester upward from it
 pub record Next (requests : ℕ → Bool) (shares : ℕ → ℕ) (o r : ℕ) (x : Choice) (j p : ℕ) : Type 0 where
@@ -216,7 +216,7 @@ module _ (n : ℕ) (shares single serve : ℕ → ℕ)
         no-grants (inl l) (inr h) = l
         no-grants (inr l) (inr h) = absurd (false≢true (sym h ∙ full o ho (omega arith)))
 
-        pub grant-equal : j ≢ m → (r ≡ 0) ⊎ (r < shares o)
+        grant-equal : j ≢ m → (r ≡ 0) ⊎ (r < shares o)
             → long j + afford j k + between turn n j m ≡ afford o r + between turn n o m
         grant-equal d l =
             ⊎-elim
@@ -251,28 +251,25 @@ module _ (n : ℕ) (shares single serve : ℕ → ℕ)
                   credit-zero (single o) (serve o) r (no-grants l (h .2)),
                 )
 
-      -- with nothing left to wait for, m is the one
-      pub grant-last : afford o r + between turn n o m ≡ 0 → j ≡ m
-      grant-last z =
-          ⊎-elim
-          (λ h.
-          absurd
-          (let e = some-credit o ho (ap requests (sym (h .0)) ∙ grant-asks .1) (suc (next .0)) (omega arith) in
-          omega (arith, e, ap (afford o) (h .2))))
-          (λ h. fresh h (f .place))
-          (next .2 .how)
-        where
-          some-credit : (i : ℕ) → i < n → requests i ≡ true → (p : ℕ) → 1 ≤ p → 1 ≤ afford i p
-          some-credit i h q p l =
-              let a = sizes i h (asks i h q .0) in
-              credit-some (single i) (serve i) p (omega arith) l
+        -- and m is granted only with nothing left to wait for
+        pub grant-exactly : (o ≡ m → r ≡ 0) → (r ≡ 0) ⊎ (r < shares o)
+            → ((j ≡ m) × (afford o r + between turn n o m ≡ 0))
+            ⊎ ((j ≢ m) × (long j + afford j k + between turn n j m ≡ afford o r + between turn n o m))
+        grant-exactly a l = go (ℕ-discrete j m)
+          where
+            fresh : j ≡ m → (chosen requests n o ≡ Requester j) × (next .0 ≡ shares j - 1) × ((r ≡ 0) ⊎ (requests o ≡ false))
+                → ((f .master ≡ m) × (between turn n o m ≡ f .skipped))
+                ⊎ ((f .master ≢ m) × (f .skipped + turn (f .master) + between turn n (f .master) m ≡ between turn n o m))
+                → afford o r + between turn n o m ≡ 0
+            fresh e h (inl c) = omega (arith, no-skip, c .1, credit-zero (single o) (serve o) r (no-grants l (h .2)))
+            fresh e h (inr c) = absurd (c .0 (fresh-master (h .0) ∙ e))
 
-          fresh : (chosen requests n o ≡ Requester j) × (next .0 ≡ shares j - 1) × ((r ≡ 0) ⊎ (requests o ≡ false))
-              → ((f .master ≡ m) × (between turn n o m ≡ f .skipped))
-              ⊎ ((f .master ≢ m) × (f .skipped + turn (f .master) + between turn n (f .master) m ≡ between turn n o m))
-              → j ≡ m
-          fresh h (inl c) = sym (fresh-master (h .0)) ∙ c .0
-          fresh h (inr c) =
-              absurd
-              (let a = some-credit (f .master) (f .low) (f .asks) (shares (f .master)) (asks (f .master) (f .low) (f .asks) .0) in
-              omega (arith, a, c .1))
+            go : Dec (j ≡ m)
+                → ((j ≡ m) × (afford o r + between turn n o m ≡ 0))
+                ⊎ ((j ≢ m) × (long j + afford j k + between turn n j m ≡ afford o r + between turn n o m))
+            go (yes e) =
+                inl (
+                  e,
+                  ⊎-elim (λ h. absurd (omega (arith, h .2, a (sym (h .0) ∙ e)))) (λ h. fresh e h (f .place)) (next .2 .how),
+                )
+            go (no d) = inr (d, grant-equal d l)

@@ -275,7 +275,7 @@ module _ (b : Board) (legal : Legal b) (st : State) (sound : Sound b st) (s : �
 
     module _ (m : ℕ) (hm : m < masters) (waiting : requests b st s m ≡ true) where
       -- passed over, the last owner m has no grants
-      put-aside : (j k : ℕ) → grantAt b st s ≡ Granted j k → j ≢ m → owner ≡ m → remaining ≡ 0
+      pub put-aside : (j k : ℕ) → grantAt b st s ≡ Granted j k → j ≢ m → owner ≡ m → remaining ≡ 0
       unfolding grantAt
       put-aside j k g d e =
           let n = grant-next masters (requests b st s) shares beats owner remaining j k g in

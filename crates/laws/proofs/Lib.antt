@@ -1,6 +1,7 @@
 pub mod Arithmetic
 pub mod BitLaws
 pub mod Finite
+pub mod FrontLaws
 pub mod ListLaws
 pub mod Members
 pub mod TableLaws

@@ -103,5 +103,5 @@ examples = record {
   pair = refl;
   short = refl;
   noMaster = refl;
-  noSlave = refl
+  noSlave = refl;
 }

@@ -1,0 +1,31 @@
+-- Demand 3: every board that reset does not refuse has it whole; and the wait it speaks of is what the wait call answers.
+-- Assumes nothing.
+use mathlib.Core.Path.{_≡_, refl, sym, ap, _∙_}
+use mathlib.Core.Bool.{true}
+use mathlib.Core.List.{List}
+use Prim.Native.Nat.{ℕ, _≤_, _<_}
+use Rattle.board.specs.declared.Board.{Board}
+use Rattle.board.specs.Items.{checkBoard}
+use Rattle.board.proofs.Legal.{Legal}
+use Rattle.board.proofs.Accepted.{accepted-legal}
+use Rattle.fabric.specs.Calls.{reset}
+use Rattle.history.specs.Claim.{Demand3}
+use Rattle.history.proofs.Safe.{within, finished, served}
+use Rattle.history.proofs.Exact.{exact-history}
+use Rattle.history.proofs.ReadsHistory.{reads-right}
+
+reset-checks : (b : Board) → reset b .number ≡ checkBoard b
+unfolding reset
+reset-checks b = refl
+
+pub demand3 : (b : Board) → reset b .number ≡ 0 → Demand3 b
+demand3 b ok = record {
+  within = λ w before q calls start history accepted later. within b legal w before start history q accepted calls later;
+  finished = λ w before q calls start history accepted later. finished b legal w before start history q accepted calls later;
+  exact = exact-history b legal;
+  reads = reads-right b legal;
+  served = λ w calls q start history. served b legal w calls start history q;
+}
+  where
+    legal : Legal b
+    legal = accepted-legal b (sym (reset-checks b) ∙ ok)

@@ -1,0 +1,127 @@
+-- The exact history of demand 3: for each connected pair a transfer has its first cycle at clock w + 1 exactly.
+-- Assumes nothing.
+use mathlib.Core.Path.{_≡_, refl, sym, ap, subst, _∙_}
+use mathlib.Core.Bool.{true, false}
+use mathlib.Core.List.{List}
+use mathlib.Core.Logic.{_⊎_, inl, inr}
+use Prim.Native.Nat.{ℕ, _+_, _≤_, _<_}
+use native.Mathlib.Decide.{ℕ-discrete}
+use native.Mathlib.Omega.{arith}
+use lib.Dec.{ltb}
+use lib.ListN.{length, take}
+use borrow.Author.Tests.{ltb-true}
+use Rattle.laws.proofs.Tests.{both}
+use Rattle.board.specs.declared.Board.{Board}
+use Rattle.board.specs.Records.{masterAt, slaveAt, sharesAt, connected}
+use Rattle.board.proofs.Legal.{Legal}
+use Rattle.geometry.specs.declared.Transfer.{Transfer}
+use Rattle.state.specs.Records.{transferAt, slotAt}
+use Rattle.state.specs.Posting.{Request}
+use Rattle.state.specs.Posting.{stateWith}
+use Rattle.fabric.specs.Calls.{World, reset, post}
+use Rattle.state.proofs.CycleLaws.{left-resting}
+use Rattle.state.proofs.StateLaws.{transfer-with, transfer-with-other}
+use Rattle.state.proofs.DecodeLaws.{selects-target}
+use Rattle.quote.specs.Waits.{waitOf}
+use Rattle.bounds.proofs.Order.{between}
+use Rattle.bounds.proofs.Credit.{credit, credit-zero}
+use Rattle.bounds.proofs.Potential.{quoted-between}
+use Rattle.history.specs.Claim.{Call, Start, History, after, answers, shows, any, slaveOf, Accepted, posted}
+use Rattle.history.proofs.Pairs.{sharesOf, singleOf, serveOf, sizes, wait-quoted}
+use Rattle.history.proofs.SlaveClock.{potAt}
+use Rattle.history.proofs.Calls.{withPost, post-leaves}
+use Rattle.history.proofs.Standing.{Standing, Taken, left-with, post-stands}
+use Rattle.history.proofs.ExactRequests.{requestFor, transferFor, base-selects}
+use Rattle.history.proofs.ExactStep.{dueAt, Has, Tracked, due-asks}
+use Rattle.history.proofs.ExactCalls.{post-accepted}
+use Rattle.history.proofs.ExactRuns.{request-taken, runs}
+use Rattle.history.proofs.ExactLead.{Rested, lead}
+
+module _ (b : Board) (legal : Legal b) (s : ℕ) (hs : s < b .«slave_count») (m : ℕ) (hm : m < b .«master_count»)
+    (has : 1 ≤ sharesAt b m s) (w : World) (x : Rested b legal s hs m w) where
+  -- m posts where nobody holds a transfer
+  abbrev asked : Request
+  asked = requestFor b s m (dueAt b s (w .state) m)
+
+  taken : Taken b (w .state) asked
+  taken = request-taken b legal s hs (w .state) m (dueAt b s (w .state) m) hm has (x .free m)
+
+  stands : Standing b legal (withPost w asked)
+  stands = post-stands b legal w asked (x .stands) taken
+
+  holds : transferAt (stateWith (w .state) m (transferFor b s m (dueAt b s (w .state) m))) m
+      ≡ transferFor b s m (dueAt b s (w .state) m)
+  holds =
+      transfer-with (w .state) m (transferFor b s m (dueAt b s (w .state) m)) (x .stands .sound .transfers)
+      (omega (arith, legal .fewMasters))
+
+  -- and has the quoted wait before it
+  wait-whole : potAt b legal s hs m (stateWith (w .state) m (transferFor b s m (dueAt b s (w .state) m))) ≡ waitOf b m s
+  unfolding stateWith
+  wait-whole =
+      let o = slotAt (w .state) s .owner in
+      omega (
+        arith,
+        left-with b legal (w .state) (x .stands .sound) m (transferFor b s m (dueAt b s (w .state) m)) (x .free m) s hs,
+        left-resting (masterAt b o) (slaveAt b s) (transferAt (w .state) o) (slotAt (w .state) s) (x .serving),
+        credit-zero (singleOf b legal s hs o) (serveOf b legal s hs o) (slotAt (w .state) s .remaining) (x .remaining),
+        ap
+            (λ (i : ℕ).
+            between (λ j. credit (singleOf b legal s hs j) (serveOf b legal s hs j) (sharesAt b j s)) (b .«master_count») i m)
+            (x .owner),
+        quoted-between (b .«master_count») (sharesOf b legal s hs) (singleOf b legal s hs) (serveOf b legal s hs)
+            (sizes b legal s hs) m hm,
+        wait-quoted b legal s hs m,
+      )
+
+  starts : Tracked b legal s hs m hm (waitOf b m s) (withPost w asked .state)
+  unfolding stateWith requestFor transferFor
+  starts = record {
+    sound = stands .sound;
+    asks = due-asks b legal s hs m hm (withPost w asked .state) m (dueAt b s (w .state) m) hm has holds;
+    aside = λ _. (x .serving, x .remaining);
+    count = wait-whole;
+    owes = λ j hj shared. go j (ℕ-discrete j m);
+  }
+    where
+      go : (j : ℕ) → Dec (j ≡ m)
+          → (transferAt (withPost w asked .state) j .held ≡ false) ⊎ Has b s (withPost w asked .state) j
+      go j (yes q) = inr (subst (Has b s (withPost w asked .state)) (sym q) (inr holds))
+      go j (no q) =
+          inl
+          (ap (λ (t : Transfer). t .held) (transfer-with-other (w .state) m (transferFor b s m (dueAt b s (w .state) m)) j q)
+          ∙ x .free j)
+
+pub exact-history : (b : Board) → Legal b → (w : World) → Start b w → (m s : ℕ) → m < b .«master_count» → connected b m s ≡ true
+    → (before : List Call) × (q : Request) × (calls : List Call)
+    × History b w before × Accepted b (after w before) q × (q .master ≡ m) × (slaveOf b q ≡ s)
+    × History b (posted b (after w before) q) calls
+    × (length (answers calls) ≡ waitOf b m s + 1)
+    × (any (shows m) (take (waitOf b m s) (answers calls)) ≡ false)
+    × (any (shows m) (answers calls) ≡ true)
+unfolding connected reset Accepted post posted slaveOf requestFor
+exact-history b legal w x m s hm c =
+    let p = both (ltb s (b .«slave_count»)) (ltb 0 (sharesAt b m s)) c in
+    let hs = ltb-true s (b .«slave_count») (p .0) in
+    let has = ltb-true 0 (sharesAt b m s) (p .1) in
+    let ok = x .accepted in
+    let l = lead b legal s hs m ok hm has w x in
+    let u = after w (l .calls) in
+    let q = asked b legal s hs m hm has u (l .end) in
+    let t = taken b legal s hs m hm has u (l .end) in
+    let e = post-accepted b legal ok u q (l .end .stands) t in
+    let r =
+    runs b legal s hs m hm ok (waitOf b m s) (withPost u q) (stands b legal s hs m hm has u (l .end))
+    (starts b legal s hs m hm has u (l .end)) in (
+      l .calls,
+      q,
+      r .calls,
+      l .history,
+      e,
+      refl,
+      selects-target b legal m (slaveAt b s .base) s (base-selects b legal s hs m hm has),
+      subst (λ (v : World). History b v (r .calls)) (sym (post-leaves b u q e)) (r .history),
+      r .count,
+      r .before,
+      r .then,
+    )

@@ -1,0 +1,172 @@
+-- What a master posts at a slave to use up its credit there: singles while grants are to come, the longest transfer at
+-- the last. Such a transfer is not refused and lasts exactly as long as is quoted.
+-- Assumes nothing.
+use mathlib.Core.Path.{_≡_, refl, sym, ap, _∙_}
+use mathlib.Core.Bool.{Bool, true, false, cond, _||_}
+use Prim.Native.Nat.{ℕ, zero, suc, _+_, _*_, _/_, _%_, _≤_, _<_, max}
+use native.Mathlib.Nat.{one-mul, le-refl, le-trans, mul-le-mul, div-mul-le-self, zero-mod, mod-mod-of-dvd}
+use native.Mathlib.Nat.{dvd-of-mod-eq-zero, min-le-left, min-le-right}
+use native.Mathlib.Omega.{arith}
+use lib.Dec.{leb}
+use lib.Count.{ones, onesIn, trailingZeros}
+use lib.ListN.{length, replicate, length-replicate}
+use borrow.Author.Tests.{le-ltb, eq-eqb, ne-eqb, leb-true, leb-false}
+use Rattle.laws.specs.Lists.{member}
+use Rattle.laws.proofs.TableLaws.{member-each}
+use Rattle.board.specs.declared.Board.{Board}
+use Rattle.board.specs.declared.Slave.{Slave}
+use Rattle.board.specs.Records.{masterAt, slaveAt}
+use Rattle.board.specs.Rules.{widths, spans}
+use Rattle.board.proofs.Legal.{Legal}
+use Rattle.board.proofs.RuleLaws.{width-bound, burst-bound, span-bound}
+use Rattle.geometry.specs.declared.Transfer.{Transfer}
+use Rattle.geometry.specs.Lanes.{allLanes, lowest, adjacent, legalLanes, postLanes}
+use Rattle.geometry.specs.Decoding.{selects, targetOf}
+use Rattle.geometry.specs.Accesses.{ratio, accesses, waitOf, ownLength}
+use Rattle.state.specs.Posting.{Request, transferOf, wrongBeats, unaligned, wrongLanes, unmapped, passesEnd}
+use Rattle.state.specs.Posting.{transferRefusal}
+use Rattle.fabric.specs.Calls.{wrongWords}
+use Rattle.state.proofs.DecodeLaws.{span-pos, selects-of, selects-target}
+use Rattle.quote.specs.Waits as quote
+use Rattle.history.proofs.Pairs.{sharesOf, singleOf, serveOf, most-some}
+
+-- the beats of the transfer with a grants to come after it
+unfoldable pub beatsFor : Board → ℕ → ℕ → ℕ → ℕ
+beatsFor b s j zero = quote.mostBeats (masterAt b j) (slaveAt b s)
+beatsFor b s j (suc a) = 1
+
+-- in the direction of the longer wait
+unfoldable pub writes : Slave → Bool
+writes sl = leb (sl .«read_wait») (sl .«write_wait»)
+
+-- what master j posts at slave s, with a grants to come after it
+unfoldable pub requestFor : Board → ℕ → ℕ → ℕ → Request
+requestFor b s j a = record {
+  master = j;
+  write = writes (slaveAt b s);
+  address = slaveAt b s .base;
+  lanes = allLanes (masterAt b j .width);
+  beats = beatsFor b s j a;
+  words = replicate (cond (writes (slaveAt b s)) (beatsFor b s j a * masterAt b j .width) 0) 0;
+}
+
+unfoldable pub transferFor : Board → ℕ → ℕ → ℕ → Transfer
+transferFor b s j a = transferOf (requestFor b s j a)
+
+pub words-right : (b : Board) (s j a : ℕ) → wrongWords b (requestFor b s j a) ≡ false
+unfolding requestFor wrongWords
+words-right b s j a =
+    let n = cond (writes (slaveAt b s)) (beatsFor b s j a * masterAt b j .width) 0 in
+    rw (eq-eqb (length {A = ℕ} (replicate n 0)) n (length-replicate n 0))
+
+-- a full word is a legal one
+full-lanes : (w : ℕ) → member w widths ≡ true → legalLanes w (allLanes w) ≡ true
+unfolding legalLanes adjacent lowest ones onesIn trailingZeros member
+full-lanes w e = member-each (λ x. legalLanes x (allLanes x) ≡ true) w widths (refl, (refl, (refl, (refl, tt)))) e
+
+full-post : (w k : ℕ) → member w widths ≡ true → postLanes w (allLanes w) k ≡ true
+unfolding postLanes
+full-post w k e = rw (full-lanes w e, eq-eqb (allLanes w) (allLanes w) refl) (go (leb k 1))
+  where
+    go : (c : Bool) → (c || true) ≡ true
+    go true = refl
+    go false = refl
+
+multiple : (a c d : ℕ) → a % c ≡ 0 → c % d ≡ 0 → a % d ≡ 0
+multiple a c d e f =
+    sym (mod-mod-of-dvd d a (dvd-of-mod-eq-zero d f)) ∙ ap (λ (x : ℕ). x % d) e ∙ zero-mod d
+
+-- a transfer at the base of a slave of span n and of a master of width w is aligned
+base-aligned : (a n w : ℕ) → a % n ≡ 0 → member n spans ≡ true → member w widths ≡ true → a % w ≡ 0
+base-aligned a n w e f g =
+    multiple a n w e
+    (multiple n 8 w (member-each (λ x. x % 8 ≡ 0) n spans (omega arith) f) (member-each (λ x. 8 % x ≡ 0) w widths (omega arith) g))
+
+-- what passes 13 to 17
+not-refused : (b : Board) (j s : ℕ) (t : Transfer) → 1 ≤ t .beats → t .beats ≤ masterAt b j .burst
+    → t .address % masterAt b j .width ≡ 0 → postLanes (masterAt b j .width) (t .lanes) (t .beats) ≡ true
+    → targetOf b j (t .address) ≡ s → s < b .«slave_count»
+    → t .address + t .beats * masterAt b j .width ≤ slaveAt b s .base + slaveAt b s .span → transferRefusal b j t ≡ 0
+unfolding transferRefusal wrongBeats unaligned wrongLanes unmapped passesEnd
+not-refused b j s t some few aligned lanes target within end =
+    rw (
+      ne-eqb (t .beats) 0 (λ q. omega arith),
+      le-ltb (masterAt b j .burst) (t .beats) few,
+      eq-eqb (t .address % masterAt b j .width) 0 aligned,
+      lanes,
+      target,
+      ne-eqb s (b .«slave_count») (λ q. omega arith),
+      le-ltb (slaveAt b s .base + slaveAt b s .span) (t .address + t .beats * masterAt b j .width) end,
+    )
+
+-- ---- its length
+
+wait-is : (sl : Slave) (t : Transfer) → t .write ≡ writes sl → 1 + waitOf sl t ≡ quote.longest sl
+unfolding waitOf quote.longest writes
+wait-is sl t e = rw e (go (leb (sl .«read_wait») (sl .«write_wait»)) refl)
+  where
+    go : (c : Bool) → leb (sl .«read_wait») (sl .«write_wait») ≡ c
+        → 1 + cond c (sl .«write_wait») (sl .«read_wait») ≡ 1 + max (sl .«read_wait») (sl .«write_wait»)
+    go true q = omega (arith, leb-true (sl .«read_wait») (sl .«write_wait») q)
+    go false q = omega (arith, leb-false (sl .«read_wait») (sl .«write_wait») q)
+
+module _ (b : Board) (legal : Legal b) (s : ℕ) (hs : s < b .«slave_count») (j : ℕ) where
+  long-is : (a : ℕ) → ownLength (masterAt b j) (slaveAt b s) (transferFor b s j a)
+      ≡ beatsFor b s j a * ratio (masterAt b j) (slaveAt b s) * quote.longest (slaveAt b s)
+  unfolding ownLength accesses transferFor requestFor
+  long-is a =
+      ap (λ (x : ℕ). beatsFor b s j a * ratio (masterAt b j) (slaveAt b s) * x) (wait-is (slaveAt b s) (transferFor b s j a) refl)
+
+  pub last-serve : (a : ℕ) → a ≡ 0
+      → ownLength (masterAt b j) (slaveAt b s) (transferFor b s j a) ≡ serveOf b legal s hs j
+  unfolding quote.serve beatsFor
+  last-serve zero e = long-is zero
+  last-serve (suc a) e = absurd (omega arith)
+
+  pub first-single : (a : ℕ) → 1 ≤ a
+      → (ownLength (masterAt b j) (slaveAt b s) (transferFor b s j a) ≡ singleOf b legal s hs j)
+      × (transferFor b s j a .beats ≤ 1)
+  unfolding quote.single beatsFor transferFor requestFor
+  first-single zero h = absurd (omega arith)
+  first-single (suc a) h = (
+    long-is (suc a)
+        ∙ ap (λ (x : ℕ). x * quote.longest (slaveAt b s)) (one-mul (ratio (masterAt b j) (slaveAt b s))),
+    le-refl 1,
+  )
+
+  -- ---- it is not refused
+
+  module _ (hj : j < b .«master_count») (has : 1 ≤ sharesOf b legal s hs j) where
+    pub base-selects : selects b j (slaveAt b s .base) s ≡ true
+    base-selects =
+        let p = span-pos (slaveAt b s) (slaveAt b s .base) (legal .slave s hs) in
+        selects-of b legal j (slaveAt b s .base) s
+        (record { within = hs; shares = has; inside = record { low = le-refl _; high = omega arith } })
+
+    beats-fit : (a : ℕ) → (1 ≤ beatsFor b s j a) × (beatsFor b s j a ≤ masterAt b j .burst)
+        × (beatsFor b s j a * masterAt b j .width ≤ slaveAt b s .span)
+    unfolding beatsFor quote.mostBeats
+    beats-fit zero =
+        let ma = masterAt b j in
+        let sl = slaveAt b s in (
+          most-some b legal s hs j hj,
+          min-le-left (ma .burst) (sl .span / ma .width),
+          le-trans (mul-le-mul (min-le-right (ma .burst) (sl .span / ma .width)) (le-refl (ma .width)))
+              (div-mul-le-self (sl .span) (ma .width)),
+        )
+    beats-fit (suc a) =
+        let w = width-bound (masterAt b j .width) (legal .master j hj .width) in
+        let u = burst-bound (masterAt b j .burst) (legal .master j hj .burst) in
+        let n = span-bound (slaveAt b s .span) (legal .slave s hs .span) in
+        (le-refl 1, u .0, omega (arith, one-mul (masterAt b j .width)))
+
+    pub request-fits : (a : ℕ) → transferRefusal b j (transferFor b s j a) ≡ 0
+    unfolding transferFor requestFor
+    request-fits a =
+        let f = beats-fit a in
+        let n = legal .slave s hs in
+        let w = legal .master j hj .width in
+        not-refused b j s (transferFor b s j a) (f .0) (f .1)
+        (base-aligned (slaveAt b s .base) (slaveAt b s .span) (masterAt b j .width) (n .aligned) (n .span) w)
+        (full-post (masterAt b j .width) (beatsFor b s j a) w)
+        (selects-target b legal j (slaveAt b s .base) s base-selects) hs (omega (arith, f .2))
