@@ -1,0 +1,384 @@
+//! The board description: the reader, the writer, and the check of a board
+//! that did not come through the reader.
+
+pub const TEXT_LIMIT: usize = 8_192;
+pub const MASTER_LIMIT: usize = 8;
+pub const SLAVE_LIMIT: usize = 16;
+pub const MEMORY_LIMIT: u64 = 65_536;
+
+pub const WIDTHS: [u64; 4] = [1, 2, 4, 8];
+pub const BURSTS: [u64; 7] = [1, 2, 4, 8, 16, 32, 64];
+
+#[derive(Clone, Copy, Default, PartialEq, Eq, Debug)]
+pub struct Master {
+    pub width: u8,
+    pub burst: u8,
+}
+
+#[derive(Clone, Copy, Default, PartialEq, Eq, Debug)]
+pub struct Slave {
+    pub base: u32,
+    pub span: u32,
+    pub width: u8,
+    pub burst: u8,
+    pub read_wait: u8,
+    pub write_wait: u8,
+}
+
+/// A share of 0 says that the pair has no share line.
+#[derive(Clone, Copy, Default, PartialEq, Eq, Debug)]
+pub struct Board {
+    pub master_count: u8,
+    pub slave_count: u8,
+    pub masters: [Master; MASTER_LIMIT],
+    pub slaves: [Slave; SLAVE_LIMIT],
+    pub shares: [[u8; SLAVE_LIMIT]; MASTER_LIMIT],
+}
+
+impl Board {
+    pub fn total_span(&self) -> u64 {
+        self.slaves[..self.slave_count as usize]
+            .iter()
+            .map(|slave| slave.span as u64)
+            .sum()
+    }
+
+    pub fn connected(&self, master: usize, slave: usize) -> bool {
+        self.shares[master][slave] > 0
+    }
+
+    /// "for a master r times wider than the slave", or 1.
+    pub fn ratio(&self, master: usize, slave: usize) -> u64 {
+        let master_width = self.masters[master].width as u64;
+        let slave_width = self.slaves[slave].width as u64;
+        if master_width > slave_width {
+            master_width / slave_width
+        } else {
+            1
+        }
+    }
+}
+
+/// One line of a description with its numbers, not yet judged.
+pub enum Line {
+    Master {
+        width: u64,
+        burst: u64,
+    },
+    Slave {
+        base: u64,
+        span: u64,
+        width: u64,
+        burst: u64,
+        read_wait: u64,
+        write_wait: u64,
+    },
+    Share {
+        master: u64,
+        slave: u64,
+        shares: u64,
+    },
+}
+
+/// Where in a text a refusal was found; lines count from 0.
+#[derive(Clone, Copy, PartialEq, Eq, Debug)]
+pub enum Place {
+    Length,
+    Line(usize),
+    End,
+}
+
+/// "Numbers are decimal, 1 to 10 digits, without a leading zero except 0
+/// itself."
+pub fn number(field: &[u8]) -> Option<u64> {
+    if field.is_empty() || field.len() > 10 {
+        return None;
+    }
+    if field.len() > 1 && field[0] == b'0' {
+        return None;
+    }
+    let mut value = 0u64;
+    for &byte in field {
+        if !byte.is_ascii_digit() {
+            return None;
+        }
+        value = value * 10 + (byte - b'0') as u64;
+    }
+    Some(value)
+}
+
+fn numbers<const N: usize>(fields: &[&[u8]]) -> Option<[u64; N]> {
+    if fields.len() != N {
+        return None;
+    }
+    let mut values = [0; N];
+    for (value, field) in values.iter_mut().zip(fields) {
+        *value = number(field)?;
+    }
+    Some(values)
+}
+
+/// None stands for refusal 1: unknown first word, wrong count of fields, bad
+/// number.
+fn parse_line(line: &[u8]) -> Option<Line> {
+    let fields: Vec<&[u8]> = line.split(|&byte| byte == b',').collect();
+    match fields[0] {
+        b"master" => {
+            let [width, burst] = numbers(&fields[1..])?;
+            Some(Line::Master { width, burst })
+        }
+        b"slave" => {
+            let [base, span, width, burst, read_wait, write_wait] = numbers(&fields[1..])?;
+            Some(Line::Slave {
+                base,
+                span,
+                width,
+                burst,
+                read_wait,
+                write_wait,
+            })
+        }
+        b"share" => {
+            let [master, slave, shares] = numbers(&fields[1..])?;
+            Some(Line::Share {
+                master,
+                slave,
+                shares,
+            })
+        }
+        _ => None,
+    }
+}
+
+/// The lines taken so far.
+#[derive(Default)]
+struct Draft {
+    board: Board,
+    share_lines: usize,
+}
+
+impl Draft {
+    /// Refusals 2 to 7 of one line, lowest first; a good line is taken.
+    fn take(&mut self, line: &Line) -> Result<(), u8> {
+        match *line {
+            Line::Master { width, burst } => self.take_master(width, burst),
+            Line::Slave {
+                base,
+                span,
+                width,
+                burst,
+                read_wait,
+                write_wait,
+            } => self.take_slave([base, span, width, burst, read_wait, write_wait]),
+            Line::Share {
+                master,
+                slave,
+                shares,
+            } => self.take_share(master, slave, shares),
+        }
+    }
+
+    fn take_master(&mut self, width: u64, burst: u64) -> Result<(), u8> {
+        let count = self.board.master_count as usize;
+        if self.board.slave_count > 0 || self.share_lines > 0 || count == MASTER_LIMIT {
+            return Err(2);
+        }
+        if !WIDTHS.contains(&width) || !BURSTS.contains(&burst) {
+            return Err(3);
+        }
+        self.board.masters[count] = Master {
+            width: width as u8,
+            burst: burst as u8,
+        };
+        self.board.master_count += 1;
+        Ok(())
+    }
+
+    fn take_slave(&mut self, values: [u64; 6]) -> Result<(), u8> {
+        let [base, span, width, burst, read_wait, write_wait] = values;
+        let count = self.board.slave_count as usize;
+        if self.board.master_count == 0 || self.share_lines > 0 || count == SLAVE_LIMIT {
+            return Err(2);
+        }
+        if !slave_values_in_range(values) {
+            return Err(3);
+        }
+        if base % span != 0 {
+            return Err(4);
+        }
+        if self.overlaps(base, span) {
+            return Err(5);
+        }
+        if self.board.total_span() + span > MEMORY_LIMIT {
+            return Err(6);
+        }
+        self.board.slaves[count] = Slave {
+            base: base as u32,
+            span: span as u32,
+            width: width as u8,
+            burst: burst as u8,
+            read_wait: read_wait as u8,
+            write_wait: write_wait as u8,
+        };
+        self.board.slave_count += 1;
+        Ok(())
+    }
+
+    fn overlaps(&self, base: u64, span: u64) -> bool {
+        self.board.slaves[..self.board.slave_count as usize]
+            .iter()
+            .any(|earlier| {
+                let earlier_base = earlier.base as u64;
+                let earlier_end = earlier_base + earlier.span as u64;
+                base < earlier_end && earlier_base < base + span
+            })
+    }
+
+    fn take_share(&mut self, master: u64, slave: u64, shares: u64) -> Result<(), u8> {
+        if self.board.slave_count == 0 {
+            return Err(2);
+        }
+        if !(1..=100).contains(&shares) {
+            return Err(3);
+        }
+        if master >= self.board.master_count as u64 || slave >= self.board.slave_count as u64 {
+            return Err(7);
+        }
+        let entry = &mut self.board.shares[master as usize][slave as usize];
+        if *entry > 0 {
+            return Err(7);
+        }
+        *entry = shares as u8;
+        self.share_lines += 1;
+        Ok(())
+    }
+
+    /// "at the end, no master or no slave"
+    fn finish(self) -> Result<Board, u8> {
+        if self.board.master_count == 0 || self.board.slave_count == 0 {
+            return Err(2);
+        }
+        Ok(self.board)
+    }
+}
+
+fn slave_values_in_range(values: [u64; 6]) -> bool {
+    let [base, span, width, burst, read_wait, write_wait] = values;
+    base <= u32::MAX as u64
+        && (8..=65_536).contains(&span)
+        && span.is_power_of_two()
+        && WIDTHS.contains(&width)
+        && BURSTS.contains(&burst)
+        && read_wait <= 255
+        && write_wait <= 255
+}
+
+/// "The length of the text comes first, then lines in order and, for a line,
+/// the lowest number. The absent final line feed counts at the last line."
+pub fn read_with_place(text: &[u8]) -> Result<Board, (u8, Place)> {
+    if text.len() > TEXT_LIMIT {
+        return Err((1, Place::Length));
+    }
+    let mut draft = Draft::default();
+    let mut rest = text;
+    let mut index = 0;
+    while !rest.is_empty() {
+        let place = Place::Line(index);
+        let end = rest
+            .iter()
+            .position(|&byte| byte == b'\n')
+            .ok_or((1, place))?;
+        let line = parse_line(&rest[..end]).ok_or((1, place))?;
+        draft.take(&line).map_err(|number| (number, place))?;
+        rest = &rest[end + 1..];
+        index += 1;
+    }
+    draft.finish().map_err(|number| (number, Place::End))
+}
+
+pub fn read(text: &[u8]) -> Result<Board, u8> {
+    read_with_place(text).map_err(|(number, _)| number)
+}
+
+/// The lines that the writer puts, handed to `each` in their order. Counts
+/// above the arrays give lines too: their order is refused before their
+/// values matter.
+fn each_line(board: &Board, mut each: impl FnMut(Line) -> Result<(), u8>) -> Result<(), u8> {
+    for index in 0..board.master_count as usize {
+        let master = board.masters.get(index).copied().unwrap_or_default();
+        each(Line::Master {
+            width: master.width as u64,
+            burst: master.burst as u64,
+        })?;
+    }
+    for index in 0..board.slave_count as usize {
+        let slave = board.slaves.get(index).copied().unwrap_or_default();
+        each(Line::Slave {
+            base: slave.base as u64,
+            span: slave.span as u64,
+            width: slave.width as u64,
+            burst: slave.burst as u64,
+            read_wait: slave.read_wait as u64,
+            write_wait: slave.write_wait as u64,
+        })?;
+    }
+    for (master, row) in board.shares.iter().enumerate() {
+        for (slave, &shares) in row.iter().enumerate() {
+            if shares > 0 {
+                each(Line::Share {
+                    master: master as u64,
+                    slave: slave as u64,
+                    shares: shares as u64,
+                })?;
+            }
+        }
+    }
+    Ok(())
+}
+
+/// "a description that did not come through the reader is checked for 2 to 7
+/// [...] line by line as the writer would put it"
+pub fn check_board(board: &Board) -> Result<(), u8> {
+    let mut draft = Draft::default();
+    each_line(board, |line| draft.take(&line))?;
+    draft.finish().map(|_| ())
+}
+
+fn line_text(line: &Line) -> String {
+    match line {
+        Line::Master { width, burst } => format!("master,{width},{burst}"),
+        Line::Slave {
+            base,
+            span,
+            width,
+            burst,
+            read_wait,
+            write_wait,
+        } => format!("slave,{base},{span},{width},{burst},{read_wait},{write_wait}"),
+        Line::Share {
+            master,
+            slave,
+            shares,
+        } => format!("share,{master},{slave},{shares}"),
+    }
+}
+
+/// The writer's lines of a board that was read, without their line feeds.
+pub fn write_lines(board: &Board) -> Vec<String> {
+    let mut lines = Vec::new();
+    let result = each_line(board, |line| {
+        lines.push(line_text(&line));
+        Ok(())
+    });
+    debug_assert!(result.is_ok());
+    lines
+}
+
+pub fn write(board: &Board) -> String {
+    let mut text = String::new();
+    for line in write_lines(board) {
+        text.push_str(&line);
+        text.push('\n');
+    }
+    text
+}
