@@ -1,179 +1,48 @@
--- A board that the check accepts is legal: reading its own lines gives its own entries, line by line.
+-- The check accepts exactly the legal boards.
 -- Assumes nothing.
-use mathlib.Core.Path.{_≡_, refl, sym, ap, _∙_}
-use mathlib.Core.Bool.{Bool, true, false, cond, _||_, or-true, or-false}
-use mathlib.Core.List.{List, [], _∷_, _++_}
+use mathlib.Core.Path.{_≡_, ap}
 use mathlib.Core.Logic.{_≢_}
-use Prim.Native.Nat.{ℕ, zero, suc, _+_, _*_, _/_, _%_, _≤_, _<_}
-use native.Mathlib.Decide.{ℕ-discrete}
-use native.Mathlib.Numerals.{add-one}
+use Prim.Native.Nat.{ℕ, suc, _+_, _*_, _/_, _%_, _≤_, _<_}
 use native.Mathlib.Omega.{arith}
-use lib.Dec.{ltb, eqb}
-use lib.ListN.{getD}
-use borrow.Author.Tests.{ne-eqb, lt-ltb}
-use Rattle.laws.specs.Lists.{gather, table, some}
-use Rattle.laws.proofs.FrontLaws.{front, front-none, front-next, front-skip, front-all, front-there}
+use lib.ListN.{getD, take}
+use borrow.Author.Tests.{le-ltb, le-leb, lt-leb, eq-eqb, ne-eqb}
+use Rattle.laws.specs.Lists.{some}
+use Rattle.laws.proofs.FrontLaws.{front, front-there, front-blank}
 use Rattle.laws.proofs.ListLaws.{getD-table}
 use Rattle.board.specs.declared.Board.{Board}
-use Rattle.board.specs.declared.Item.{Item}
-use Rattle.board.specs.declared.Item.the-variants.{MasterLine, SlaveLine, ShareLine}
 use Rattle.board.specs.declared.Reading.{Reading}
-use Rattle.board.specs.Records.{noMaster, noSlave, noBoard, masterAt, slaveAt, memoryLength, startOf}
-use Rattle.board.specs.Rules.{itemRefusal, withItem, withMaster, withSlave, withShare, isShare}
-use Rattle.board.specs.Rules.{refused, start, taken, step, run, finish, described}
-use Rattle.board.specs.Items.{masterItem, slaveItem, shareItem, items, checkBoard}
+use Rattle.board.specs.Records.{noMaster, noSlave, masterAt, slaveAt, totalSpan, startOf, memoryLength}
+use Rattle.board.specs.Rules.{slaveValues, masterRefusal, slaveRefusal, shareRefusal, itemRefusal}
+use Rattle.board.specs.Rules.{start, run, finish, described}
+use Rattle.board.specs.Items.{masterItem, slaveItem, items, checkBoard}
 use Rattle.board.specs.Rebuilt.{trimmed, shared}
 use Rattle.board.proofs.Legal.{Legal}
-use Rattle.board.proofs.RuleLaws.{master-taken, slave-taken}
-use Rattle.board.proofs.RunLaws.{step-taken, run-append}
-use Rattle.board.proofs.SpanLaws.{total-same}
+use Rattle.board.proofs.SpanLaws.{all-apart, total-suc, total-same, total-fewer}
 use Rattle.board.proofs.Sound.{step-accepted, run-accepted, finish-accepted, described-legal}
-
--- what has been read after b's first m masters, its first s slaves and the first k places of its shares
-unfoldable pub readTo : Board → ℕ → ℕ → ℕ → Reading
-readTo b m s k = record {
-  number = 0;
-  sharing = some (λ i. ltb 0 (getD (b .shares) i 0)) k;
-  board = record {
-    «master_count» = m;
-    «slave_count» = s;
-    masters = front (masterAt b) noMaster 8 m;
-    slaves = front (slaveAt b) noSlave 16 s;
-    shares = front (λ i. getD (b .shares) i 0) 0 128 k;
-  };
-}
-
--- the line at place k of the shares, where the pair is connected
-abbrev pub shareLine : Board → ℕ → Item
-shareLine b k = ShareLine (k / 16) (k % 16) (getD (b .shares) k 0)
-
-share-line : (b : Board) (k : ℕ) → getD (b .shares) k 0 ≢ 0 → shareItem (b .shares) k ≡ shareLine b k ∷ []
-unfolding shareItem
-share-line b k z = rw (ne-eqb _ _ z)
-
-module _ (b : Board) where
-  pub read-none : start ≡ readTo b 0 0 0
-  unfolding start refused noBoard readTo some
-  read-none =
-      rw (front-none (masterAt b) noMaster 8, front-none (slaveAt b) noSlave 16, front-none (λ i. getD (b .shares) i 0) 0 128)
-
-  -- at the end: the board, trimmed
-  pub read-all : readTo b (b .«master_count») (b .«slave_count») 128 ≡ record { number = 0; sharing = shared b; board = trimmed b }
-  unfolding readTo shared trimmed front
-  read-all = rw (← front-all (λ i. getD (b .shares) i 0) 0 128)
-
-  -- one line more
-  pub read-master : (m : ℕ) → itemRefusal (readTo b m 0 0) (masterItem (b .masters) m) ≡ 0
-      → step (readTo b m 0 0) (masterItem (b .masters) m) ≡ readTo b (suc m) 0 0
-  unfolding readTo masterItem itemRefusal taken withItem withMaster isShare some
-  read-master m e =
-      let l : m < 8 = master-taken _ _ _ e .room in
-      sym (step-taken _ _ refl refl e) ∙ rw (front-next (masterAt b) noMaster 8 m l, add-one m)
-
-  pub read-slave : (m s : ℕ) → itemRefusal (readTo b m s 0) (slaveItem (b .slaves) s) ≡ 0
-      → step (readTo b m s 0) (slaveItem (b .slaves) s) ≡ readTo b m (suc s) 0
-  unfolding readTo slaveItem itemRefusal taken withItem withSlave isShare some
-  read-slave m s e =
-      let l : s < 16 = slave-taken _ _ _ _ _ _ _ _ e .room in
-      sym (step-taken _ _ refl refl e) ∙ rw (front-next (slaveAt b) noSlave 16 s l, add-one s)
-
-  -- one place of the shares more
-  module _ (m s k : ℕ) (h : k < 128) where
-    read-zero : getD (b .shares) k 0 ≡ 0 → run (readTo b m s k) (shareItem (b .shares) k) ≡ readTo b m s (suc k)
-    unfolding run shareItem readTo some
-    read-zero z = rw (z, front-skip (λ i. getD (b .shares) i 0) 0 128 k h z, add-one k, or-false)
-
-    read-share : getD (b .shares) k 0 ≢ 0 → itemRefusal (readTo b m s k) (shareLine b k) ≡ 0
-        → run (readTo b m s k) (shareItem (b .shares) k) ≡ readTo b m s (suc k)
-    unfolding run readTo some taken withItem withShare isShare
-    read-share z e =
-        let i : 16 * (k / 16) + k % 16 ≡ k = omega arith in
-        rw (share-line b k z)
-        (sym (step-taken _ _ refl refl e)
-        ∙ rw (i, front-next (λ i. getD (b .shares) i 0) 0 128 k h, add-one k, lt-ltb 0 (getD (b .shares) k 0) (omega arith), or-true))
-
--- lines that lead from one reading to another, and a line that is not refused, where E tells that none was refused
-record Leads (E : Reading → Type 0) (o : Reading) (xs : List Item) (p : Reading) : Type 0 where
-  on : E (run o xs) → run o xs ≡ p
-
-abbrev pub Clear : (Reading → Type 0) → Reading → Item → Type 0
-Clear E r x = E (step r x) → itemRefusal r x ≡ 0
-
-module _ (E : Reading → Type 0) (back : (r : Reading) (xs : List Item) → E (run r xs) → E r) where
-  leads-on : {o p q : Reading} {xs ys : List Item} → Leads E o xs p → Leads E p ys q → Leads E o (xs ++ ys) q
-  leads-on {o} {p} {q} {xs} {ys} f g = record { on = go }
-    where
-      go : E (run o (xs ++ ys)) → run o (xs ++ ys) ≡ q
-      go e =
-          let a : E (run (run o xs) ys) = rw run-append at e in
-          let w : run o xs ≡ p = f .on (back (run o xs) ys a) in
-          rw (run-append, w) (g .on (rw w at a))
-
-  walk : (f : ℕ → List Item) (at : ℕ → Reading) (n : ℕ) → ((i : ℕ) → i < n → Leads E (at i) (f i) (at (suc i)))
-      → Leads E (at 0) (gather f n) (at n)
-  unfolding run gather
-  walk f at zero h = record { on = λ e. refl }
-  walk f at (suc n) h = leads-on (walk f at n (λ i l. h i (omega arith))) (h n (omega arith))
-
-  -- the lines of a board, each not refused
-  module _ (b : Board) where
-    read-place : (m s k : ℕ) → k < 128 → (getD (b .shares) k 0 ≢ 0 → Clear E (readTo b m s k) (shareLine b k))
-        → Leads E (readTo b m s k) (shareItem (b .shares) k) (readTo b m s (suc k))
-    unfolding run
-    read-place m s k l h = record { on = go (ℕ-discrete (getD (b .shares) k 0) 0) }
-      where
-        go : Dec (getD (b .shares) k 0 ≡ 0) → E (run (readTo b m s k) (shareItem (b .shares) k))
-            → run (readTo b m s k) (shareItem (b .shares) k) ≡ readTo b m s (suc k)
-        go (yes z) e = read-zero b m s k l z
-        go (no z) e = read-share b m s k l z (h z (rw (share-line b k z) at e))
-
-    pub read-items : ((m : ℕ) → m < b .«master_count» → Clear E (readTo b m 0 0) (masterItem (b .masters) m))
-        → ((s : ℕ) → s < b .«slave_count» → Clear E (readTo b (b .«master_count») s 0) (slaveItem (b .slaves) s))
-        → ((k : ℕ) → k < 128 → getD (b .shares) k 0 ≢ 0
-        → Clear E (readTo b (b .«master_count») (b .«slave_count») k) (shareLine b k))
-        → E (run start (items b)) → run start (items b) ≡ readTo b (b .«master_count») (b .«slave_count») 128
-    unfolding items table run
-    read-items f g h =
-        let mc = b .«master_count» in
-        let sc = b .«slave_count» in
-        rw (read-none b)
-        (leads-on
-        (walk (λ m. masterItem (b .masters) m ∷ []) (λ m. readTo b m 0 0) mc
-        (λ m l. record { on = λ e. read-master b m (f m l e) }))
-        (leads-on
-        (walk (λ s. slaveItem (b .slaves) s ∷ []) (λ s. readTo b mc s 0) sc
-        (λ s l. record { on = λ e. read-slave b mc s (g s l e) }))
-        (walk (shareItem (b .shares)) (λ k. readTo b mc sc k) 128 (λ k l. read-place mc sc k l (h k l))))
-        .on)
-
-module _ (b : Board) (e : checkBoard b ≡ 0) where
-  -- the lines of an accepted board describe it, with zeros behind its counts
-  pub rebuilt : described (items b) ≡ record { number = 0; sharing = shared b; board = trimmed b }
-  unfolding checkBoard described
-  rebuilt =
-      let a = finish-accepted (run start (items b)) e in
-      a .3
-      ∙ read-items (λ r. r .number ≡ 0) run-accepted b (λ m l n. step-accepted _ _ n .1) (λ s l n. step-accepted _ _ n .1)
-      (λ k l z n. step-accepted _ _ n .1) (a .0)
-      ∙ read-all b
-
-  legal-trimmed : Legal (trimmed b)
-  unfolding checkBoard
-  legal-trimmed = rw rebuilt at (described-legal (items b) e)
+use Rattle.board.proofs.OwnLines.{readTo, shareLine, read-items}
 
 -- a trimmed board has the entries of the board
 module _ (b : Board) where
   pub trimmed-master : b .«master_count» ≤ 8 → (m : ℕ) → m < b .«master_count» → masterAt (trimmed b) m ≡ masterAt b m
-  unfolding trimmed
-  trimmed-master h m l = let r : m < 8 = omega arith in rw (getD-table, lt-ltb m (b .«master_count») l)
+  unfolding trimmed front
+  trimmed-master h m l = front-there (masterAt b) noMaster 8 (b .«master_count») m l (omega arith)
 
   pub trimmed-slave : b .«slave_count» ≤ 16 → (s : ℕ) → s < b .«slave_count» → slaveAt (trimmed b) s ≡ slaveAt b s
-  unfolding trimmed
-  trimmed-slave h s l = let r : s < 16 = omega arith in rw (getD-table, lt-ltb s (b .«slave_count») l)
+  unfolding trimmed front
+  trimmed-slave h s l = front-there (slaveAt b) noSlave 16 (b .«slave_count») s l (omega arith)
 
   pub trimmed-share : (i : ℕ) → i < 128 → getD (trimmed b .shares) i 0 ≡ getD (b .shares) i 0
   unfolding trimmed
-  trimmed-share i l = rw getD-table
+  trimmed-share i l = getD-table _ 128 i 0 l
+
+-- an accepted board's own lines describe the board, trimmed, and what lines describe is legal
+legal-trimmed : (b : Board) → checkBoard b ≡ 0 → Legal (trimmed b)
+unfolding checkBoard described
+legal-trimmed b e =
+    let a = finish-accepted (run start (items b)) e in
+    let read = read-items (λ r. r .number ≡ 0) run-accepted b (λ m l n. step-accepted _ _ n .1)
+    (λ s l n. step-accepted _ _ n .1) (λ k l z n. step-accepted _ _ n .1) (a .0) in
+    rw (a .3, read) at (described-legal (items b) e)
 
 pub accepted-legal : (b : Board) → checkBoard b ≡ 0 → Legal b
 unfolding trimmed memoryLength startOf
@@ -191,3 +60,76 @@ accepted-legal b e =
       total = rw (total-same (trimmed b .slaves) (b .slaves) (b .«slave_count») entry) at (k .total);
       shares = λ i l. rw (trimmed-share b i l) at (k .shares i l);
     }
+
+-- no line of a legal board is refused
+module _ (b : Board) (k : Legal b) where
+  master-clear : (m : ℕ) → m < b .«master_count» → itemRefusal (readTo b m 0 0) (masterItem (b .masters) m) ≡ 0
+  unfolding readTo masterItem itemRefusal masterRefusal
+  master-clear m l =
+      let x = k .master m l in
+      let few = k .fewMasters in
+      rw (lt-leb 8 m (omega arith), x .width, x .burst)
+
+  slave-clear : (s : ℕ) → s < b .«slave_count»
+      → itemRefusal (readTo b (b .«master_count») s 0) (slaveItem (b .slaves) s) ≡ 0
+  unfolding readTo some slaveItem itemRefusal slaveRefusal slaveValues memoryLength startOf
+  slave-clear s l =
+      let x = k .slave s l in
+      let y = slaveAt b s in
+      let few = k .fewSlaves in
+      let earlier = front (slaveAt b) noSlave 16 s in
+      let entry : (i : ℕ) → i < s → getD earlier i noSlave ≡ slaveAt b i =
+      λ i h. front-there (slaveAt b) noSlave 16 s i h (omega arith) in
+      let apart = all-apart (y .base) (y .span) s earlier (λ i h. rw (entry i h) (k .apart i s h l)) in
+      let total : totalSpan (take s earlier) + y .span ≤ 65536 =
+      omega (
+        arith,
+        total-same earlier (b .slaves) s entry,
+        total-suc (b .slaves) s,
+        total-fewer (b .slaves) (b .«slave_count») (suc s) l,
+        k .total,
+      ) in
+      rw (
+        ne-eqb (b .«master_count») 0 (omega (arith, k .someMaster)),
+        lt-leb 16 s (omega arith),
+        le-leb _ _ (x .base),
+        x .span,
+        x .width,
+        x .burst,
+        le-leb _ _ (x .readWait),
+        le-leb _ _ (x .writeWait),
+        eq-eqb _ _ (x .aligned),
+        apart,
+        le-ltb _ _ total,
+      )
+
+  share-clear : (i : ℕ) → i < 128 → getD (b .shares) i 0 ≢ 0
+      → itemRefusal (readTo b (b .«master_count») (b .«slave_count») i) (shareLine b i) ≡ 0
+  unfolding readTo itemRefusal shareRefusal
+  share-clear i l z =
+      let p = k .shares i l z in
+      let n = getD (b .shares) i 0 in
+      let e : 16 * (i / 16) + i % 16 ≡ i = omega arith in
+      rw (
+        ne-eqb (b .«slave_count») 0 (omega (arith, k .someSlave)),
+        le-ltb n 1 (omega arith),
+        le-ltb 100 n (p .0),
+        lt-leb (b .«master_count») (i / 16) (p .1),
+        lt-leb (b .«slave_count») (i % 16) (p .2),
+        e,
+        front-blank (λ j. getD (b .shares) j 0) 0 128 i i (omega arith) l,
+      )
+
+  pub legal-described : described (items b) ≡ record { number = 0; sharing = shared b; board = trimmed b }
+  unfolding described finish trimmed
+  legal-described =
+      rw (
+        read-items (λ r. Unit {0}) (λ r xs e. tt) b (λ m l _. master-clear m l) (λ s l _. slave-clear s l)
+            (λ i l z _. share-clear i l z) tt,
+        ne-eqb (b .«master_count») 0 (omega (arith, k .someMaster)),
+        ne-eqb (b .«slave_count») 0 (omega (arith, k .someSlave)),
+      )
+
+  pub legal-accepted : checkBoard b ≡ 0
+  unfolding checkBoard
+  legal-accepted = ap (λ (r : Reading). r .number) legal-described

@@ -4,4 +4,6 @@ pub mod Legal
 pub mod SpanLaws
 pub mod StartLaws
 pub mod Sound
+pub mod OwnLines
 pub mod Accepted
+pub mod Rebuilt

@@ -1,6 +1,6 @@
 -- Whatever lines are read: while none is refused, the board so far keeps the rules, and zeros stand behind its counts.
 -- Assumes nothing.
-use mathlib.Core.Path.{_≡_, refl, sym, ap, _∙_}
+use mathlib.Core.Path.{_≡_, refl, _∙_}
 use mathlib.Core.Bool.{Bool, true, false, cond, not, _&&_, _||_}
 use mathlib.Core.List.{List, [], _∷_}
 use mathlib.Core.Logic.{_≢_}
@@ -8,7 +8,7 @@ use Prim.Native.Nat.{ℕ, _+_, _*_, _/_, _%_, _≤_, _<_}
 use native.Mathlib.Numerals.{add-one}
 use native.Mathlib.Omega.{arith}
 use lib.Dec.{leb, ltb, eqb}
-use lib.ListN.{length, getD, take, set, length-set}
+use lib.ListN.{length, getD, length-set}
 use lib.Seq.{getD-set-same, getD-set-other, take-set-le}
 use borrow.Author.Tests.{eqb-true, eqb-false, leb-true, not-false}
 use Rattle.laws.specs.Lists.{member}
@@ -19,8 +19,8 @@ use Rattle.board.specs.declared.Board.{Board}
 use Rattle.board.specs.declared.Item.{Item}
 use Rattle.board.specs.declared.Item.the-variants.{Malformed, MasterLine, SlaveLine, ShareLine}
 use Rattle.board.specs.declared.Reading.{Reading}
-use Rattle.board.specs.Records.{noMaster, noSlave, noBoard, masterAt, slaveAt, sharesAt, totalSpan, startOf, memoryLength}
-use Rattle.board.specs.Rules.{widths, bursts, spans, slaveValues, meets, overlaps}
+use Rattle.board.specs.Records.{noMaster, noSlave, noBoard, masterAt, slaveAt, totalSpan, startOf, memoryLength}
+use Rattle.board.specs.Rules.{widths, bursts, spans, slaveValues, meets}
 use Rattle.board.specs.Rules.{masterRefusal, slaveRefusal, shareRefusal, itemRefusal, withMaster, withSlave, withShare}
 use Rattle.board.specs.Rules.{withItem, refused, start, taken, step, run, finish, described}
 use Rattle.board.proofs.Legal.{LegalMaster, LegalSlave, Legal}

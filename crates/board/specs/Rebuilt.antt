@@ -1,7 +1,6 @@
 -- The board that the writer's lines of a board describe: the same, with zeros behind its counts.
 -- Assumes nothing.
 use mathlib.Core.Bool.{Bool, cond}
-use Prim.Native.Nat.{ℕ}
 use lib.Dec.{ltb}
 use lib.ListN.{getD}
 use Rattle.laws.specs.Lists.{table, some}
