@@ -1,0 +1,200 @@
+-- Lines written and read again, and how many bytes the lines of a legal board take.
+-- Assumes nothing.
+use mathlib.Core.Bool.{Bool, true, false, cond}
+use mathlib.Core.List.{List, [], _∷_, _++_, map}
+use mathlib.Core.Logic.{_≢_}
+use mathlib.Core.Path.{_≡_, refl, ap, ap₂, sym, _∙_}
+use Prim.Native.Nat.{ℕ, zero, suc, _+_, _*_, _/_, _%_, _≤_, _<_}
+use native.Mathlib.Omega.{arith}
+use lib.Dec.{eqb}
+use lib.ListN.{length, getD, length-append}
+use borrow.Author.Tests.{eqb-true, eqb-false}
+use Rattle.laws.specs.Bytes.{bytesOf}
+use Rattle.laws.specs.Lists.{member, same, gather, table}
+use Rattle.laws.proofs.TextLists.{same-refl}
+use Rattle.text.specs.Digits.{digits, fieldsText, lineText}
+use Rattle.text.specs.Fields.{comma, lineFeed, split, numbersOf}
+use Rattle.text.proofs.Decimal.{digits-most, line-length}
+use Rattle.text.proofs.Round.{Short, numbered, split-fields, split-line, numbers-digits}
+use Rattle.board.specs.declared.Board.{Board}
+use Rattle.board.specs.declared.Item.{Item}
+use Rattle.board.specs.declared.Item.the-variants.{Malformed, MasterLine, SlaveLine, ShareLine}
+use Rattle.board.specs.Records.{masterAt, slaveAt}
+use Rattle.board.specs.Items.{masterItem, slaveItem, shareItem, items}
+use Rattle.board.proofs.Legal.{Legal}
+use Rattle.board.proofs.RuleLaws.{width-bound, burst-bound, span-bound}
+use Rattle.description.specs.Reader.{masterWord, slaveWord, shareWord, masterLine, slaveLine, shareLine}
+use Rattle.description.specs.Reader.{itemOf, itemOfFields, itemsOf, itemsOfPieces, unended}
+use Rattle.description.specs.Writer.{itemText, itemsText, writeText}
+use Rattle.description.specs.Longest.{longest}
+use Rattle.description.proofs.ReadLaws.{items-more}
+use Rattle.description.proofs.WriteLaws.{gather-most, lines-most, length-parts, pair-none, pair-some}
+
+-- each number of the line has at most 10 digits, as every number has that a line can hold
+abbrev pub Writable : Item → Type 0
+Writable Malformed = ⊥
+Writable (MasterLine w u) = Short (w ∷ u ∷ [])
+Writable (SlaveLine a n w u rw′ ww) = Short (a ∷ n ∷ w ∷ u ∷ rw′ ∷ ww ∷ [])
+Writable (ShareLine m s n) = Short (m ∷ s ∷ n ∷ [])
+
+abbrev pub AllWritable : List Item → Type 0
+AllWritable [] = Unit {0}
+AllWritable (x ∷ xs) = Writable x × AllWritable xs
+
+-- one line, with more text behind it
+module _ (word ns rest : List ℕ) (feed : member lineFeed word ≡ false) (part : member comma word ≡ false) where
+  line-read : itemsOf (lineText word ns ++ rest) ≡ itemOfFields (word ∷ map digits ns) ∷ itemsOf rest
+  unfolding itemsOf itemOf
+  line-read =
+      ap itemsOfPieces (split-line word ns rest feed) ∙ items-more (word ++ fieldsText ns) rest
+      ∙ ap (λ (fs : List (List ℕ)). itemOfFields fs ∷ itemsOf rest) (split-fields word ns part)
+
+pub item-read : (x : Item) (rest : List ℕ) → Writable x → itemsOf (itemText x ++ rest) ≡ x ∷ itemsOf rest
+unfolding itemText itemOfFields masterLine slaveLine shareLine bytesOf member same
+item-read Malformed rest h = absurd h
+item-read (MasterLine w u) rest h =
+    line-read masterWord (w ∷ u ∷ []) rest refl refl ∙ rw (numbers-digits (w ∷ u ∷ []) (omega arith) h)
+item-read (SlaveLine a n w u rw′ ww) rest h =
+    line-read slaveWord (a ∷ n ∷ w ∷ u ∷ rw′ ∷ ww ∷ []) rest refl refl
+    ∙ rw (numbers-digits (a ∷ n ∷ w ∷ u ∷ rw′ ∷ ww ∷ []) (omega arith) h)
+item-read (ShareLine m s n) rest h =
+    line-read shareWord (m ∷ s ∷ n ∷ []) rest refl refl ∙ rw (numbers-digits (m ∷ s ∷ n ∷ []) (omega arith) h)
+
+-- the lines of a written text are the lines that were written
+pub items-read : (xs : List Item) → AllWritable xs → itemsOf (itemsText xs) ≡ xs
+unfolding itemsText itemsOf itemsOfPieces unended split
+items-read [] h = refl
+items-read (x ∷ xs) h = item-read x (itemsText xs) (h .0) ∙ ap (λ (l : List Item). x ∷ l) (items-read xs (h .1))
+
+all-append : (xs ys : List Item) → AllWritable xs → AllWritable ys → AllWritable (xs ++ ys)
+all-append [] ys p q = q
+all-append (x ∷ xs) ys p q = (p .0, all-append xs ys (p .1) q)
+
+all-gather : (f : ℕ → List Item) (n : ℕ) → ((i : ℕ) → i < n → AllWritable (f i)) → AllWritable (gather f n)
+unfolding gather
+all-gather f zero h = tt
+all-gather f (suc n) h = all-append (gather f n) (f n) (all-gather f n (λ i l. h i (omega arith))) (h n (omega arith))
+
+all-table : (f : ℕ → Item) (n : ℕ) → ((i : ℕ) → i < n → Writable (f i)) → AllWritable (table f n)
+unfolding table
+all-table f n h = all-gather (λ i. f i ∷ []) n (λ i l. (h i l, tt))
+
+-- one field more
+length-field : (n : ℕ) (ns : List ℕ) → length (fieldsText (n ∷ ns)) ≡ 1 + length (digits n) + length (fieldsText ns)
+unfolding fieldsText
+length-field n ns = omega (arith, length-append (digits n) (fieldsText ns))
+
+-- a line that can be read again, of so many bytes at most
+record Line (most : ℕ) (x : Item) : Type 0 where
+  writable : Writable x
+  short : length (itemText x) ≤ most
+
+-- The lines of a legal board.
+module _ (b : Board) (k : Legal b) where
+  master-line : (m : ℕ) → m < b .«master_count» → Line 12 (masterItem (b .masters) m)
+  unfolding masterItem itemText fieldsText bytesOf
+  master-line m l =
+      let y = masterAt b m in
+      let w = width-bound (y .width) (k .master m l .width) in
+      let u = burst-bound (y .burst) (k .master m l .burst) in
+      record {
+        writable = (omega arith, (omega arith, tt));
+        short =
+            omega (
+              arith,
+              line-length masterWord (y .width ∷ y .burst ∷ []),
+              length-field (y .width) (y .burst ∷ []),
+              length-field (y .burst) [],
+              digits-most 0 (y .width) (omega arith),
+              digits-most 1 (y .burst) (omega arith),
+            );
+      }
+
+  slave-line : (s : ℕ) → s < b .«slave_count» → Line 36 (slaveItem (b .slaves) s)
+  unfolding slaveItem itemText fieldsText bytesOf
+  slave-line s l =
+      let y = slaveAt b s in
+      let x = k .slave s l in
+      let n = span-bound (y .span) (x .span) in
+      let w = width-bound (y .width) (x .width) in
+      let u = burst-bound (y .burst) (x .burst) in
+      let waits = y .«read_wait» ∷ y .«write_wait» ∷ [] in
+      record {
+        writable = (omega arith, (omega arith, (omega arith, (omega arith, (omega arith, (omega arith, tt))))));
+        short =
+            omega (
+              arith,
+              line-length slaveWord (y .base ∷ y .span ∷ y .width ∷ y .burst ∷ waits),
+              length-field (y .base) (y .span ∷ y .width ∷ y .burst ∷ waits),
+              length-field (y .span) (y .width ∷ y .burst ∷ waits),
+              length-field (y .width) (y .burst ∷ waits),
+              length-field (y .burst) waits,
+              length-field (y .«read_wait») (y .«write_wait» ∷ []),
+              length-field (y .«write_wait») [],
+              digits-most 9 (y .base) (omega arith),
+              digits-most 4 (y .span) (omega arith),
+              digits-most 0 (y .width) (omega arith),
+              digits-most 1 (y .burst) (omega arith),
+              digits-most 2 (y .«read_wait») (omega arith),
+              digits-most 2 (y .«write_wait») (omega arith),
+            );
+      }
+
+  share-line : (i : ℕ) → i < 128 → getD (b .shares) i 0 ≢ 0 → Line 15 (ShareLine (i / 16) (i % 16) (getD (b .shares) i 0))
+  unfolding itemText fieldsText bytesOf
+  share-line i l z =
+      let p = k .shares i l z in
+      let few = k .fewMasters in
+      let n = getD (b .shares) i 0 in
+      record {
+        writable = (omega arith, (omega arith, (omega arith, tt)));
+        short =
+            omega (
+              arith,
+              line-length shareWord (i / 16 ∷ i % 16 ∷ n ∷ []),
+              length-field (i / 16) (i % 16 ∷ n ∷ []),
+              length-field (i % 16) (n ∷ []),
+              length-field n [],
+              digits-most 0 (i / 16) (omega arith),
+              digits-most 1 (i % 16) (omega arith),
+              digits-most 2 n (omega arith),
+            );
+      }
+
+  pair-writable : (i : ℕ) → i < 128 → AllWritable (shareItem (b .shares) i)
+  unfolding shareItem
+  pair-writable i l = go (eqb (getD (b .shares) i 0) 0) refl
+    where
+      go : (t : Bool) → eqb (getD (b .shares) i 0) 0 ≡ t
+          → AllWritable (cond t [] (ShareLine (i / 16) (i % 16) (getD (b .shares) i 0) ∷ []))
+      go true e = tt
+      go false e = (share-line i l (eqb-false _ _ e) .writable, tt)
+
+  pair-short : (i : ℕ) → i < 128 → length (itemsText (shareItem (b .shares) i)) ≤ 15
+  pair-short i l = go (eqb (getD (b .shares) i 0) 0) refl
+    where
+      go : (t : Bool) → eqb (getD (b .shares) i 0) 0 ≡ t → length (itemsText (shareItem (b .shares) i)) ≤ 15
+      go true e = rw (pair-none (b .shares) i (eqb-true _ _ e)) (omega arith)
+      go false e = rw (pair-some (b .shares) i (eqb-false _ _ e)) (share-line i l (eqb-false _ _ e) .short)
+
+  pub items-writable : AllWritable (items b)
+  unfolding items
+  items-writable =
+      all-append (table (masterItem (b .masters)) (b .«master_count»)) _
+      (all-table _ _ (λ m l. master-line m l .writable))
+      (all-append (table (slaveItem (b .slaves)) (b .«slave_count»)) _
+      (all-table _ _ (λ s l. slave-line s l .writable))
+      (all-gather _ _ pair-writable))
+
+  pub items-short : length (writeText b) ≤ longest
+  unfolding longest
+  items-short =
+      omega (
+        arith,
+        length-parts b,
+        lines-most (masterItem (b .masters)) 12 (b .«master_count») (λ m l. master-line m l .short),
+        lines-most (slaveItem (b .slaves)) 36 (b .«slave_count») (λ s l. slave-line s l .short),
+        gather-most (shareItem (b .shares)) 15 128 pair-short,
+        k .fewMasters,
+        k .fewSlaves,
+      )

@@ -1,0 +1,114 @@
+-- The round trip: a board written and read, a text read, written and read again, and how long a board's text can be.
+-- A board is accepted where `checkBoard` is 0, a text where `readText` answers 0.
+-- Assumes nothing.
+use mathlib.Core.Bool.{Bool, true, false, cond, not}
+use mathlib.Core.List.{List}
+use mathlib.Core.Path.{_≡_, refl, ap, ap₂, sym, _∙_}
+use Prim.Native.Nat.{ℕ, _≤_}
+use native.Mathlib.Omega.{arith}
+use lib.Dec.{ltb, eqb}
+use lib.ListN.{length}
+use borrow.Author.Tests.{le-ltb, eqb-true}
+use Rattle.board.specs.declared.Board.{Board}
+use Rattle.board.specs.declared.Item.{Item}
+use Rattle.board.specs.declared.Reading.{Reading}
+use Rattle.board.specs.Rules.{described, refused}
+use Rattle.board.specs.Items.{items, checkBoard}
+use Rattle.board.specs.Rebuilt.{trimmed}
+use Rattle.board.proofs.Accepted.{accepted-legal}
+use Rattle.board.proofs.Rebuilt.{rebuilt, items-trimmed, described-accepted, described-trimmed}
+use Rattle.description.specs.declared.Parsed.{Parsed}
+use Rattle.description.specs.Reader.{itemsOf, reading, readText}
+use Rattle.description.specs.Writer.{itemsText, writeText, writeRefusal}
+use Rattle.description.specs.Longest.{longest}
+use Rattle.description.proofs.ReadLaws.{reading-short}
+use Rattle.description.proofs.LineTrip.{items-read, items-writable, items-short}
+
+-- "Text, at most 8,192 bytes": no accepted board's text is near that
+pub longest-fits : longest ≤ 8192
+unfolding longest
+longest-fits = omega arith
+
+-- what a text is read to, by its lines
+lines-answer : (t : List ℕ) (r : Reading) → reading t ≡ r → readText t ≡ record { number = r .number; board = r .board }
+unfolding readText
+lines-answer t r e = ap (λ (q : Reading). record { number = q .number; board = q .board }) e
+
+-- An accepted board.
+module _ (b : Board) (accepted : checkBoard b ≡ 0) where
+  -- its text has at most `longest` bytes
+  pub text-short : length (writeText b) ≤ longest
+  text-short = items-short b (accepted-legal b accepted)
+
+  -- its text is read to it, with zeros behind its counts
+  pub read-written : readText (writeText b) ≡ record { number = 0; board = trimmed b }
+  unfolding writeText
+  read-written =
+      let short : length (writeText b) ≤ 8192 = omega (arith, text-short, longest-fits) in
+      lines-answer (writeText b) _
+      (reading-short (writeText b) short
+      ∙ ap described (items-read (items b) (items-writable b (accepted-legal b accepted)))
+      ∙ rebuilt b accepted)
+
+  -- and that board has the same text
+  pub written-trimmed : writeText (trimmed b) ≡ writeText b
+  unfolding writeText
+  written-trimmed = ap itemsText (items-trimmed b accepted)
+
+-- an output of `longest` bytes has room for every accepted board: `write` refuses what the check refuses, and no more
+pub text-room : (b : Board) (out : List ℕ) → longest ≤ length out → writeRefusal b out ≡ checkBoard b
+unfolding writeRefusal
+text-room b out h = go (eqb (checkBoard b) 0) refl
+  where
+    go : (t : Bool) → eqb (checkBoard b) 0 ≡ t
+        → cond (not t) (checkBoard b) (cond (ltb (length out) (length (writeText b))) 10 0) ≡ checkBoard b
+    go true e =
+        let accepted = eqb-true _ _ e in
+        let g : length (writeText b) ≤ length out = omega (arith, text-short b accepted) in
+        rw (le-ltb (length out) (length (writeText b)) g) (sym accepted)
+    go false e = refl
+
+-- "Two descriptions are the same when the writer's lines for them are": then they differ only behind their counts
+pub same-boards :
+    (b c : Board) → checkBoard b ≡ 0 → checkBoard c ≡ 0 → writeText b ≡ writeText c → trimmed b ≡ trimmed c
+same-boards b c p q e =
+    ap (λ (r : Parsed). r .board) (sym (read-written b p) ∙ ap readText e ∙ read-written c q)
+
+-- An accepted text.
+module _ (t : List ℕ) (accepted : readText t .number ≡ 0) where
+  reading-lines : reading t ≡ described (itemsOf t)
+  unfolding readText reading refused
+  reading-lines = go (ltb 8192 (length t)) accepted
+    where
+      go : (c : Bool) → cond c (refused 1) (described (itemsOf t)) .number ≡ 0
+          → cond c (refused 1) (described (itemsOf t)) ≡ described (itemsOf t)
+      go true e = absurd (omega arith)
+      go false e = refl
+
+  lines-accepted : described (itemsOf t) .number ≡ 0
+  unfolding readText
+  lines-accepted = ap (λ (r : Reading). r .number) (sym reading-lines) ∙ accepted
+
+  read-board : readText t .board ≡ described (itemsOf t) .board
+  unfolding readText
+  read-board = ap (λ (r : Reading). r .board) reading-lines
+
+  -- the check accepts the board it is read to
+  pub read-accepted : checkBoard (readText t .board) ≡ 0
+  read-accepted = rw read-board (described-accepted (itemsOf t) lines-accepted)
+
+  -- which has zeros behind its counts
+  pub read-trimmed : trimmed (readText t .board) ≡ readText t .board
+  read-trimmed = rw read-board (described-trimmed (itemsOf t) lines-accepted)
+
+  -- and is written and read again to that same board
+  pub read-again : readText (writeText (readText t .board)) ≡ readText t
+  read-again =
+      read-written (readText t .board) read-accepted
+      ∙ ap₂ (λ (n : ℕ) (b : Board). record { number = n; board = b }) (sym accepted) read-trimmed
+
+-- two accepted texts with the same writer's lines are read to the same board
+pub same-texts :
+    (s t : List ℕ) → readText s .number ≡ 0 → readText t .number ≡ 0
+    → writeText (readText s .board) ≡ writeText (readText t .board) → readText s ≡ readText t
+same-texts s t p q e = sym (read-again s p) ∙ ap readText e ∙ read-again t q
