@@ -3,19 +3,18 @@
 use mathlib.Core.Bool.{Bool, true, false, cond}
 use mathlib.Core.List.{List, [], _∷_, _++_, map}
 use mathlib.Core.Logic.{_≢_}
-use mathlib.Core.Path.{_≡_, refl, ap, ap₂, sym, _∙_}
-use Prim.Native.Nat.{ℕ, zero, suc, _+_, _*_, _/_, _%_, _≤_, _<_}
+use mathlib.Core.Path.{_≡_, refl, ap, _∙_}
+use Prim.Native.Nat.{ℕ, zero, suc, _+_, _/_, _%_, _≤_, _<_}
 use native.Mathlib.Omega.{arith}
 use lib.Dec.{eqb}
 use lib.ListN.{length, getD, length-append}
 use borrow.Author.Tests.{eqb-true, eqb-false}
 use Rattle.laws.specs.Bytes.{bytesOf}
 use Rattle.laws.specs.Lists.{member, same, gather, table}
-use Rattle.laws.proofs.TextLists.{same-refl}
 use Rattle.text.specs.Digits.{digits, fieldsText, lineText}
-use Rattle.text.specs.Fields.{comma, lineFeed, split, numbersOf}
+use Rattle.text.specs.Fields.{comma, lineFeed, split}
 use Rattle.text.proofs.Decimal.{digits-most, line-length}
-use Rattle.text.proofs.Round.{Short, numbered, split-fields, split-line, numbers-digits}
+use Rattle.text.proofs.Round.{Short, split-fields, split-line, numbers-digits}
 use Rattle.board.specs.declared.Board.{Board}
 use Rattle.board.specs.declared.Item.{Item}
 use Rattle.board.specs.declared.Item.the-variants.{Malformed, MasterLine, SlaveLine, ShareLine}

@@ -10,7 +10,6 @@ use lib.Dec.{ltb, eqb}
 use lib.ListN.{length}
 use borrow.Author.Tests.{le-ltb, eqb-true}
 use Rattle.board.specs.declared.Board.{Board}
-use Rattle.board.specs.declared.Item.{Item}
 use Rattle.board.specs.declared.Reading.{Reading}
 use Rattle.board.specs.Rules.{described, refused}
 use Rattle.board.specs.Items.{items, checkBoard}

@@ -16,7 +16,7 @@ use board::Reading;
 use board::Slave;
 use text::Numbers;
 
-// The most bytes of an accepted board's text: 8 master lines of at most 12, 16 slave lines of 36, 128 share lines of 15.
+// No accepted board's text has more bytes: 8 master lines of at most 12, 16 slave lines of 36, 128 share lines of 15.
 pub const LONGEST: usize = 8 * 12 + 16 * 36 + 128 * 15;
 
 // The pairs of a master and a slave, each a place of the shares.
