@@ -1,0 +1,51 @@
+-- `texts::main` writes what its output holds at the end. Assumes nothing.
+use native.Mathlib.Omega.{arith}
+use borrow.Author.Needs.{needs}
+use lib.ListN.{length-take}
+use Rattle.texts.proofs.main.Statement.{statement}
+use Rattle.texts.proofs.main.Tie as tie
+
+large-buffer-requires : tie.Need-large-buffer-requires
+large-buffer-requires c κs = search needs
+
+large-buffer-requires-2 : tie.Need-large-buffer-requires-2
+large-buffer-requires-2 c κs = search needs
+
+slice-aggregate-answer-records : tie.Need-slice-aggregate-answer-records
+slice-aggregate-answer-records c = search needs
+
+slice-aggregate-answer-records-2 : tie.Need-slice-aggregate-answer-records-2
+slice-aggregate-answer-records-2 c = search needs
+
+slice-aggregate-answer-records-3 : tie.Need-slice-aggregate-answer-records-3
+slice-aggregate-answer-records-3 c = search needs
+
+answer-records-requires : tie.Need-answer-records-requires
+answer-records-requires c κs = search needs
+
+array-share-prefix-out : tie.Need-array-share-prefix-out
+array-share-prefix-out c = search needs
+
+slice-aggregate-write-all : tie.Need-slice-aggregate-write-all
+slice-aggregate-write-all c = rw length-take (omega arith)
+
+write-all-requires : tie.Need-write-all-requires
+write-all-requires c κs = search needs
+
+returns : tie.Need-returns
+returns c = search needs
+
+pub main-spec : {M : Type 1} → statement M
+main-spec =
+    tie.close
+    (tie.spec
+    large-buffer-requires
+    large-buffer-requires-2
+    slice-aggregate-answer-records
+    slice-aggregate-answer-records-2
+    slice-aggregate-answer-records-3
+    answer-records-requires
+    array-share-prefix-out
+    slice-aggregate-write-all
+    write-all-requires
+    returns)

@@ -1,0 +1,218 @@
+// Reads records from standard input, each a decimal length, a line feed and that many bytes of a description. Prints for
+// each the number that the reader answers and, where that is 0, the writer's text of the board. A damaged record ends it.
+ghost use Prim.Native.Nat.{_+_, _≤_};
+ghost use lib.ListN.{length};
+use libc::STDIN_FILENO;
+use libc::STDOUT_FILENO;
+use text::Number;
+
+// What is still to be taken of a piece of the input: its bytes from `at` up to `end`.
+struct Input {
+    at: usize,
+    end: usize,
+}
+
+// What a record's first line says, and the input behind it.
+struct Head {
+    length: Number,
+    input: Input,
+}
+
+// Whether the input had the whole of a text, how many bytes of it were kept, and the input behind it.
+struct Body {
+    whole: bool,
+    kept: usize,
+    input: Input,
+}
+
+// Whether there can be a further record, how many bytes of the output are filled, and the input behind the last record.
+struct Progress {
+    going: bool,
+    filled: usize,
+    input: Input,
+}
+
+// The input with a byte to take, or with none where it ends: a piece that is used up gives way to the next.
+fn refill(piece: &mut [u8], input: Input) -> Input
+    requires { ⌜ input .end ≤ length (now piece) ⌝ }
+    ensures { λ r. ⌜ r .end ≤ length (now (piece .exit)) ⌝ }
+{
+    if input.at < input.end {
+        return input;
+    }
+    let end = io::read_full(STDIN_FILENO, &mut *piece);
+    Input { at: 0, end: end }
+}
+
+// Takes the line of a record's length: at most 10 digits and the line feed. One that the input ends in is no length.
+fn take_head(piece: &mut [u8], first: Input) -> Head
+    requires { ⌜ first .end ≤ length (now piece) ⌝ }
+    ensures { λ r. ⌜ r .input .end ≤ length (now (piece .exit)) ⌝ }
+{
+    let mut line = [0u8; 11];
+    let mut kept: usize = 0;
+    let mut input = first;
+    while kept < 11 {
+        input = refill(&mut *piece, input);
+        let at = input.at;
+        let end = input.end;
+        if end <= at {
+            break;
+        }
+        input = Input {
+            at: at + 1,
+            end: end,
+        };
+        if piece[at] == b'\n' {
+            return Head {
+                length: text::parse_number(&line[..kept]),
+                input: input,
+            };
+        }
+        line[kept] = piece[at];
+        kept += 1;
+    }
+    Head {
+        length: Number::Malformed,
+        input: input,
+    }
+}
+
+// Keeps a byte behind those that are kept, where there is room for it.
+fn keep(into: &mut [u8], kept: usize, byte: u8) -> usize
+    requires { ⌜ kept ≤ length (now into) ⌝ }
+    ensures { λ r. ⌜ r ≤ length (now (into .entry)) ⌝ }
+{
+    if kept < into.len() {
+        into[kept] = byte;
+        return kept + 1;
+    }
+    kept
+}
+
+// Takes a text of `size` bytes and keeps the first of them, as many as there is room for.
+fn take_body(piece: &mut [u8], first: Input, size: u64, into: &mut [u8]) -> Body
+    requires { ⌜ first .end ≤ length (now piece) ⌝ }
+    ensures { λ r. ⌜ (r .input .end ≤ length (now (piece .exit))) × (r .kept ≤ length (now (into .exit))) ⌝ }
+{
+    let mut input = first;
+    let mut kept: usize = 0;
+    let mut left = size;
+    while left > 0 {
+        input = refill(&mut *piece, input);
+        let at = input.at;
+        let end = input.end;
+        if end <= at {
+            return Body {
+                whole: false,
+                kept: kept,
+                input: input,
+            };
+        }
+        kept = keep(&mut *into, kept, piece[at]);
+        input = Input {
+            at: at + 1,
+            end: end,
+        };
+        left -= 1;
+    }
+    Body {
+        whole: true,
+        kept: kept,
+        input: input,
+    }
+}
+
+// Writes the output that is filled, where an answer might find no room behind it: a line, and a text as long as the record's.
+fn make_room(out: &[u8], filled: usize) -> usize
+    requires { ⌜ 8300 ≤ length (now out) ⌝ }
+    requires { ⌜ filled ≤ length (now out) ⌝ }
+    ensures { λ r. ⌜ r + 8300 ≤ length (now (out .entry)) ⌝ }
+{
+    if 8300 <= out.len() - filled {
+        return filled;
+    }
+    io::write_all(STDOUT_FILENO, &out[..filled]);
+    0
+}
+
+// Puts the answer for a description into the output from `at` on; the answer is the place behind it.
+fn put_answer(out: &mut [u8], at: usize, record: &[u8]) -> usize
+    requires { ⌜ at + 8300 ≤ length (now out) ⌝ }
+    ensures { λ r. ⌜ r ≤ length (now (out .entry)) ⌝ }
+{
+    let parsed = description::read(record);
+    let next = text::put_line(&mut *out, at, b"read", &[parsed.number as u64]);
+    if parsed.number != 0 {
+        return next;
+    }
+    let board = parsed.board;
+    let written = description::write(board, &mut out[next..]);
+    next + written.length
+}
+
+// One record and its answer. `record` is where its text is kept.
+fn answer_record(piece: &mut [u8], record: &mut [u8], out: &mut [u8], p: Progress) -> Progress
+    requires { ⌜ 8300 ≤ length (now out) ⌝ }
+    requires { ⌜ (p .input .end ≤ length (now piece)) × (p .filled ≤ length (now out)) ⌝ }
+    ensures { λ r. ⌜ (r .input .end ≤ length (now (piece .exit))) × (r .filled ≤ length (now (out .exit))) ⌝ }
+{
+    let head = take_head(&mut *piece, p.input);
+    let length = head.length;
+    let behind_head = head.input;
+    let Number::Value(size) = length else {
+        return Progress {
+            going: false,
+            filled: p.filled,
+            input: behind_head,
+        };
+    };
+    let body = take_body(&mut *piece, behind_head, size, &mut *record);
+    let behind_body = body.input;
+    if !body.whole {
+        return Progress {
+            going: false,
+            filled: p.filled,
+            input: behind_body,
+        };
+    }
+    let kept = body.kept;
+    let at = make_room(&*out, p.filled);
+    let next = put_answer(&mut *out, at, &record[..kept]);
+    Progress {
+        going: true,
+        filled: next,
+        input: behind_body,
+    }
+}
+
+// Answers every record, up to the input's end. Nothing says that an input ends, so the turns are counted down from a number
+// that no run uses up. The answer is how many bytes of the output are filled.
+fn answer_records(piece: &mut [u8], record: &mut [u8], out: &mut [u8]) -> usize
+    requires { ⌜ 8300 ≤ length (now out) ⌝ }
+    ensures { λ r. ⌜ r ≤ length (now (out .exit)) ⌝ }
+{
+    let mut p = Progress {
+        going: true,
+        filled: 0,
+        input: Input { at: 0, end: 0 },
+    };
+    let mut turns = u64::MAX;
+    while turns > 0 {
+        p = answer_record(&mut *piece, &mut *record, &mut *out, p);
+        if !p.going {
+            return p.filled;
+        }
+        turns -= 1;
+    }
+    p.filled
+}
+
+// 8,193 bytes of a record are kept: one more than a description may have, so that a longer one is refused by its length.
+fn main() {
+    let mut piece = io::large_buffer();
+    let mut record = [0u8; 8193];
+    let mut out = io::large_buffer();
+    let filled = answer_records(&mut piece, &mut record, &mut out);
+    io::write_all(STDOUT_FILENO, &out[..filled]);
+}

@@ -1,0 +1,160 @@
+#!/bin/sh
+# Compares the proved programs with the model on generated input, byte for byte.
+set -eu
+
+usage() {
+    cat <<'END'
+usage: tests/compare.sh [SEED] [COUNT]
+
+Compares what the programs that `rt check` built in target/bin print with what the model prints,
+byte for byte, on input that the model generates from SEED (2 where it is not given; 1 is the seed
+of the records that are stored with the program texts):
+
+  texts     COUNT descriptions, good and damaged (2000 where it is not given)
+  table     COUNT / 2 boards
+  simulate  COUNT boards, each with a script of about 100 calls
+
+A program that is not built is skipped. Prints a line for each; of what differs, the input and
+both outputs are kept in target/compare/NAME. Exit status: 0 where nothing differs, 1 where
+something does, 2 where nothing could be compared.
+END
+}
+
+root=$(CDPATH= cd -- "$(dirname -- "$0")/.." && pwd)
+self=$root/tests/compare.sh
+model=$root/target/model/release/model
+folder=$root/target/compare
+calls=100
+
+fail() {
+    echo "compare: $1" >&2
+    exit 2
+}
+
+# Runs a command, at most a minute, with its output in a file. A status other than 0 is a difference of its own.
+run_to() {
+    output=$1
+    shift
+    timeout 60 "$@" > "$output" 2> "$output.err" || echo "ended with status $?" >> "$output"
+}
+
+# Keeps the files of an item where its two outputs differ, and prints its name; removes them otherwise.
+judge() {
+    if cmp -s "$1.program" "$1.model"; then
+        rm -f "$1".*
+    else
+        echo "$1"
+    fi
+}
+
+# The boards of the numbers given, one after another: prints the items that differ.
+part() {
+    kind=$1
+    seed=$2
+    shift 2
+    for index; do
+        item=$folder/$kind/$index
+        case $kind in
+            table)
+                run_to "$item.program" "$root/target/bin/table" < "$item.txt"
+                run_to "$item.model" "$model" table < "$item.txt"
+                ;;
+            simulate)
+                "$model" gen-script "$((seed * 1000000 + index))" "$calls" "$item.txt" > "$item.script"
+                run_to "$item.program" "$root/target/bin/simulate" "$item.txt" < "$item.script"
+                run_to "$item.model" "$model" simulate "$item.txt" < "$item.script"
+                ;;
+        esac
+        judge "$item"
+    done
+}
+
+# The line of a kind: its name, what was compared, and how many differ.
+report() {
+    compared=$((compared + 1))
+    if [ "$3" -eq 0 ]; then
+        echo "$1: $2, 0 differences"
+    else
+        echo "$1: $2, $3 differences, kept in target/compare/$1"
+        different=1
+    fi
+}
+
+# Whether the program is built; where it is, its folder is made anew.
+begin() {
+    if [ ! -x "$root/target/bin/$1" ]; then
+        echo "$1: not built (rt check $1), skipped"
+        return 1
+    fi
+    rm -rf "${folder:?}/$1"
+    mkdir -p "$folder/$1"
+}
+
+# Prints the number of each record, from 0, whose answers differ: an answer starts with a line read,N.
+differing_records() {
+    awk '
+        FNR == 1 { side++; number = -1 }
+        /^read,/ { number++ }
+        { answer[side, number] = answer[side, number] $0 "\n" }
+        number > last { last = number }
+        END {
+            for (number = -1; number <= last; number++)
+                if (answer[1, number] != answer[2, number]) print number
+        }
+    ' "$1" "$2"
+}
+
+compare_texts() {
+    begin texts || return 0
+    item=$folder/texts/records
+    "$model" gen-texts "$seed" "$count" > "$item.txt"
+    run_to "$item.program" "$root/target/bin/texts" < "$item.txt"
+    run_to "$item.model" "$model" texts < "$item.txt"
+    differences=0
+    if ! cmp -s "$item.program" "$item.model"; then
+        differing_records "$item.program" "$item.model" > "$item.differing"
+        differences=$(wc -l < "$item.differing")
+        [ "$differences" -gt 0 ] || differences=1
+    fi
+    judge "$item" > "$folder/texts.differing"
+    report texts "$count records" "$differences"
+}
+
+# Boards, two parts at a time.
+compare_boards() {
+    begin "$1" || return 0
+    "$model" gen-boards "$seed" "$2" "$folder/$1"
+    seq 0 $(($2 - 1)) | xargs -P 2 -n 50 "$self" --part "$1" "$seed" > "$folder/$1.differing" ||
+        fail "the comparison of $1 broke off"
+    report "$1" "$3" "$(wc -l < "$folder/$1.differing")"
+}
+
+case ${1-} in
+    -h | --help)
+        usage
+        exit 0
+        ;;
+    --part)
+        shift
+        part "$@"
+        exit 0
+        ;;
+esac
+seed=${1-2}
+count=${2-2000}
+case $#,$seed,$count in
+    [!012],* | *,*[!0-9]*,* | *,*,*[!0-9]* | *,,* | *,*, | *,0[0-9]*)
+        usage >&2
+        exit 2
+        ;;
+esac
+[ "$count" -ge 2 ] || fail "COUNT is 2 or more"
+cargo build --release --offline --quiet --manifest-path "$root/model/Cargo.toml" --target-dir "$root/target/model" ||
+    fail "the model cannot be built"
+compared=0
+different=0
+compare_texts
+compare_boards table "$((count / 2))" "$((count / 2)) boards"
+compare_boards simulate "$count" "$count boards of $calls calls"
+[ "$compared" -gt 0 ] || fail "no program is built"
+exit "$different"
