@@ -1,0 +1,65 @@
+/* What fabric_wait does to the bytes it is lent: none is changed by a refusal, and none behind the first 16. */
+#include <stdio.h>
+#include <string.h>
+
+#include "fabric.h"
+
+#define ROOM 32
+
+static const char board[] =
+    "master,4,8\n"
+    "master,2,1\n"
+    "slave,4096,4096,2,8,1,0\n"
+    "share,0,0,2\n"
+    "share,1,0,3\n";
+
+static int failed;
+
+/* One call: the answer that is due, and how many bytes of out it may change. */
+static void expect(const char *name, const char *text, uint32_t master, uint32_t slave, size_t lent, uint32_t answer,
+                   const uint8_t *written, size_t changed)
+{
+    uint8_t out[ROOM];
+    uint32_t got;
+
+    memset(out, 0xa5, sizeof out);
+    got = fabric_wait((const uint8_t *)text, strlen(text), master, slave, out, lent);
+    if (got != answer) {
+        printf("%s: answered %u, not %u\n", name, (unsigned)got, (unsigned)answer);
+        failed = 1;
+    }
+    if (changed > 0 && memcmp(out, written, changed) != 0) {
+        printf("%s: other bytes were written\n", name);
+        failed = 1;
+    }
+    for (size_t i = changed; i < sizeof out; i++) {
+        if (out[i] != 0xa5) {
+            printf("%s: byte %u was changed\n", name, (unsigned)i);
+            failed = 1;
+        }
+    }
+}
+
+int main(void)
+{
+    static const uint8_t first[16] = {6, 0, 0, 0, 0, 0, 0, 0, 32};
+    static const uint8_t second[16] = {36, 0, 0, 0, 0, 0, 0, 0, 2};
+
+    expect("exact output", board, 0, 0, 16, 0, first, 16);
+    expect("long output", board, 1, 0, ROOM, 0, second, 16);
+    expect("short output", board, 0, 0, 15, 10, NULL, 0);
+    expect("no output", board, 0, 0, 0, 10, NULL, 0);
+    expect("no such master", board, 2, 0, 16, 11, NULL, 0);
+    expect("largest master", board, UINT32_MAX, 0, 16, 11, NULL, 0);
+    expect("no such slave", board, 0, 1, 16, 16, NULL, 0);
+    expect("largest slave", board, 0, UINT32_MAX, 16, 16, NULL, 0);
+    expect("not connected", "master,4,8\nmaster,4,8\nslave,0,8,4,1,0,0\nshare,0,0,1\n", 1, 0, 16, 16, NULL, 0);
+    expect("refused text", "master,3,8\n", 0, 0, 16, 3, NULL, 0);
+    expect("text before output", "master,4,8", 0, 0, 0, 1, NULL, 0);
+    expect("output before master", board, 2, 0, 15, 10, NULL, 0);
+    expect("master before slave", board, 2, 1, 16, 11, NULL, 0);
+    expect("empty text", "", 0, 0, 16, 2, NULL, 0);
+    if (!failed)
+        printf("slices: ok\n");
+    return failed;
+}

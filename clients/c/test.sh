@@ -1,0 +1,68 @@
+#!/bin/sh
+# Builds the planning tool against target/staticlib/libquote.a (rt staticlib quote), and tries it.
+set -eu
+here=$(cd "$(dirname "$0")" && pwd)
+root=$(cd "$here/../.." && pwd)
+library="$root/target/staticlib/libquote.a"
+board="$root/boards/document01.txt"
+work=$(mktemp -d)
+trap 'rm -r "$work"' EXIT
+
+if [ ! -f "$library" ]; then
+    echo "test.sh: no $library: run rt staticlib quote" >&2
+    exit 2
+fi
+
+flags="-std=c11 -O2 -Wall -Wextra -Werror -I$root/include"
+gcc $flags -o "$work/plan" "$here/plan.c" "$library"
+gcc $flags -o "$work/slices" "$here/slices.c" "$library"
+
+failed=0
+
+# expect STATUS OUTPUT WORD..: what plan prints for these words
+expect() {
+    status=$1
+    output=$2
+    shift 2
+    got=0
+    printed=$("$work/plan" "$@" 2>"$work/errors") || got=$?
+    if [ "$got" != "$status" ] || [ "$printed" != "$output" ]; then
+        echo "plan $*: status $got, printed:"
+        echo "$printed"
+        failed=1
+    fi
+}
+
+expect 0 "wait,6
+serve,32" "$board" 0 0
+expect 0 "wait,36
+serve,2" "$board" 1 0
+expect 1 "refused,11" "$board" 2 0
+expect 1 "refused,16" "$board" 0 1
+printf 'master,4,8' >"$work/unended"
+expect 1 "refused,1" "$work/unended" 0 0
+: >"$work/empty"
+expect 1 "refused,2" "$work/empty" 0 0
+head -c 8193 /dev/zero >"$work/long"
+expect 1 "refused,1" "$work/long" 0 0
+
+# wrong arguments: the usage, and nothing else
+expect 2 ""
+expect 2 "" "$board" 0
+expect 2 "" "$board" 0 0 0
+expect 2 "" "$board" -1 0
+expect 2 "" "$board" 0 4294967296
+expect 2 "" "$board" 0 ""
+grep -q '^usage: plan BOARD MASTER SLAVE' "$work/errors" || { echo "no usage"; failed=1; }
+expect 2 "" "$work/absent" 0 0
+
+"$work/slices" || failed=1
+# the header serves C++ as well
+if command -v g++ >/dev/null; then
+    g++ -std=c++11 -O2 -Wall -Wextra -Werror -I"$root/include" -o "$work/slices-c++" -x c++ "$here/slices.c" -x none "$library"
+    "$work/slices-c++" || failed=1
+fi
+if [ "$failed" = 0 ]; then
+    echo "plan: ok"
+fi
+exit "$failed"

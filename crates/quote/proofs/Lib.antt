@@ -1,0 +1,7 @@
+pub mod SumLaws
+pub mod Bounds
+pub mod PartLaws
+pub mod LineLaws
+pub mod CountLaws
+pub mod AnswerLaws
+pub mod TurnLaws

@@ -1,0 +1,49 @@
+-- The quoted wait from a board's arrays alone: what a loop calls is handed no whole board.
+-- Assumes nothing.
+use mathlib.Core.Bool.{Bool, cond, not, _&&_}
+use mathlib.Core.List.{List, [], _∷_}
+use Prim.Native.Nat.{ℕ, _+_, _*_}
+use lib.Dec.{ltb, eqb}
+use lib.ListN.{getD}
+use Rattle.laws.specs.Lists.{sum, gather}
+use Rattle.board.specs.declared.Master.{Master}
+use Rattle.board.specs.declared.Slave.{Slave}
+use Rattle.board.specs.declared.Board.{Board}
+use Rattle.board.specs.Records.{noMaster}
+use Rattle.text.specs.Digits.{digits, lineText}
+use Rattle.quote.specs.declared.Quote.{Quote}
+use Rattle.quote.specs.Waits.{longest, serve, turn}
+use Rattle.quote.specs.Answers.{pairLine}
+
+-- a master's turn, where another waits for it
+unfoldable pub turnUnless : Bool → Master → Slave → ℕ → ℕ → ℕ
+turnUnless own ma sl shares v = cond (ltb 0 shares && not own) (turn ma sl shares v) 0
+
+-- `otherTurn` at a slave sl of the board, with number s
+unfoldable pub turnAmong : List Master → List ℕ → Slave → ℕ → ℕ → ℕ → ℕ → ℕ
+turnAmong masters shares sl v m s k =
+    turnUnless (eqb k m) (getD masters k noMaster) sl (getD shares (16 * k + s) 0) v
+
+-- `turnsOf` there, for so many masters
+unfoldable pub turnsAmong : List Master → List ℕ → Slave → ℕ → ℕ → ℕ → ℕ → ℕ
+turnsAmong masters shares sl v m s count = sum (turnAmong masters shares sl v m s) count
+
+-- wait and serve of a pair there
+unfoldable pub quoteAmong : List Master → List ℕ → Slave → ℕ → ℕ → ℕ → Quote
+quoteAmong masters shares sl m s count = record {
+  wait = turnsAmong masters shares sl (longest sl) m s count;
+  serve = serve (getD masters m noMaster) sl (longest sl);
+}
+
+-- the lines of the table below its heading
+unfoldable pub pairLines : Board → List ℕ
+pairLines b = gather (λ m. gather (pairLine b m) (b .«slave_count»)) (b .«master_count»)
+
+-- a line of the table
+unfoldable pub quoteLine : ℕ → ℕ → Quote → List ℕ
+quoteLine m s q = lineText (digits m) (s ∷ q .wait ∷ q .serve ∷ [])
+
+-- `pairLine` there
+unfoldable pub lineAmong : List Master → List ℕ → Slave → ℕ → ℕ → ℕ → List ℕ
+lineAmong masters shares sl m s count =
+    cond (ltb 0 (getD shares (16 * m + s) 0)) (quoteLine m s (quoteAmong masters shares sl m s count)) []

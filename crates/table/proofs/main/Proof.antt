@@ -1,0 +1,55 @@
+-- `table::main` meets its contract: what was printed lies within the page.
+-- Assumes nothing.
+use native.Mathlib.Omega.{arith}
+use lib.ListN.{length-take}
+use borrow.Author.Needs.{needs}
+use Rattle.quote.proofs.AnswerLaws.{print-fits}
+use Rattle.table.proofs.main.Statement.{statement}
+use Rattle.table.proofs.main.Tie as tie
+
+slice-aggregate-read-full : tie.Need-slice-aggregate-read-full
+slice-aggregate-read-full c = search needs
+
+read-full-requires : tie.Need-read-full-requires
+read-full-requires c κs = search needs
+
+array-share-prefix-text : tie.Need-array-share-prefix-text
+array-share-prefix-text c = search needs
+
+slice-aggregate-print-table : tie.Need-slice-aggregate-print-table
+slice-aggregate-print-table c = search needs
+
+slice-aggregate-print-table-2 : tie.Need-slice-aggregate-print-table-2
+slice-aggregate-print-table-2 c = search needs
+
+print-table-requires : tie.Need-print-table-requires
+print-table-requires c κs = search needs
+
+array-share-prefix-page : tie.Need-array-share-prefix-page
+array-share-prefix-page c = print-fits _ _ (c .before .print-table .ensures)
+
+slice-aggregate-write-all : tie.Need-slice-aggregate-write-all
+slice-aggregate-write-all c = let p = c .before .before .print-table in
+    let h = print-fits _ _ (p .ensures) in
+    omega (arith, length-take (p .result .length) (p .last .1 .0))
+
+write-all-requires : tie.Need-write-all-requires
+write-all-requires c κs = search needs
+
+returns : tie.Need-returns
+returns c = search needs
+
+pub main-spec : {M : Type 1} → statement M
+main-spec =
+    tie.close
+    (tie.spec
+    slice-aggregate-read-full
+    read-full-requires
+    array-share-prefix-text
+    slice-aggregate-print-table
+    slice-aggregate-print-table-2
+    print-table-requires
+    array-share-prefix-page
+    slice-aggregate-write-all
+    write-all-requires
+    returns)
