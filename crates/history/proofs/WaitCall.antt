@@ -1,0 +1,62 @@
+-- The wait of demand 3 is what the wait call answers, for every text that reads to the board.
+-- Assumes nothing.
+use mathlib.Core.Path.{_≡_, refl, sym, ap, subst, _∙_}
+use mathlib.Core.Bool.{true, cond, not}
+use mathlib.Core.List.{List, _++_}
+use Prim.Native.Nat.{ℕ, _≤_, _<_, _^_}
+use lib.Dec.{eqb, ltb, leb}
+use lib.ListN.{length, drop}
+use borrow.Author.Tests.{eq-eqb, le-ltb, lt-leb, ltb-true}
+use Rattle.laws.proofs.Tests.{both}
+use Rattle.board.specs.declared.Board.{Board}
+use Rattle.board.specs.Records.{sharesAt, connected}
+use Rattle.board.specs.Items.{checkBoard}
+use Rattle.board.proofs.Legal.{Legal}
+use Rattle.board.proofs.Accepted.{accepted-legal}
+use Rattle.description.specs.declared.Parsed.{Parsed}
+use Rattle.description.specs.Reader.{readText}
+use Rattle.description.proofs.Trip.{read-accepted}
+use Rattle.fabric.specs.Calls.{reset}
+use Rattle.quote.specs.Waits.{waitOf, serveOf}
+use Rattle.quote.specs.Answers.{pairBytes, waitRefusal, waitOutput}
+use Rattle.quote.proofs.TurnLaws.{wait-fits, spelled, wait-spelled}
+use Rattle.history.specs.Claim.{Demand3}
+use Rattle.history.proofs.Demand.{demand3}
+
+-- the call is taken, and the first eight bytes that it leaves spell the wait
+pub record Answers (text : List ℕ) (m s : ℕ) (out : List ℕ) : Type 0 where
+  pub number : waitRefusal text m s out ≡ 0
+  pub wait : spelled (waitOutput text m s out) ≡ waitOf (readText text .board) m s
+
+module _ (text : List ℕ) (accepted : readText text .number ≡ 0) where
+  abbrev b : Board
+  b = readText text .board
+
+  -- a text that is not refused reads to a board that reset does not refuse, and that has demand 3 whole
+  pub text-demand3 : Demand3 b
+  unfolding reset
+  text-demand3 = demand3 b (read-accepted text accepted)
+
+  legal : Legal b
+  legal = accepted-legal b (read-accepted text accepted)
+
+  within : (m s : ℕ) → connected b m s ≡ true → s < b .«slave_count»
+  unfolding connected
+  within m s c = ltb-true s (b .«slave_count») (both (ltb s (b .«slave_count»)) (ltb 0 (sharesAt b m s)) c .0)
+
+  pub wait-answered : (m s : ℕ) (out : List ℕ) → m < b .«master_count» → connected b m s ≡ true → 16 ≤ length out
+      → Answers text m s out
+  unfolding waitRefusal waitOutput
+  wait-answered m s out hm c room = record {
+    number = number;
+    wait =
+      ap spelled (ap (λ (n : ℕ). cond (eqb n 0) (pairBytes b m s ++ drop 16 out) out) number)
+      ∙ wait-spelled b m s (drop 16 out) fits
+  }
+    where
+      number : waitRefusal text m s out ≡ 0
+      number =
+          rw
+          (eq-eqb (readText text .number) 0 accepted, le-ltb (length out) 16 room, lt-leb (b .«master_count») m hm, c)
+      fits : waitOf b m s < 2 ^ 64
+      fits = wait-fits b legal m s hm (within m s c)
