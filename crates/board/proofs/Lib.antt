@@ -7,3 +7,4 @@ pub mod Sound
 pub mod OwnLines
 pub mod Accepted
 pub mod Rebuilt
+pub mod AcceptLaws

@@ -40,13 +40,11 @@ master-legal b w u e =
 abbrev pub slaveOf : ℕ → ℕ → ℕ → ℕ → ℕ → ℕ → Slave
 slaveOf a n w u rw′ ww = record { base = a; span = n; width = w; burst = u; «read_wait» = rw′; «write_wait» = ww }
 
-pub slave-legal : (b : Board) (sharing : Bool) (a n w u rw′ ww : ℕ) → slaveRefusal b sharing a n w u rw′ ww ≡ 0
+pub values-legal : (a n w u rw′ ww : ℕ) → slaveValues a n w u rw′ ww ≡ true → a % n ≡ 0
     → LegalSlave (slaveOf a n w u rw′ ww)
-unfolding slaveRefusal slaveValues
-slave-legal b sharing a n w u rw′ ww e =
-    let order = passed (eqb (b .«master_count») 0 || (sharing || leb 16 (b .«slave_count»))) 1 _ e in
-    let legal = passed (not (slaveValues a n w u rw′ ww)) 2 _ (order .1) in
-    let e1 = both (leb a 4294967295) _ (not-false _ (legal .0)) in
+unfolding slaveValues
+values-legal a n w u rw′ ww e f =
+    let e1 = both (leb a 4294967295) _ e in
     let e2 = both (member n spans) _ (e1 .1) in
     let e3 = both (member w widths) _ (e2 .1) in
     let e4 = both (member u bursts) _ (e3 .1) in
@@ -58,8 +56,16 @@ slave-legal b sharing a n w u rw′ ww e =
       burst = e4 .0;
       readWait = leb-true _ _ (e5 .0);
       writeWait = leb-true _ _ (e5 .1);
-      aligned = slave-taken b sharing a n w u rw′ ww e .aligned;
+      aligned = f;
     }
+
+pub slave-legal : (b : Board) (sharing : Bool) (a n w u rw′ ww : ℕ) → slaveRefusal b sharing a n w u rw′ ww ≡ 0
+    → LegalSlave (slaveOf a n w u rw′ ww)
+unfolding slaveRefusal
+slave-legal b sharing a n w u rw′ ww e =
+    let order = passed (eqb (b .«master_count») 0 || (sharing || leb 16 (b .«slave_count»))) 1 _ e in
+    let legal = passed (not (slaveValues a n w u rw′ ww)) 2 _ (order .1) in
+    values-legal a n w u rw′ ww (not-false _ (legal .0)) (slave-taken b sharing a n w u rw′ ww e .aligned)
 
 -- the board so far
 pub record Sound (b : Board) : Type 0 where

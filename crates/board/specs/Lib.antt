@@ -2,3 +2,4 @@ pub mod Records
 pub mod Rules
 pub mod Items
 pub mod Rebuilt
+pub mod Accept
