@@ -50,13 +50,14 @@ module _ (text : List ℕ) (accepted : readText text .number ≡ 0) where
   wait-answered m s out hm c room = record {
     number = number;
     wait =
-      ap spelled (ap (λ (n : ℕ). cond (eqb n 0) (pairBytes b m s ++ drop 16 out) out) number)
-      ∙ wait-spelled b m s (drop 16 out) fits
+        ap spelled (ap (λ (n : ℕ). cond (eqb n 0) (pairBytes b m s ++ drop 16 out) out) number)
+        ∙ wait-spelled b m s (drop 16 out) fits;
   }
     where
       number : waitRefusal text m s out ≡ 0
       number =
           rw
           (eq-eqb (readText text .number) 0 accepted, le-ltb (length out) 16 room, lt-leb (b .«master_count») m hm, c)
+
       fits : waitOf b m s < 2 ^ 64
       fits = wait-fits b legal m s hm (within m s c)
