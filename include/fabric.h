@@ -39,8 +39,7 @@ extern "C" {
  *   11       the board has no such master
  *   16       the board has no such slave, or the master is not connected to it
  *
- * text and out must not be null, not even for a length of 0, and must not overlap. A board's figures fit 32 bits and
- * are written as 64.
+ * text and out must not be null, not even for a length of 0, and must not overlap.
  */
 uint32_t fabric_wait(const uint8_t *text, size_t text_length, uint32_t master, uint32_t slave,
                      uint8_t *out, size_t out_length);

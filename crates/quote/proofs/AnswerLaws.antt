@@ -15,7 +15,7 @@ use Rattle.text.specs.Digits.{digits, fieldsText, lineText}
 use Rattle.text.specs.Fields.{comma}
 use Rattle.text.specs.Scanning.{Put}
 use Rattle.text.proofs.Decimal.{digits-most, digits-long, fields-long, line-length}
-use Rattle.text.proofs.Puts.{put-front, put-length}
+use Rattle.text.proofs.Puts.{put-front, put-length, put-then}
 use Rattle.board.specs.declared.Board.{Board}
 use Rattle.board.specs.Records.{connected}
 use Rattle.description.specs.declared.Parsed.{Parsed}
@@ -28,6 +28,11 @@ use Rattle.quote.specs.Parts.{pairLines}
 use Rattle.quote.specs.Calls.{quoteOf, printAnswer, printOutput}
 use Rattle.quote.proofs.CountLaws.{Few, few-read}
 use Rattle.quote.proofs.SumLaws.{gather-le}
+
+-- the bytes of two numbers, one behind the other
+pub figures : (wait serve : ℕ) {w v o p q : List ℕ} {r t : ℕ} → w ≡ bytes64 wait → v ≡ bytes64 serve
+    → Put o 0 w p r → Put p r v q t → Put o 0 (bytes64 wait ++ bytes64 serve) q t
+figures wait serve e f x y = put-then (rw e at x) (rw f at y)
 
 -- the wait call, from what the reader answers
 module _ (text : List ℕ) (m s : ℕ) (out : List ℕ) {p : Parsed} (e : p ≡ readText text) where

@@ -48,7 +48,7 @@ small c =
     let e : c .turn-unless .result ≡ _ = c .turn-unless .ensures in
     rw e
     (unless-le (c .before .before .master-at .result) (t .sl) (t .v) (omega arith) (omega arith) (omega arith)
-    (eqb (l .loop .k) (t .m)) (c .before .share-at .result) (omega arith))
+    _ (c .before .share-at .result) (omega arith))
 
 add-sum : tie.Need-add-sum Inv-loop μ-loop
 add-sum c = omega (arith, small c)
