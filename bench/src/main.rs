@@ -20,14 +20,26 @@ use std::path::PathBuf;
 use std::process::ExitCode;
 use std::time::Instant;
 
-/// How often each side is timed; the best round counts.
-const ROUNDS: usize = 40;
-/// Calls of a round, and clocks of a round.
-const CALLS: u32 = 500;
-const CLOCKS: u32 = 20_000;
+/// How many places of the stack are tried: a call's time depends on where its locals lie in a
+/// cache line and in a page, which changes from run to run.
+const PLACES: usize = 64;
+/// How often each side is timed at one place; the best round counts.
+const ROUNDS: usize = 100;
+/// Calls of a round, and clocks of a round. A round is far shorter than a turn of the scheduler, so
+/// that on a busy machine too some rounds of each side are not interrupted.
+const CALLS: u32 = 16;
+const CLOCKS: u32 = 128;
 
 /// A piece of work that is done `count` times.
 type Work<'a> = &'a mut dyn FnMut(u32);
+
+/// Nanoseconds for one time of the work, by the median of the places.
+struct Measured {
+    library: Option<f64>,
+    model: f64,
+    /// The ratio at the place where the library does worst.
+    worst: f64,
+}
 
 /// Nanoseconds for one time of the work.
 fn timed(count: u32, work: Work) -> f64 {
@@ -36,48 +48,67 @@ fn timed(count: u32, work: Work) -> f64 {
     start.elapsed().as_nanos() as f64 / count as f64
 }
 
-/// The best round of the model and, where it is built, of the library. They take turns, so that
-/// what slows the machine slows both.
-fn race(count: u32, library: Option<Work>, model: Work) -> (Option<f64>, f64) {
-    let mut best_model = f64::INFINITY;
-    let mut best_library = f64::INFINITY;
-    let Some(library) = library else {
-        for _ in 0..ROUNDS {
-            best_model = best_model.min(timed(count, model));
-        }
-        return (None, best_model);
+/// The best round of each side, with the stack `depth` frames further down. The sides take turns, so
+/// that what slows the machine slows both.
+#[inline(never)]
+fn race(depth: usize, count: u32, library: Work, model: Work) -> (f64, f64) {
+    let frame = black_box([0u8; 200]);
+    let best = match depth {
+        0 => (0..ROUNDS).fold((f64::INFINITY, f64::INFINITY), |best, _| {
+            (
+                best.0.min(timed(count, library)),
+                best.1.min(timed(count, model)),
+            )
+        }),
+        _ => race(depth - 1, count, library, model),
     };
-    for _ in 0..ROUNDS {
-        best_library = best_library.min(timed(count, library));
-        best_model = best_model.min(timed(count, model));
-    }
-    (Some(best_library), best_model)
+    black_box(&frame);
+    best
 }
 
-/// A line of the report, in microseconds for a call.
-fn report_calls(name: &str, (library, model): (Option<f64>, f64)) {
-    let model_us = model / 1000.0;
-    match library {
-        None => println!("{name}: library not built, model {model_us:.2} us"),
-        Some(library) => println!(
-            "{name}: library {:.2} us, model {model_us:.2} us, ratio {:.2}",
-            library / 1000.0,
-            library / model
+fn median(mut times: Vec<f64>) -> f64 {
+    times.sort_by(f64::total_cmp);
+    times[times.len() / 2]
+}
+
+fn measure(count: u32, library: Option<Work>, model: Work) -> Measured {
+    let mut nothing = |_| {};
+    let linked = library.is_some();
+    let library = library.unwrap_or(&mut nothing);
+    let places: Vec<(f64, f64)> = (0..PLACES)
+        .map(|depth| race(depth, count, library, model))
+        .collect();
+    let of_library = median(places.iter().map(|place| place.0).collect());
+    Measured {
+        library: linked.then_some(of_library),
+        model: median(places.iter().map(|place| place.1).collect()),
+        worst: places
+            .iter()
+            .map(|place| place.0 / place.1)
+            .fold(0.0, f64::max),
+    }
+}
+
+/// A line of the report: both sides' figures, and the ratio of the library's time to the model's.
+fn report(name: &str, measured: Measured, figure: fn(f64) -> String) {
+    let model = figure(measured.model);
+    match measured.library {
+        None => println!("{name}: library not built, model {model}"),
+        Some(time) => println!(
+            "{name}: library {}, model {model}, ratio {:.2} (at worst {:.2})",
+            figure(time),
+            time / measured.model,
+            measured.worst
         ),
     }
 }
 
-/// A line of the report, in clocks to a second. The ratio is that of the times here too.
-fn report_clocks(name: &str, (library, model): (Option<f64>, f64)) {
-    let model_rate = 1e9 / model;
-    match library {
-        None => println!("{name}: library not built, model {model_rate:.0} clocks/s"),
-        Some(library) => println!(
-            "{name}: library {:.0} clocks/s, model {model_rate:.0} clocks/s, ratio {:.2}",
-            1e9 / library,
-            library / model
-        ),
-    }
+fn microseconds(time: f64) -> String {
+    format!("{:.2} us", time / 1000.0)
+}
+
+fn clocks_to_a_second(time: f64) -> String {
+    format!("{:.0} clocks/s", 1e9 / time)
 }
 
 /// The model's answer to what `bench_read` of the library is asked.
@@ -102,7 +133,7 @@ fn bench_read(text: &[u8]) {
     };
     let name = "read largest board";
     let Some(library) = library::READ else {
-        return report_calls(name, race(CALLS, None, &mut model));
+        return report(name, measure(CALLS, None, &mut model), microseconds);
     };
     for place in 0..128 {
         assert_eq!(library(text, place), model_read(text, place));
@@ -112,7 +143,8 @@ fn bench_read(text: &[u8]) {
             black_box(library(black_box(text), black_box(place)));
         }
     };
-    report_calls(name, race(CALLS, Some(&mut library), &mut model));
+    let measured = measure(CALLS, Some(&mut library), &mut model);
+    report(name, measured, microseconds);
 }
 
 /// A master and a slave for each call.
@@ -131,7 +163,7 @@ fn bench_wait(text: &[u8]) {
     };
     let name = "fabric_wait largest board";
     let Some(library) = library::WAIT else {
-        return report_calls(name, race(CALLS, None, &mut model));
+        return report(name, measure(CALLS, None, &mut model), microseconds);
     };
     for (master, slave) in (0..128).map(pair) {
         let mut of_model = [0; wait::ANSWER_LENGTH];
@@ -148,34 +180,32 @@ fn bench_wait(text: &[u8]) {
             black_box(&mut answer);
         }
     };
-    report_calls(name, race(CALLS, Some(&mut library), &mut model));
+    let measured = measure(CALLS, Some(&mut library), &mut model);
+    report(name, measured, microseconds);
 }
 
 fn bench_clocks(masters: usize, slaves: usize) {
     let text = traffic::board_text(masters, slaves);
-    let board = description::read(text.as_bytes()).expect("the traffic's board is refused");
-    let mut memory = vec![0; board.total_span() as usize];
+    let text = text.as_bytes();
+    let total = slaves * traffic::SPAN;
+    let mut memory = vec![0; total];
     let mut buffer = [0; fabric::BUFFER_LENGTH];
+    let sum = traffic::run(text, &mut memory, &mut buffer, 1000);
     let mut model = |count| {
-        black_box(traffic::run(&board, &mut memory, &mut buffer, count));
+        black_box(traffic::run(text, &mut memory, &mut buffer, count));
     };
     let name = format!("clock {masters} x {slaves}");
     let Some(library) = library::CLOCKS else {
-        return report_clocks(&name, race(CLOCKS, None, &mut model));
+        return report(&name, measure(CLOCKS, None, &mut model), clocks_to_a_second);
     };
-    let text = text.as_bytes();
-    let mut memory = vec![0; board.total_span() as usize];
+    let mut memory = vec![0; total];
     let mut buffer = [0; fabric::BUFFER_LENGTH];
-    let sum = library(text, &mut memory, &mut buffer, 1000);
-    let (mut model_memory, mut model_buffer) = (memory.clone(), buffer);
-    model_memory.fill(0);
-    model_buffer.fill(0);
-    let model_sum = traffic::run(&board, &mut model_memory, &mut model_buffer, 1000);
-    assert_eq!(sum, model_sum);
+    assert_eq!(library(text, &mut memory, &mut buffer, 1000), sum);
     let mut library = |count| {
         black_box(library(text, &mut memory, &mut buffer, count));
     };
-    report_clocks(&name, race(CLOCKS, Some(&mut library), &mut model));
+    let measured = measure(CLOCKS, Some(&mut library), &mut model);
+    report(&name, measured, clocks_to_a_second);
 }
 
 fn run() -> io::Result<()> {

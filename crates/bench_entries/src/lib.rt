@@ -1,6 +1,4 @@
 // What the benchmark calls of the library, by C's conventions.
-use board::Master;
-use board::Slave;
 
 // Reads a text and answers its number with one entry of each part of the board: which entries is known only at the call, so
 // that no part of the reading can be left out.

@@ -1,6 +1,20 @@
 // The public calls on a board's fabric: reset, post and clock.
+use board::Board;
+use board::Master;
+use geometry::Transfer;
 use state::Line;
+use state::Slot;
 use state::State;
+ghost use mathlib.Core.Path.{_≡_};
+ghost use mathlib.Core.Bool.{cond};
+ghost use Prim.Native.Nat.{_*_, _<_};
+ghost use Rattle.laws.specs.Lists.{table};
+ghost use Rattle.board.specs.Items.{checkBoard};
+ghost use Rattle.state.specs.Records.{noState};
+ghost use Rattle.state.specs.Resetting.{stateAtReset};
+ghost use Rattle.fabric.specs.Calls.{bufferAfterPost};
+ghost use Rattle.fabric.specs.Requests.{request, refusalBy};
+ghost use Rattle.fabric.specs.Calls as calls;
 
 // The answer of reset.
 pub struct Started {
@@ -20,4 +34,151 @@ pub struct Clocked {
     pub state: State,
     pub mask: u8,
     pub lines: [Line; 16],
+}
+
+// No transfers, and every slot 0.
+fn no_state() -> State
+    ensures { λ r. ⌜ r ≡ noState ⌝ }
+{
+    let idle = Transfer {
+        held: false,
+        write: false,
+        address: 0,
+        lanes: 0,
+        beats: 0,
+    };
+    let still = Slot {
+        owner: 0,
+        remaining: 0,
+        serving: false,
+        done: 0,
+        waited: 0,
+    };
+    let transfers = [idle; 8];
+    let slots = [still; 16];
+    State {
+        transfers: transfers,
+        slots: slots,
+    }
+}
+
+// The state that a reset of an accepted board gives: every slave's last owner is the highest master.
+fn state_at_reset(b: Board) -> State
+    requires { ⌜ checkBoard b ≡ 0 ⌝ }
+    ensures { λ r. ⌜ r ≡ stateAtReset b ⌝ }
+{
+    let mut st = no_state();
+    let highest = b.master_count - 1;
+    let mut s: u8 = 0;
+    while s < b.slave_count {
+        st.slots[s as usize] = Slot {
+            owner: highest,
+            remaining: 0,
+            serving: false,
+            done: 0,
+            waited: 0,
+        };
+        s += 1;
+    }
+    st
+}
+
+// Reset: the board's own state, or zeros where the board is refused.
+pub fn reset(board: Board) -> Started
+    ensures { λ r. ⌜ r ≡ calls.reset board ⌝ }
+{
+    let number = board::check(board);
+    if number == 0 {
+        let st = state_at_reset(board);
+        return Started {
+            number: 0,
+            state: st,
+        };
+    }
+    let st = no_state();
+    Started {
+        number: number,
+        state: st,
+    }
+}
+
+// The bytes that a post hands in with a transfer: none for a read.
+fn words_length(ma: Master, t: Transfer) -> usize
+    ensures { λ r. ⌜ r ≡ cond (t .write) (t .beats * ma .width) 0 ⌝ }
+{
+    if t.write {
+        return t.beats as usize * ma.width as usize;
+    }
+    0
+}
+
+// What a post is refused for, or 0: of the transfer t by master m, with a buffer of `room` bytes and `length` bytes of words.
+fn post_refusal(board: Board, state: State, room: usize, m: u32, t: Transfer, length: usize) -> u8
+    ensures { λ r. ⌜ r ≡ refusalBy board state room m t length ⌝ }
+{
+    let number = board::check(board);
+    if number != 0 {
+        return number;
+    }
+    if room != 4096 {
+        return 8;
+    }
+    let transfers = state.transfers;
+    let targets = state::checks::targets(board, transfers);
+    if !state::checks::state_sound(board, state, targets) {
+        return 9;
+    }
+    if board.master_count as u32 <= m {
+        return 11;
+    }
+    let before = transfers[m as usize];
+    if before.held {
+        return 12;
+    }
+    let number = state::checks::refusal_of(board, m as usize, t);
+    if number != 0 {
+        return number;
+    }
+    let ma = board.masters[m as usize];
+    if length != words_length(ma, t) {
+        return 18;
+    }
+    0
+}
+
+// Post: a master hands in one transfer. A write's words are copied to the front of the master's part of the buffer.
+pub fn post(
+    board: Board,
+    state: State,
+    buffer: &mut [u8],
+    master: u32,
+    write: bool,
+    address: u32,
+    lanes: u8,
+    beats: u8,
+    words: &[u8],
+) -> Posted
+    ensures answer { λ r. ⌜ r
+        ≡ calls.post board state (now (buffer .entry)) (request master write address lanes beats (now (words .entry))) ⌝ }
+    ensures stored { λ r. ⌜ now (buffer .exit)
+        ≡ bufferAfterPost board state (now (buffer .entry)) (request master write address lanes beats (now (words .entry))) ⌝ }
+{
+    let t = Transfer {
+        held: true,
+        write: write,
+        address: address,
+        lanes: lanes,
+        beats: beats,
+    };
+    let number = post_refusal(board, state, buffer.len(), master, t, words.len());
+    let mut after = state;
+    if number == 0 {
+        let m = master as usize;
+        moves::post_words(buffer, m, words);
+        after.transfers[m] = t;
+    }
+    Posted {
+        number: number,
+        state: after,
+    }
 }

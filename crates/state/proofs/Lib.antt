@@ -4,3 +4,5 @@ pub mod DecodeLaws
 pub mod StepLaws
 pub mod SoundLaws
 pub mod CycleLaws
+pub mod TargetLaws
+pub mod CheckLaws

@@ -5,3 +5,4 @@ pub mod Control
 pub mod Carrying
 pub mod Resetting
 pub mod Targets
+pub mod Parts

@@ -1,4 +1,6 @@
 // The state of a board's fabric, and how a post and a clock change it.
+pub mod checks;
+
 use geometry::Transfer;
 
 // One slave: last owner, grants remaining to it, whether it is serving, accesses done, waits passed.

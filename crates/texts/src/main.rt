@@ -123,7 +123,7 @@ fn take_body(piece: &mut [u8], first: Input, size: u64, into: &mut [u8]) -> Body
     }
 }
 
-// Writes the output that is filled, where an answer might find no room behind it: a line, and a text as long as the record's.
+// Writes the output that is filled, where an answer might find no room behind it: a short line and at most 8,192 bytes.
 fn make_room(out: &[u8], filled: usize) -> usize
     requires { ⌜ 8300 ≤ length (now out) ⌝ }
     requires { ⌜ filled ≤ length (now out) ⌝ }
@@ -136,7 +136,8 @@ fn make_room(out: &[u8], filled: usize) -> usize
     0
 }
 
-// Puts the answer for a description into the output from `at` on; the answer is the place behind it.
+// Puts the answer for a description into the output from `at` on; the answer is the place behind it. A board that was read is
+// one that the writer takes, and its text is no longer than the record's, so that the room is enough.
 fn put_answer(out: &mut [u8], at: usize, record: &[u8]) -> usize
     requires { ⌜ at + 8300 ≤ length (now out) ⌝ }
     ensures { λ r. ⌜ r ≤ length (now (out .entry)) ⌝ }

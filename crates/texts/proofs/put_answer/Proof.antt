@@ -1,14 +1,17 @@
--- `texts::put_answer` is safe and stays within the output: the line of the number is short, and the writer keeps to its part. Assumes nothing.
-use mathlib.Core.List.{[], _∷_}
+-- `texts::put_answer` stays within the output: the line of the number is short, and the writer keeps to its part. Assumes nothing.
+use mathlib.Core.List.{List, [], _∷_}
 use mathlib.Core.Path.{refl}
-use Prim.Native.Nat.{_≤_}
+use Prim.Native.Nat.{ℕ}
 use native.Mathlib.Omega.{arith}
 use borrow.Author.Needs.{needs}
-use lib.ListN.{length}
 use Rattle.text.proofs.Puts.{put-length}
 use Rattle.texts.proofs.AnswerLaws.{line-short, part-written}
 use Rattle.texts.proofs.put_answer.Statement.{statement}
 use Rattle.texts.proofs.put_answer.Tie as tie
+
+-- the line's word, "read"
+abbrev word : List ℕ
+word = 114 ∷ 101 ∷ 97 ∷ 100 ∷ []
 
 read-requires : tie.Need-read-requires
 read-requires c κs = search needs
@@ -23,14 +26,14 @@ slice-aggregate-put-line-2 : tie.Need-slice-aggregate-put-line-2
 slice-aggregate-put-line-2 c = search needs
 
 put-line-requires : tie.Need-put-line-requires
-put-line-requires c κs = omega (arith, line-short (114 ∷ 101 ∷ 97 ∷ 100 ∷ []) (c .before .before .before .before .read .result .number) refl)
+put-line-requires c κs = omega (arith, line-short word (c .before .before .before .before .read .result .number) refl)
 
 same-length : tie.Need-same-length
 same-length c = search needs
 
 returns : tie.Need-returns
 returns c = let d = c .before .before .before .before in
-    omega (arith, d .put-line .ensures .end, line-short (114 ∷ 101 ∷ 97 ∷ 100 ∷ []) (d .before .before .before .before .before .read .result .number) refl)
+    omega (arith, d .put-line .ensures .end, line-short word (d .before .before .before .before .before .read .result .number) refl)
 
 sub-write : tie.Need-sub-write
 sub-write c = let d = c .before .before .before .before .before in
@@ -38,7 +41,7 @@ sub-write c = let d = c .before .before .before .before .before in
       arith,
       d .put-line .ensures .end,
       put-length (d .put-line .ensures),
-      line-short (114 ∷ 101 ∷ 97 ∷ 100 ∷ []) (d .before .before .before .before .before .read .result .number) refl,
+      line-short word (d .before .before .before .before .before .read .result .number) refl,
     )
 
 part-write-start : tie.Need-part-write-start

@@ -1,0 +1,2 @@
+pub mod ResetLaws
+pub mod PostLaws
