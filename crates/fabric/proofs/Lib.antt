@@ -1,2 +1,4 @@
 pub mod ResetLaws
 pub mod PostLaws
+pub mod RoundLaws
+pub mod ClockLaws

@@ -1,4 +1,6 @@
 // The public calls on a board's fabric: reset, post and clock.
+pub mod cycles;
+
 use board::Board;
 use board::Master;
 use geometry::Transfer;
@@ -12,7 +14,7 @@ ghost use Rattle.laws.specs.Lists.{table};
 ghost use Rattle.board.specs.Items.{checkBoard};
 ghost use Rattle.state.specs.Records.{noState};
 ghost use Rattle.state.specs.Resetting.{stateAtReset};
-ghost use Rattle.fabric.specs.Calls.{bufferAfterPost};
+ghost use Rattle.fabric.specs.Calls.{bufferAfterPost, storeAfterClock};
 ghost use Rattle.fabric.specs.Requests.{request, refusalBy};
 ghost use Rattle.fabric.specs.Calls as calls;
 
@@ -181,4 +183,31 @@ pub fn post(
         number: number,
         state: after,
     }
+}
+
+// Clock: one cycle of the whole fabric. What is refused is checked in rising order; where nothing is, each slave acts.
+pub fn clock(board: Board, state: State, memory: &mut [u8], buffer: &mut [u8]) -> Clocked
+    ensures answer { λ r. ⌜ r
+        ≡ calls.clock board state (record { memory = now (memory .entry); buffer = now (buffer .entry) }) ⌝ }
+    ensures stored { λ r. ⌜ record { memory = now (memory .exit); buffer = now (buffer .exit) }
+        ≡ storeAfterClock board state (record { memory = now (memory .entry); buffer = now (buffer .entry) }) ⌝ }
+{
+    let number = board::check(board);
+    if number != 0 {
+        return cycles::refuse(number, state);
+    }
+    let slaves = board.slaves;
+    let room = cycles::span_total(slaves, board.slave_count as usize);
+    if memory.len() != room {
+        return cycles::refuse(8, state);
+    }
+    if buffer.len() != 4096 {
+        return cycles::refuse(8, state);
+    }
+    let transfers = state.transfers;
+    let targets = state::checks::targets(board, transfers);
+    if state::checks::state_sound(board, state, targets) {
+        return cycles::turn(board, state, targets, memory, buffer);
+    }
+    cycles::refuse(9, state)
 }

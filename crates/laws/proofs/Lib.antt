@@ -1,5 +1,6 @@
 pub mod Arithmetic
 pub mod BitLaws
+pub mod FillLaws
 pub mod Finite
 pub mod FrontLaws
 pub mod ListLaws

@@ -1,11 +1,15 @@
 // Bytes of a post and of an access. Each master's words live in its own 512 bytes of the buffer: the functions that move bytes
 // are lent that part alone.
+use board::Master;
+use board::Slave;
+use geometry::Transfer;
 ghost use mathlib.Core.Path.{_≡_};
 ghost use Prim.Native.Nat.{_+_, _%_, _≤_, _<_};
 ghost use lib.ListN.{length};
 ghost use Rattle.laws.specs.Bits.{bit};
 ghost use Rattle.moves.specs.Moving.{all, move};
-ghost use Rattle.moves.specs.Bytes.{bufferLength, partOf, posted};
+ghost use Rattle.moves.specs.Bytes.{bufferLength, partOf, posted, accessed};
+ghost use Rattle.moves.specs.Reaching.{Reached};
 
 // The words of a post, to the front of the part.
 fn take_words(part: &mut [u8], words: &[u8])
@@ -114,4 +118,29 @@ pub fn write_access(
     let start = 512 * m;
     let end = start + 512;
     write_words(memory, at, &buffer[start..end], first, count, lanes, width);
+}
+
+// Access a of the transfer that master m holds, at a slave whose span starts at `start`.
+pub fn carry_access(
+    ma: Master,
+    sl: Slave,
+    t: Transfer,
+    m: usize,
+    start: usize,
+    a: u16,
+    memory: &mut [u8],
+    buffer: &mut [u8],
+)
+    requires { ⌜ Reached ma sl t m start a (record { memory = now memory; buffer = now buffer }) ⌝ }
+    ensures { λ r. ⌜ record { memory = now (memory .exit); buffer = now (buffer .exit) }
+        ≡ accessed ma sl t m start a (record { memory = now (memory .entry); buffer = now (buffer .entry) }) ⌝ }
+{
+    let place = start + ((t.address - sl.base) as usize);
+    let first = geometry::first_byte(ma, sl, a) as usize;
+    let count = geometry::access_width(ma, sl) as usize;
+    if t.write {
+        write_access(memory, place, buffer, m, first, count, t.lanes, ma.width);
+        return;
+    }
+    read_access(memory, place, buffer, m, first, count);
 }

@@ -6,3 +6,5 @@ pub mod SoundLaws
 pub mod CycleLaws
 pub mod TargetLaws
 pub mod CheckLaws
+pub mod ServeLaws
+pub mod PlaceLaws

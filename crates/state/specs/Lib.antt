@@ -6,3 +6,4 @@ pub mod Carrying
 pub mod Resetting
 pub mod Targets
 pub mod Parts
+pub mod Serving

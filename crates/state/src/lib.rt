@@ -1,5 +1,7 @@
 // The state of a board's fabric, and how a post and a clock change it.
 pub mod checks;
+// ---- one slave's clock
+pub mod steps;
 
 use geometry::Transfer;
 

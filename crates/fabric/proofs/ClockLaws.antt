@@ -1,0 +1,77 @@
+-- A clock's refusals in their order, and what it answers and leaves then.
+-- Assumes nothing.
+use mathlib.Core.Path.{_≡_, refl, sym, ap, _∙_}
+use mathlib.Core.Bool.{Bool, true, false, cond, or-true}
+use mathlib.Core.List.{List}
+use Prim.Native.Nat.{ℕ}
+use lib.Dec.{eqb}
+use lib.ListN.{length}
+use borrow.Author.Tests.{eq-eqb, ne-eqb}
+use Rattle.laws.specs.Lists.{table, sum}
+use Rattle.laws.proofs.TableLaws.{getD-table}
+use Rattle.laws.proofs.FrontLaws.{table-same}
+use Rattle.board.specs.declared.Board.{Board}
+use Rattle.board.specs.Records.{memoryLength}
+use Rattle.board.specs.Items.{checkBoard}
+use Rattle.moves.specs.Bytes.{Store, bufferLength}
+use Rattle.state.specs.declared.State.{State}
+use Rattle.state.specs.Soundness.{sound}
+use Rattle.state.specs.Carrying.{storeAfter}
+use Rattle.fabric.specs.declared.Clocked.{Clocked}
+use Rattle.fabric.specs.Calls.{clockRefusal, clock, storeAfterClock}
+use Rattle.fabric.specs.Rounds.{refusedClock, Turned}
+
+module _ (b : Board) (st : State) (d : Store) where
+  pub refused-board : {n : ℕ} → n ≡ checkBoard b → (n ≡ 0 → ⊥) → clockRefusal b st d ≡ n
+  unfolding clockRefusal
+  refused-board {n} e h = rw (ne-eqb (checkBoard b) 0 (λ z. h (e ∙ z))) (sym e)
+
+  module _ (ok : checkBoard b ≡ 0) where
+    pub refused-memory : (length (d .memory) ≡ memoryLength b → ⊥) → clockRefusal b st d ≡ 8
+    unfolding clockRefusal
+    refused-memory h = rw (eq-eqb (checkBoard b) 0 ok, ne-eqb (length (d .memory)) (memoryLength b) h)
+
+    module _ (m : length (d .memory) ≡ memoryLength b) where
+      pub refused-buffer : (length (d .buffer) ≡ bufferLength → ⊥) → clockRefusal b st d ≡ 8
+      unfolding clockRefusal
+      refused-buffer h =
+          rw (eq-eqb (checkBoard b) 0 ok, eq-eqb (length (d .memory)) (memoryLength b) m, ne-eqb (length (d .buffer)) bufferLength h)
+
+      module _ (f : length (d .buffer) ≡ bufferLength) where
+        pub refused-state : sound b st ≡ false → clockRefusal b st d ≡ 9
+        unfolding clockRefusal
+        refused-state h =
+            rw (
+              eq-eqb (checkBoard b) 0 ok,
+              eq-eqb (length (d .memory)) (memoryLength b) m,
+              eq-eqb (length (d .buffer)) bufferLength f,
+              h,
+            )
+
+        pub not-refused : sound b st ≡ true → clockRefusal b st d ≡ 0
+        unfolding clockRefusal
+        not-refused h =
+            rw (
+              eq-eqb (checkBoard b) 0 ok,
+              eq-eqb (length (d .memory)) (memoryLength b) m,
+              eq-eqb (length (d .buffer)) bufferLength f,
+              h,
+            )
+
+  -- the answer and the bytes of a refusal
+  pub answer-refused : {n : ℕ} {r : Clocked} → clockRefusal b st d ≡ n → (n ≡ 0 → ⊥) → r ≡ refusedClock n st → r ≡ clock b st d
+  unfolding clock refusedClock
+  answer-refused {n} e h q = q ∙ rw (e, ne-eqb n 0 h)
+
+  pub store-refused : {n : ℕ} → clockRefusal b st d ≡ n → (n ≡ 0 → ⊥) → d ≡ storeAfterClock b st d
+  unfolding storeAfterClock
+  store-refused {n} e h = rw (e, ne-eqb n 0 h)
+
+  -- and of a clock that is not refused
+  pub answer-turned : {e : Store} {r : Clocked} → clockRefusal b st d ≡ 0 → Turned b st d e r → r ≡ clock b st d
+  unfolding clock
+  answer-turned z t = t .answer ∙ rw z
+
+  pub store-turned : {e : Store} {r : Clocked} → clockRefusal b st d ≡ 0 → Turned b st d e r → e ≡ storeAfterClock b st d
+  unfolding storeAfterClock
+  store-turned z t = t .store ∙ rw z

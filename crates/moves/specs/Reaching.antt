@@ -1,0 +1,21 @@
+-- What an access asks of the lent bytes and of its master's word.
+-- Assumes nothing.
+use mathlib.Core.Path.{_≡_}
+use Prim.Native.Nat.{ℕ, _+_, _%_, _≤_, _<_}
+use lib.ListN.{length}
+use Rattle.board.specs.declared.Master.{Master}
+use Rattle.board.specs.declared.Slave.{Slave}
+use Rattle.geometry.specs.declared.Transfer.{Transfer}
+use Rattle.geometry.specs.Accesses.{accessBytes, firstByte}
+use Rattle.moves.specs.Bytes.{Store, bufferLength, memoryPlace}
+
+-- access a of master number m lies in the lent memory, in the master's part of the buffer, and in one word of the master
+pub record Reached (ma : Master) (sl : Slave) (t : Transfer) (m start a : ℕ) (d : Store) : Type 0 where
+  pub master : m < 8
+  pub buffer : length (d .buffer) ≡ bufferLength
+  pub part : firstByte ma sl a + accessBytes ma sl ≤ 512
+  pub address : sl .base ≤ t .address
+  pub memory : memoryPlace sl t start + (firstByte ma sl a + accessBytes ma sl) ≤ length (d .memory)
+  pub some : 0 < ma .width
+  pub few : ma .width ≤ 8
+  pub word : firstByte ma sl a % ma .width + accessBytes ma sl ≤ ma .width
