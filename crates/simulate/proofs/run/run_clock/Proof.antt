@@ -1,0 +1,64 @@
+-- `simulate::run::run_clock` is safe and ends. The loop's invariant: memory and buffer keep their lengths. The measure is the count
+-- of clocks that are left. Assumes nothing.
+use mathlib.Core.Path.{_≡_}
+use lib.ListN.{length}
+use borrow.Author.Needs.{needs}
+use Rattle.simulate.proofs.run.run_clock.Statement.{statement}
+use Rattle.simulate.proofs.run.run_clock.Tie as tie
+
+abbrev Inv-loop : tie.InvT-loop
+Inv-loop w memory₀ buffer₀ out₀ count board slave-count state₀ output₀ left₀ memory buffer out state output left = (length memory ≡ length memory₀) × (length buffer ≡ length buffer₀)
+
+abbrev μ-loop : tie.MeasureT-loop
+μ-loop w memory₀ buffer₀ out₀ count board slave-count state₀ output₀ left₀ memory buffer out state output left = left
+
+loop-holds : tie.Need-loop-holds Inv-loop μ-loop
+loop-holds c = search needs
+
+clock-requires : tie.Need-clock-requires Inv-loop μ-loop
+clock-requires c κs = search needs
+
+put-clock-requires : tie.Need-put-clock-requires Inv-loop μ-loop
+put-clock-requires c κs = search needs
+
+left-after-requires : tie.Need-left-after-requires Inv-loop μ-loop
+left-after-requires c κs = search needs
+
+loop-less : tie.Need-loop-less Inv-loop μ-loop
+loop-less c = search needs
+
+loop-again : tie.Need-loop-again Inv-loop μ-loop
+loop-again c = search needs
+
+with-state-requires : tie.Need-with-state-requires Inv-loop μ-loop
+with-state-requires c κs = search needs
+
+printed-requires : tie.Need-printed-requires Inv-loop μ-loop
+printed-requires c κs = search needs
+
+same-length : tie.Need-same-length Inv-loop μ-loop
+same-length c = search needs
+
+same-length-2 : tie.Need-same-length-2 Inv-loop μ-loop
+same-length-2 c = search needs
+
+returns : tie.Need-returns Inv-loop μ-loop
+returns c = search needs
+
+pub run-clock-spec : {M : Type 1} → statement M
+run-clock-spec =
+    tie.close
+    (tie.spec
+    Inv-loop
+    μ-loop
+    loop-holds
+    clock-requires
+    put-clock-requires
+    left-after-requires
+    loop-less
+    loop-again
+    with-state-requires
+    printed-requires
+    same-length
+    same-length-2
+    returns)
