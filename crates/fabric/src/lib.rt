@@ -89,7 +89,7 @@ fn state_at_reset(b: Board) -> State
 pub fn reset(board: Board) -> Started
     ensures { λ r. ⌜ r ≡ calls.reset board ⌝ }
 {
-    let number = board::check(board);
+    let number = board::refusal(board);
     if number == 0 {
         let st = state_at_reset(board);
         return Started {
@@ -118,7 +118,7 @@ fn words_length(ma: Master, t: Transfer) -> usize
 fn post_refusal(board: Board, state: State, room: usize, m: u32, t: Transfer, length: usize) -> u8
     ensures { λ r. ⌜ r ≡ refusalBy board state room m t length ⌝ }
 {
-    let number = board::check(board);
+    let number = board::refusal(board);
     if number != 0 {
         return number;
     }
@@ -192,7 +192,7 @@ pub fn clock(board: Board, state: State, memory: &mut [u8], buffer: &mut [u8]) -
     ensures stored { λ r. ⌜ record { memory = now (memory .exit); buffer = now (buffer .exit) }
         ≡ storeAfterClock board state (record { memory = now (memory .entry); buffer = now (buffer .entry) }) ⌝ }
 {
-    let number = board::check(board);
+    let number = board::refusal(board);
     if number != 0 {
         return cycles::refuse(number, state);
     }

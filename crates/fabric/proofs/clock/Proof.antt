@@ -12,7 +12,7 @@ use Rattle.fabric.proofs.clock.Statement.{statement}
 use Rattle.fabric.proofs.clock.Tie as tie
 use Rattle.fabric.proofs.clock.Reads as reads
 use Rattle.fabric.proofs.clock.Lts as lts
-use Rattle.board.proofs.check.Reads as check-reads
+use Rattle.board.proofs.refusal.Reads as refusal-reads
 use Rattle.fabric.proofs.cycles.refuse.Reads as refuse-reads
 use Rattle.fabric.proofs.cycles.span_total.Reads as span-total-reads
 use Rattle.fabric.proofs.cycles.turn.Reads as turn-reads
@@ -21,7 +21,7 @@ use Rattle.state.proofs.checks.targets.Reads as targets-reads
 
 -- what the code knows once a test is passed: the board, the length of the memory
 board-ok : (c : tie.Else1) → checkBoard (c .before .before .before .before .args .board) ≡ 0
-board-ok c = sym (c .before .check .ensures) ∙ c .if1 .left
+board-ok c = sym (c .before .refusal .ensures) ∙ c .if1 .left
 
 room : (c : tie.After-span-total)
     → c .span-total .result ≡ memoryLength (c .before .before .before .before .before .before .before .args .board)
@@ -34,8 +34,8 @@ memory-ok : (c : tie.Else2)
 memory-ok c = c .if2 .left ∙ room (c .before)
 
 -- src/lib.rt:195:9
-check-requires : tie.Need-check-requires
-check-requires c κs = search needs
+refusal-requires : tie.Need-refusal-requires
+refusal-requires c κs = search needs
 
 -- src/lib.rt:197:9
 refuse-requires : tie.Need-refuse-requires
@@ -44,7 +44,7 @@ refuse-requires c κs = search needs
 -- src/lib.rt:197:9
 returns : tie.Need-returns
 returns c = let h = c .before .if1 .taken in
-    let q = refused-board _ _ _ (c .before .before .check .ensures) h in
+    let q = refused-board _ _ _ (c .before .before .refusal .ensures) h in
     (answer-refused _ _ _ q h (c .refuse .ensures), store-refused _ _ _ q h)
 
 -- src/lib.rt:200:43
@@ -118,7 +118,7 @@ pub clock-spec : {M : Type 1} → statement M
 clock-spec =
     tie.close
     (tie.spec
-    check-requires
+    refusal-requires
     refuse-requires
     returns
     cast-span-total

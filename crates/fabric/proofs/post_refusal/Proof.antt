@@ -11,15 +11,15 @@ use Rattle.fabric.proofs.PostLaws.{wordsRefusal, askedRefusal, refusal-
 use Rattle.fabric.proofs.post_refusal.Statement.{statement}
 use Rattle.fabric.proofs.post_refusal.Tie as tie
 
-check-requires : tie.Need-check-requires
-check-requires c κs = search needs
+refusal-requires : tie.Need-refusal-requires
+refusal-requires c κs = search needs
 
 returns : tie.Need-returns
 unfolding refusalBy
-returns c = rw (← c .before .check .ensures, ne-eqb _ _ (c .if1 .taken))
+returns c = rw (← c .before .refusal .ensures, ne-eqb _ _ (c .if1 .taken))
 
 accepted : (c : tie.Else1) → checkBoard (c .before .before .args .t1) ≡ 0
-accepted c = sym (c .before .check .ensures) ∙ c .if1 .left
+accepted c = sym (c .before .refusal .ensures) ∙ c .if1 .left
 
 returns-2 : tie.Need-returns-2
 unfolding refusalBy
@@ -90,7 +90,7 @@ pub post-refusal-spec : {M : Type 1} → statement M
 post-refusal-spec =
     tie.close
     (tie.spec
-    check-requires
+    refusal-requires
     returns
     returns-2
     targets-requires
