@@ -1,5 +1,5 @@
 // The public calls on a board's fabric: reset, post and clock.
-pub mod cycles;
+mod cycles;
 
 use board::Board;
 use board::Master;
