@@ -14,9 +14,10 @@ of the records that are stored with the program texts):
   table     COUNT / 2 boards
   simulate  COUNT boards, each with a script of about 100 calls
 
-A program that is not built is skipped. Prints a line for each; of what differs, the input and
-both outputs are kept in target/compare/NAME. Exit status: 0 where nothing differs, 1 where
-something does, 2 where nothing could be compared.
+Before that the model is held to the rows of document 01 (model check). Prints a line for each; of
+what differs, the input and both outputs are kept in target/compare/NAME. Exit status: 0 where
+nothing differs, 1 where something does, 2 where something could not be compared, as where a
+program is not built.
 END
 }
 
@@ -71,7 +72,6 @@ part() {
 
 # The line of a kind: its name, what was compared, and how many differ.
 report() {
-    compared=$((compared + 1))
     if [ "$3" -eq 0 ]; then
         echo "$1: $2, 0 differences"
     else
@@ -80,12 +80,10 @@ report() {
     fi
 }
 
-# Whether the program is built; where it is, its folder is made anew.
+# The folder of a kind is made anew. A program that is not built fails: a comparison left out would pass for one without
+# differences.
 begin() {
-    if [ ! -x "$root/target/bin/$1" ]; then
-        echo "$1: not built (rt check $1), skipped"
-        return 1
-    fi
+    [ -x "$root/target/bin/$1" ] || fail "$1 is not built: rt check $1"
     rm -rf "${folder:?}/$1"
     mkdir -p "$folder/$1"
 }
@@ -105,7 +103,7 @@ differing_records() {
 }
 
 compare_texts() {
-    begin texts || return 0
+    begin texts
     item=$folder/texts/records
     "$model" gen-texts "$seed" "$count" > "$item.txt"
     run_to "$item.program" "$root/target/bin/texts" < "$item.txt"
@@ -122,7 +120,7 @@ compare_texts() {
 
 # Boards, two parts at a time.
 compare_boards() {
-    begin "$1" || return 0
+    begin "$1"
     "$model" gen-boards "$seed" "$2" "$folder/$1"
     seq 0 $(($2 - 1)) | xargs -P 2 -n 50 "$self" --part "$1" "$seed" > "$folder/$1.differing" ||
         fail "the comparison of $1 broke off"
@@ -151,10 +149,12 @@ esac
 [ "$count" -ge 2 ] || fail "COUNT is 2 or more"
 cargo build --release --offline --quiet --manifest-path "$root/model/Cargo.toml" --target-dir "$root/target/model" ||
     fail "the model cannot be built"
-compared=0
+"$model" check > "$root/target/model/check" || {
+    cat "$root/target/model/check" >&2
+    fail "the model does not have document 01's rows"
+}
 different=0
 compare_texts
 compare_boards table "$((count / 2))" "$((count / 2)) boards"
 compare_boards simulate "$count" "$count boards of $calls calls"
-[ "$compared" -gt 0 ] || fail "no program is built"
 exit "$different"
