@@ -122,3 +122,24 @@ pub fn record_after(a: Arbiter, g: Grant) -> Arbiter
         },
     }
 }
+
+// Rule 1 on the slave's own record: "One clock changes a slave's last owner and remaining grants by these rules."
+// The record is lent; the grant is arbitrate's, and the record after it is stored in the place of the old one.
+pub fn arbitrate_record(
+    a: &mut Arbiter,
+    n: u8,
+    requests: u8,
+    shares: [u8; 8],
+    beats: [u8; 8],
+) -> Grant
+    ensures answer { λ r. ⌜ r
+        ≡ granted n (bit requests) (λ m. getD shares m 0) (λ m. getD beats m 0) (now (a .entry)) ⌝ }
+    ensures record { λ _. ⌜ now (a .exit) ≡ arbiterAfter (now (a .entry))
+        (granted n (bit requests) (λ m. getD shares m 0) (λ m. getD beats m 0) (now (a .entry))) ⌝ }
+{
+    let last = *a;
+    let g = arbitrate(n, requests, shares, beats, last);
+    let next = record_after(last, g);
+    *a = next;
+    g
+}

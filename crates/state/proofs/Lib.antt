@@ -8,3 +8,4 @@ pub mod TargetLaws
 pub mod CheckLaws
 pub mod ServeLaws
 pub mod PlaceLaws
+pub mod ArbiterRecords

@@ -7,3 +7,4 @@ pub mod Resetting
 pub mod Targets
 pub mod Parts
 pub mod Serving
+pub mod ArbiterRecords

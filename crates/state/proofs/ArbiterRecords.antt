@@ -1,0 +1,48 @@
+-- The slave's last owner and remaining grants after a clock are those that `arbiter::arbitrate_record` leaves in its record.
+-- Assumes nothing.
+use mathlib.Core.Path.{_≡_, refl, sym, _∙_, ap}
+use mathlib.Core.Bool.{Bool, true, false}
+use Prim.Native.Nat.{ℕ, _≤_, _<_}
+use Rattle.board.specs.declared.Board.{Board}
+use Rattle.arbiter.specs.declared.Grant.{Grant}
+use Rattle.arbiter.specs.declared.Grant.the-variants.{Granted, Silent}
+use Rattle.arbiter.specs.Granting.{arbiterAfter}
+use Rattle.state.specs.declared.Slot.{Slot}
+use Rattle.state.specs.declared.State.{State}
+use Rattle.state.specs.declared.Step.{Step}
+use Rattle.state.specs.Records.{slotAt}
+use Rattle.state.specs.Control.{slotGranted, slotAfterGrant, slotWaiting, slotAccessed, slotFinished, stepOf, stateAfter, grantAt}
+use Rattle.state.specs.ArbiterRecords.{recordOf, recordAfter}
+use Rattle.state.proofs.StateLaws.{slot-after}
+use Rattle.state.proofs.StepLaws.{Turn, rests, waiting, works, ends, turn, grant-serving, grant-given}
+
+-- rule 1 changes a slot's record as the arbiter's rule says
+pub granted-record : (slot : Slot) (g : Grant) → recordOf (slotGranted slot g) ≡ arbiterAfter (recordOf slot) g
+unfolding recordOf slotGranted arbiterAfter
+granted-record slot (Granted m r) = refl
+granted-record slot Silent = refl
+
+-- rules 2 and 3 leave the record
+step-record : (b : Board) (st : State) (s : ℕ) → recordOf (stepOf b st s .slot) ≡ recordOf (slotAfterGrant b st s)
+unfolding recordOf slotWaiting slotAccessed slotFinished
+step-record b st s = go (turn b st s)
+  where
+    go : Turn b st s → recordOf (stepOf b st s .slot) ≡ recordOf (slotAfterGrant b st s)
+    go (rests e q) = rw q
+    go (waiting e w q) = rw q
+    go (works e w l q) = rw q
+    go (ends e w l q) = rw q
+
+-- rule 1 at slave s
+grant-record : (b : Board) (st : State) (s : ℕ) → recordOf (slotAfterGrant b st s) ≡ recordAfter b st s
+unfolding recordAfter
+grant-record b st s = go (slotAt st s .serving) refl
+  where
+    go : (c : Bool) → slotAt st s .serving ≡ c → recordOf (slotAfterGrant b st s) ≡ recordAfter b st s
+    go true e = rw e (ap recordOf (grant-serving b st s e))
+    go false e = rw e (ap recordOf (grant-given b st s e) ∙ granted-record (slotAt st s) (grantAt b st s))
+
+-- "One clock changes a slave's last owner and remaining grants by these rules."
+pub record-changed : (b : Board) (st : State) (s : ℕ) → s < b .«slave_count» → b .«slave_count» ≤ 16
+    → recordOf (slotAt (stateAfter b st) s) ≡ recordAfter b st s
+record-changed b st s l few = ap recordOf (slot-after b st s l few) ∙ (step-record b st s ∙ grant-record b st s)
