@@ -65,13 +65,13 @@ unended-some (c ∷ cs) h = refl
 
 -- The lines of s from `at` on, where the first piece there ends e bytes on.
 module _ (s : List ℕ) (at e : ℕ) (cut : Cut lineFeed (take (length s - at) (drop at s)) e) where
-  lines-last :
+  pub lines-last :
       e ≡ length (take (length s - at) (drop at s))
       → itemsOf (drop at s) ≡ unended (take e (take (length s - at) (drop at s)))
   unfolding itemsOf itemsOfPieces
   lines-last h = rw (cut-rest lineFeed s at e cut, rest-last lineFeed s at e h)
 
-  lines-more :
+  pub lines-more :
       e < length (take (length s - at) (drop at s))
       → itemsOf (drop at s) ≡ itemOf (take e (take (length s - at) (drop at s))) ∷ itemsOf (drop (at + e + 1) s)
   unfolding itemsOf

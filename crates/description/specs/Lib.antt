@@ -1,3 +1,4 @@
 pub mod Reader
+pub mod Blame
 pub mod Writer
 pub mod Longest

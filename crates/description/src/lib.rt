@@ -5,9 +5,10 @@ ghost use lib.ListN.{length};
 ghost use Rattle.laws.specs.Lists.{gather, table};
 ghost use Rattle.text.specs.Scanning.{Put};
 ghost use Rattle.board.specs.declared.Item.the-variants.{MasterLine, SlaveLine};
-ghost use Rattle.board.specs.Rules.{described};
+ghost use Rattle.board.specs.Rules.{described, start};
 ghost use Rattle.board.specs.Items.{masterItem, slaveItem, shareItem, checkBoard};
 ghost use Rattle.description.specs.Reader.{masterLine, slaveLine, shareLine, itemOf, itemsOf, reading, readText};
+ghost use Rattle.description.specs.Blame.{firstRefused, refusalOf};
 ghost use Rattle.description.specs.Writer.{itemText, itemsText, writeText, written, outputAfter};
 use board::Board;
 use board::Item;
@@ -26,6 +27,12 @@ const PAIRS: usize = 128;
 pub struct Parsed {
     pub number: u8,
     pub board: Board,
+}
+
+// A refusal's number and the line charged with it, counted from 1; the line is 0 where no line is to blame.
+pub struct Refusal {
+    pub number: u8,
+    pub line: usize,
 }
 
 // A refusal's number and 0, or 0 and the count of bytes written.
@@ -133,6 +140,53 @@ pub fn read(text: &[u8]) -> Parsed
         number: r.number,
         board: board,
     }
+}
+
+// The lines as read_lines takes them, counted. The two loops are apart so that reading a board pays for no count.
+fn blame_lines(text: &[u8]) -> Refusal
+    ensures { λ r. ⌜ r .number ≡ described (itemsOf (now (text .entry))) .number ⌝ }
+    ensures { λ r. ⌜ r .line ≡ firstRefused 0 start (itemsOf (now (text .entry))) ⌝ }
+{
+    let mut r = board::first_reading();
+    let mut line: usize = 0;
+    let mut at: usize = 0;
+    loop {
+        let rest = &text[at..];
+        let e = text::find_byte(rest, b'\n');
+        if e == rest.len() {
+            if e == 0 {
+                let end = board::finished(r);
+                return Refusal {
+                    number: end.number,
+                    line: 0,
+                };
+            }
+            // The last line has no line feed.
+            return Refusal {
+                number: 1,
+                line: line + 1,
+            };
+        }
+        line += 1;
+        r = board::add_item(r, parse_line(&rest[..e]));
+        if r.number != 0 {
+            return Refusal {
+                number: r.number,
+                line: line,
+            };
+        }
+        at = at + e + 1;
+    }
+}
+
+// The number that read answers for a text, and the line that is charged with it.
+pub fn refused_at(text: &[u8]) -> Refusal
+    ensures { λ r. ⌜ r ≡ refusalOf (now (text .entry)) ⌝ }
+{
+    if 8192 < text.len() {
+        return Refusal { number: 1, line: 0 };
+    }
+    blame_lines(text)
 }
 
 // Writes a line with its line feed; a malformed one has no bytes, and no board has one.

@@ -1,5 +1,5 @@
 // Runs a bus fabric clock by clock: `simulate BOARD < SCRIPT`. BOARD names a description's file, the script's lines say
-// what to do.
+// what to do. `simulate --help` lists what the refusals' numbers mean.
 mod answers;
 mod input;
 mod lending;
@@ -10,61 +10,30 @@ mod world;
 use libc::STDERR_FILENO;
 use libc::STDOUT_FILENO;
 
-// Says what a board's refusal means.
-fn explain(number: u8) {
-    match number {
-        1 => {
-            io::write_all(
-                STDERR_FILENO,
-                b"the board's text is longer than 8192 bytes, or a line has no line feed, ",
-            );
-            io::write_all(
-                STDERR_FILENO,
-                b"an unknown first word, a wrong count of fields or a bad number\n",
-            );
-        }
-        2 => {
-            io::write_all(
-                STDERR_FILENO,
-                b"the board has no master, no slave, or a line out of order or too many\n",
-            );
-        }
-        3 => {
-            io::write_all(
-                STDERR_FILENO,
-                b"a value of the board is outside its list or range\n",
-            );
-        }
-        4 => {
-            io::write_all(
-                STDERR_FILENO,
-                b"a slave's base is no multiple of its span\n",
-            );
-        }
-        5 => {
-            io::write_all(STDERR_FILENO, b"a slave overlaps an earlier one\n");
-        }
-        6 => {
-            io::write_all(
-                STDERR_FILENO,
-                b"the spans of the slaves total more than 65536 bytes\n",
-            );
-        }
-        _ => {
-            io::write_all(
-                STDERR_FILENO,
-                b"a share line names no master or slave of the board, or a pair twice\n",
-            );
-        }
-    }
+fn usage() {
+    io::write_all(STDERR_FILENO, b"usage: simulate BOARD < SCRIPT\n");
 }
 
-// The board is refused.
-fn refuse(number: u8) {
+// What the numbers mean that the calls answer.
+fn help() {
+    usage();
+    io::write_all(
+        STDERR_FILENO,
+        b"Runs the script's lines on the board and prints what each call answers, a refusal by its number:\n",
+    );
+    refusals::list(18);
+}
+
+// The board is refused: its number on standard output, the line and the cause on standard error.
+fn refuse(path: &[u8], text: &[u8]) {
+    let r = description::refused_at(text);
     io::write_all(STDOUT_FILENO, b"refused,");
-    io::print_decimal(STDOUT_FILENO, number as u64);
+    io::print_decimal(STDOUT_FILENO, r.number as u64);
     io::write_all(STDOUT_FILENO, b"\n");
-    explain(number);
+    io::write_all(STDERR_FILENO, b"simulate: ");
+    io::write_all(STDERR_FILENO, path);
+    io::write_all(STDERR_FILENO, b": ");
+    refusals::explain(r);
 }
 
 // The file's bytes, up to one more than a description may have: the reader refuses a longer one by its length.
@@ -78,7 +47,7 @@ fn simulate(fd: i32, path: &[u8]) {
     let n = answers::place(got.end, &text);
     let parsed = description::read(&text[..n]);
     if parsed.number != 0 {
-        refuse(parsed.number);
+        refuse(path, &text[..n]);
         return;
     }
     let board = parsed.board;
@@ -87,13 +56,17 @@ fn simulate(fd: i32, path: &[u8]) {
 
 fn main() {
     if os::arg_count() != 2 {
-        io::write_all(STDERR_FILENO, b"usage: simulate BOARD < SCRIPT\n");
+        usage();
         return;
     }
     let mut path = io::buffer();
     let length = os::arg(1, &mut path);
     if os::errno() != 0 {
         os::fail(b"BOARD");
+        return;
+    }
+    if text::same_bytes(&path[..length], b"--help") {
+        help();
         return;
     }
     let fd = os::open_read(&path[..length]);

@@ -1,6 +1,30 @@
-// Reads a description on standard input, and prints its table, or its refusal, on standard output.
+// Reads a description on standard input, and prints its table, or its refusal, on standard output. What the refusal means goes
+// to standard error: standard output is read by other programs.
+use libc::STDERR_FILENO;
+
+fn usage() {
+    io::write_all(STDERR_FILENO, b"usage: table < BOARD\n");
+    io::write_all(
+        STDERR_FILENO,
+        b"Prints master,slave,wait,serve of every connected pair, or refused, and a number:\n",
+    );
+    refusals::list(7);
+}
+
+// Says at which line a text is refused, and why.
+fn explain(text: &[u8]) {
+    let r = description::refused_at(text);
+    if r.number != 0 {
+        io::write_all(STDERR_FILENO, b"table: ");
+        refusals::explain(r);
+    }
+}
 
 fn main() {
+    if 1 < os::arg_count() {
+        usage();
+        return;
+    }
     // One byte more than a description may have: a longer text is then refused as such.
     let mut text = [0; 8193];
     let mut page = [0; quote::LONGEST_TABLE];
@@ -8,4 +32,5 @@ fn main() {
     let p = quote::print_table(&text[..n], &mut page);
     let length = p.length;
     io::write_all(1, &page[..length]);
+    explain(&text[..n]);
 }

@@ -7,6 +7,15 @@ use Rattle.quote.proofs.AnswerLaws.{print-fits}
 use Rattle.table.proofs.main.Statement.{statement}
 use Rattle.table.proofs.main.Tie as tie
 
+arg-count-requires : tie.Need-arg-count-requires
+arg-count-requires c κs = search needs
+
+usage-requires : tie.Need-usage-requires
+usage-requires c κs = search needs
+
+returns : tie.Need-returns
+returns c = search needs
+
 slice-aggregate-read-full : tie.Need-slice-aggregate-read-full
 slice-aggregate-read-full c = search needs
 
@@ -36,13 +45,25 @@ slice-aggregate-write-all c = let p = c .before .before .print-table in
 write-all-requires : tie.Need-write-all-requires
 write-all-requires c κs = search needs
 
-returns : tie.Need-returns
-returns c = search needs
+array-share-prefix-text-2 : tie.Need-array-share-prefix-text-2
+array-share-prefix-text-2 c = search needs
+
+slice-aggregate-explain : tie.Need-slice-aggregate-explain
+slice-aggregate-explain c = search needs
+
+explain-requires : tie.Need-explain-requires
+explain-requires c κs = search needs
+
+returns-2 : tie.Need-returns-2
+returns-2 c = search needs
 
 pub main-spec : {M : Type 1} → statement M
 main-spec =
     tie.close
     (tie.spec
+    arg-count-requires
+    usage-requires
+    returns
     slice-aggregate-read-full
     read-full-requires
     array-share-prefix-text
@@ -52,4 +73,7 @@ main-spec =
     array-share-prefix-page
     slice-aggregate-write-all
     write-all-requires
-    returns)
+    array-share-prefix-text-2
+    slice-aggregate-explain
+    explain-requires
+    returns-2)

@@ -1,0 +1,128 @@
+-- What `refused_at` says of a text: its number is `read`'s, and the line charged is the first that is refused.
+-- Assumes nothing.
+use mathlib.Core.Bool.{Bool, true, false}
+use mathlib.Core.List.{List, [], _∷_}
+use mathlib.Core.Path.{_≡_, refl, ap, sym, _∙_}
+use Prim.Native.Nat.{ℕ, zero, suc, _+_, _≤_, _<_}
+use native.Mathlib.Omega.{arith}
+use lib.Dec.{eqb, ltb}
+use lib.ListN.{length, take}
+use borrow.Author.Tests.{eqb-true, eqb-false, ltb-false}
+use Rattle.board.specs.declared.Item.{Item}
+use Rattle.board.specs.declared.Reading.{Reading}
+use Rattle.board.specs.Rules.{refused, start, step, run, finish, described}
+use Rattle.board.proofs.RunLaws.{run-stays, finish-stays}
+use Rattle.description.specs.Reader.{itemsOf, reading, readText}
+use Rattle.description.specs.Blame.{firstRefused, chargedLine, refusalOf}
+use Rattle.description.proofs.BlameLaws.{first-taken, first-refused}
+use Rattle.description.proofs.ReadLaws.{reading-short}
+
+-- the number is the reader's
+pub number-read : (s : List ℕ) → refusalOf s .number ≡ readText s .number
+unfolding refusalOf
+number-read s = refl
+
+-- a list whose lines are all taken, up to its end, has no line refused
+first-none : (n : ℕ) (r : Reading) (xs : List Item) → finish (run r xs) .number ≡ 0 → firstRefused n r xs ≡ 0
+unfolding firstRefused run
+first-none n r [] h = refl
+first-none n r (x ∷ xs) h = go (eqb (step r x .number) 0) refl (first-none (n + 1) (step r x) xs h)
+  where
+    stays : (step r x .number ≡ 0 → ⊥) → finish (run (step r x) xs) ≡ step r x
+    stays some = ap finish (run-stays (step r x) xs some) ∙ finish-stays (step r x) some
+
+    go :
+        (b : Bool) → eqb (step r x .number) 0 ≡ b → firstRefused (n + 1) (step r x) xs ≡ 0
+        → firstRefused n r (x ∷ xs) ≡ 0
+    go true e rest = first-taken n r (step r x) x xs refl (eqb-true _ _ e) ∙ rest
+    go false e rest =
+        let some = eqb-false (step r x .number) 0 e in
+        absurd (some (sym (ap (λ (q : Reading). q .number) (stays some)) ∙ h))
+
+-- a line refused lies behind the n lines before
+first-behind : (n : ℕ) (r : Reading) (xs : List Item) (k : ℕ) → firstRefused n r xs ≡ k + 1 → n ≤ k
+unfolding firstRefused
+first-behind n r [] k h = absurd (omega arith)
+first-behind n r (x ∷ xs) k h = go (eqb (step r x .number) 0) refl (λ e. first-behind (n + 1) (step r x) xs k e)
+  where
+    go :
+        (b : Bool) → eqb (step r x .number) 0 ≡ b → (firstRefused (n + 1) (step r x) xs ≡ k + 1 → n + 1 ≤ k)
+        → n ≤ k
+    go true e rest =
+        let l = rest (sym (first-taken n r (step r x) x xs refl (eqb-true _ _ e)) ∙ h) in omega arith
+    go false e rest =
+        let l = sym (first-refused n r (step r x) x xs refl (eqb-false _ _ e)) ∙ h in omega arith
+
+-- The line at place k of xs is the first refused: with those before it r has no refusal, with it the refusal of all.
+pub record First (r : Reading) (xs : List Item) (k : ℕ) : Type 0 where
+  pub within : k < length xs
+  pub before : run r (take k xs) .number ≡ 0
+  pub here : run r (take (suc k) xs) .number ≡ 0 → ⊥
+  pub all : run r (take (suc k) xs) ≡ run r xs
+
+first-at :
+    (n : ℕ) (r : Reading) (xs : List Item) (k : ℕ) → r .number ≡ 0 → firstRefused n r xs ≡ n + k + 1 → First r xs k
+unfolding firstRefused run
+first-at n r [] k none h = absurd (omega arith)
+first-at n r (x ∷ xs) zero none h = go (eqb (step r x .number) 0) refl
+  where
+    go : (b : Bool) → eqb (step r x .number) 0 ≡ b → First r (x ∷ xs) 0
+    go true e =
+        let l =
+        first-behind (n + 1) (step r x) xs n
+        (sym (first-taken n r (step r x) x xs refl (eqb-true _ _ e)) ∙ h ∙ (omega arith)) in
+        absurd (omega arith)
+    go false e = record {
+      within = omega arith;
+      before = none;
+      here = eqb-false _ _ e;
+      all = sym (run-stays (step r x) xs (eqb-false _ _ e));
+    }
+first-at n r (x ∷ xs) (suc k) none h = go (eqb (step r x .number) 0) refl (λ z e. first-at (n + 1) (step r x) xs k z e)
+  where
+    go :
+        (b : Bool) → eqb (step r x .number) 0 ≡ b
+        → (step r x .number ≡ 0 → firstRefused (n + 1) (step r x) xs ≡ n + 1 + k + 1 → First (step r x) xs k)
+        → First r (x ∷ xs) (suc k)
+    go true e rest =
+        let z = eqb-true (step r x .number) 0 e in
+        let f = rest z (sym (first-taken n r (step r x) x xs refl z) ∙ h ∙ (omega arith)) in record {
+          within = let w = f .within in omega arith;
+          before = f .before;
+          here = f .here;
+          all = f .all;
+        }
+    go false e rest =
+        let l = sym (first-refused n r (step r x) x xs refl (eqb-false _ _ e)) ∙ h in absurd (omega arith)
+
+-- Nothing refused: no line is charged.
+pub charged-none : (s : List ℕ) → readText s .number ≡ 0 → refusalOf s .line ≡ 0
+unfolding refusalOf chargedLine readText described
+charged-none s h = go (ltb 8192 (length s)) refl
+  where
+    go : (b : Bool) → ltb 8192 (length s) ≡ b → chargedLine s ≡ 0
+    go true e = rw e
+    go false e =
+        rw e
+        (first-none 0 start (itemsOf s)
+        (ap (λ (q : Reading). q .number) (sym (reading-short s (ltb-false _ _ e))) ∙ h))
+
+-- A line charged is the first refused, and its refusal is the text's.
+pub charged-first :
+    (s : List ℕ) (k : ℕ) → refusalOf s .line ≡ k + 1
+    → First start (itemsOf s) k × (refusalOf s .number ≡ run start (take (suc k) (itemsOf s)) .number)
+unfolding refusalOf chargedLine readText start refused described
+charged-first s k h = go (ltb 8192 (length s)) refl
+  where
+    go :
+        (b : Bool) → ltb 8192 (length s) ≡ b
+        → First start (itemsOf s) k × (reading s .number ≡ run start (take (suc k) (itemsOf s)) .number)
+    go true e = let z : 0 ≡ k + 1 = rw e at h in absurd (omega arith)
+    go false e =
+        let l : firstRefused 0 start (itemsOf s) ≡ k + 1 = rw e at h in
+        let f = first-at 0 start (itemsOf s) k refl (l ∙ (omega arith)) in
+        let some : run start (itemsOf s) .number ≡ 0 → ⊥ = rw (f .all) at (f .here) in (
+          f,
+          ap (λ (q : Reading). q .number)
+              (reading-short s (ltb-false _ _ e) ∙ finish-stays (run start (itemsOf s)) some ∙ sym (f .all)),
+        )
