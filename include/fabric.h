@@ -2,8 +2,8 @@
  * The quoted wait of an Avalon-MM fabric, for C and C++.
  *
  * Link with libquote.a, which `rt staticlib quote` writes to target/staticlib/ (x86-64 Linux).
- * The function is proved to do what is said here for every argument. It keeps no state, allocates nothing,
- * and calls nothing of the C library but memcpy.
+ * The function is proved to answer as said here for every text, both numbers and every length of out; that the
+ * pointers and lengths handed in are those of such bytes is the caller's part. It keeps no state and allocates nothing.
  */
 #ifndef FABRIC_H
 #define FABRIC_H
