@@ -1,6 +1,6 @@
 #!/bin/sh
-# Runs table and simulate on boards that are refused, and compares what they write on standard output and on standard error,
-# byte for byte, with the text that stands here.
+# Runs table and simulate on boards that are refused, and simulate on scripts with refused calls, and compares what they write
+# on standard output and on standard error, byte for byte, with the text that stands here.
 set -eu
 
 root=$(CDPATH= cd -- "$(dirname -- "$0")/.." && pwd)
@@ -32,7 +32,7 @@ run() {
         return 0
     fi
     different=$((different + 1))
-    echo "explain: $name $* (board: $(head -c 200 "$input" | tr '\n' ';')), status $status"
+    echo "explain: $name $* (input: $(head -c 200 "$input" | tr '\n' ';')), status $status"
     diff output.expected output || :
     diff error.expected error || :
 }
@@ -74,6 +74,94 @@ printf 'master,4,8\n%s\nshare,0,0,1\n' "$slave" > board.txt
 run table board.txt 'master,slave,wait,serve
 0,0,0,8' ''
 run simulate script.txt '' '' board.txt
+
+# A script, a format of printf, on the board of document 01: what is printed, and what is explained.
+printf 'master,4,8\nmaster,2,1\nslave,4096,4096,2,8,1,0\nshare,0,0,2\nshare,1,0,3\n' > fabric.txt
+called() {
+    # shellcheck disable=SC2059
+    printf "$1" > calls.txt
+    run simulate calls.txt "$2" "$3" fabric.txt
+}
+
+# The same where line 2, behind a reset, is refused with a number: nothing else is explained.
+refused_call() {
+    called "reset\n$1" "reset,0
+$2,$3${5-}" "simulate: script line 2: refusal $3: $4"
+}
+
+called 'lend,memory,4095\nreset\nclock,1\n' 'reset,0
+clock,8,0' 'simulate: script line 3: refusal 8: memory or buffer not of its exact length'
+called 'lend,buffer,4097\nreset\npost,0,read,4096,15,1,-\n' 'reset,0
+post,8' 'simulate: script line 3: refusal 8: memory or buffer not of its exact length'
+called 'reset\nslot,0,2,0,0,0,0\nclock,2\n' 'reset,0
+clock,9,0
+clock,9,0' 'simulate: script line 3: refusal 9: the state breaks a rule'
+called 'reset\ntransfer,0,1,0,4096,15,9\npost,1,read,4096,3,1,-\n' 'reset,0
+post,9' 'simulate: script line 3: refusal 9: the state breaks a rule'
+refused_call 'post,2,read,4096,15,1,-\n' post 11 'no such master'
+refused_call 'wait,2,0\n' wait 11 'no such master' ',0,0'
+called 'reset\npost,0,read,4096,15,1,-\npost,0,read,4096,15,1,-\n' 'reset,0
+post,0
+post,12' 'simulate: script line 3: refusal 12: master holds a transfer'
+beats="beats 0 or over the master's burst"
+refused_call 'post,0,read,4096,15,9,-\n' post 13 "$beats"
+refused_call 'post,0,read,4096,15,0,-\n' post 13 "$beats"
+refused_call 'post,0,read,8190,15,1,-\n' post 14 "address no multiple of the master's width"
+refused_call 'post,0,read,4096,6,1,-\n' post 15 'lanes not legal, or a burst without all lanes'
+refused_call 'post,0,read,4096,3,2,-\n' post 15 'lanes not legal, or a burst without all lanes'
+refused_call 'post,0,read,8192,15,1,-\n' post 16 'no connected slave there'
+refused_call 'wait,0,1\n' wait 16 'no connected slave there' ',0,0'
+refused_call 'post,0,read,8188,15,2,-\n' post 17 "burst passes the slave's end"
+refused_call 'post,0,write,4096,15,1,112233\n' post 18 'data not beats times width bytes'
+refused_call 'post,0,read,4096,15,1,11223344\n' post 18 'data not beats times width bytes'
+
+# A board that the script has overwritten is refused by the call that it is handed to.
+called 'count,0,1\nreset\n' 'reset,2' \
+    'simulate: script line 2: refusal 2: at the end, no master or no slave; line kind out of order or over the count'
+called 'reset\nslave,0,4100,4096,2,8,1,0\npost,0,read,4096,15,1,-\nclock,1\nwait,0,0\n' 'reset,0
+post,4
+clock,4,0
+wait,0,6,32' 'simulate: script line 3: refusal 4: base no multiple of span
+simulate: script line 4: refusal 4: base no multiple of span'
+called 'share,0,1,1\nreset\n' 'reset,7' "simulate: script line 2: refusal 7: $share"
+
+# A line with many refused clocks is explained once, and only lines that are refused are.
+called 'reset\nclock,1\nlend,buffer,0\nclock,1000\nlend,buffer,4096\nclock,1\nclock,0\n' "reset,0
+clock,0,0
+slave,0,0,0,0,0,0,0
+$(seq 1000 | sed 's/.*/clock,8,0/')
+clock,0,0
+slave,0,0,0,0,0,0,0" 'simulate: script line 4: refusal 8: memory or buffer not of its exact length'
+
+# A malformed line ends the run, also where it is the last and has no line feed.
+called 'reset\npost,2,read,4096,15,1,-\nclock,one\nclock,1\n' 'reset,0
+post,11
+error,3' 'simulate: script line 2: refusal 11: no such master
+simulate: script line 3: not a line of a script'
+called '\n' 'error,1' 'simulate: script line 1: not a line of a script'
+called 'reset\nshow,memory,4096,1' 'reset,0
+error,2' 'simulate: script line 2: not a line of a script'
+
+# Where both go to one place, an explanation comes right behind the answer.
+printf 'reset\npost,2,read,4096,15,1,-\nclock,2\nwait,2,0\nreset' > calls.txt
+"$root/target/bin/simulate" fabric.txt < calls.txt > output 2>&1 || :
+cat > output.expected <<'END'
+reset,0
+post,11
+simulate: script line 2: refusal 11: no such master
+clock,0,0
+slave,0,0,0,0,0,0,0
+clock,0,0
+slave,0,0,0,0,0,0,0
+wait,11,0,0
+simulate: script line 4: refusal 11: no such master
+reset,0
+END
+runs=$((runs + 1))
+cmp -s output output.expected || {
+    different=$((different + 1))
+    diff output.expected output || :
+}
 
 # How the programs are called.
 meanings="  1 text over 8192 bytes; $line

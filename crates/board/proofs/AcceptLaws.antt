@@ -14,8 +14,8 @@ use lib.ListN.{length, getD, take, set, replicate, length-set}
 use lib.Pow.{shl-exact, split}
 use borrow.Author.Count.{below-none, below-more}
 use borrow.Author.Tests.{eqb-true, leb-true, leb-false, ltb-false, lt-ltb, le-leb}
-use Rattle.laws.specs.Lists.{member}
-use Rattle.laws.proofs.Finite.{each, agree, agree-eq}
+use Rattle.laws.specs.Lists.{member, agree}
+use Rattle.laws.proofs.Finite.{each, agree-eq}
 use Rattle.laws.proofs.FrontLaws.{set-each}
 use Rattle.laws.proofs.Tests.{both, neither}
 use Rattle.board.specs.declared.Slave.{Slave}

@@ -8,7 +8,7 @@ use lib.ListN.{getD, take}
 use borrow.Author.Tests.{le-ltb, le-leb, lt-leb, eq-eqb, ne-eqb}
 use Rattle.laws.specs.Lists.{some}
 use Rattle.laws.proofs.FrontLaws.{front, front-there, front-blank}
-use Rattle.laws.proofs.ListLaws.{getD-table}
+use Rattle.laws.proofs.TableLaws.{getD-table}
 use Rattle.board.specs.declared.Board.{Board}
 use Rattle.board.specs.declared.Reading.{Reading}
 use Rattle.board.specs.Records.{noMaster, noSlave, masterAt, slaveAt, totalSpan, startOf, memoryLength}
@@ -16,7 +16,7 @@ use Rattle.board.specs.Rules.{slaveValues, masterRefusal, slaveRefusal, 
 use Rattle.board.specs.Rules.{start, run, finish, described}
 use Rattle.board.specs.Items.{masterItem, slaveItem, items, checkBoard}
 use Rattle.board.specs.Rebuilt.{trimmed, shared}
-use Rattle.board.proofs.Legal.{Legal}
+use Rattle.board.specs.Legal.{Legal}
 use Rattle.board.proofs.SpanLaws.{all-apart, total-suc, total-same, total-fewer}
 use Rattle.board.proofs.Sound.{step-accepted, run-accepted, finish-accepted, described-legal}
 use Rattle.board.proofs.OwnLines.{readTo, shareLine, read-items}
@@ -33,7 +33,7 @@ module _ (b : Board) where
 
   pub trimmed-share : (i : ℕ) → i < 128 → getD (trimmed b .shares) i 0 ≡ getD (b .shares) i 0
   unfolding trimmed
-  trimmed-share i l = getD-table _ 128 i 0 l
+  trimmed-share i l = getD-table _ 128 0 i l
 
 -- an accepted board's own lines describe the board, trimmed, and what lines describe is legal
 legal-trimmed : (b : Board) → checkBoard b ≡ 0 → Legal (trimmed b)

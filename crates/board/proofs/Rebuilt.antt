@@ -9,7 +9,7 @@ use native.Mathlib.Omega.{arith}
 use lib.Dec.{eqb}
 use lib.ListN.{length, getD, length-append}
 use Rattle.laws.proofs.FrontLaws.{gather-same, table-same, length-gather, front, front-is, front-all}
-use Rattle.laws.proofs.ListLaws.{length-table}
+use Rattle.laws.proofs.TableLaws.{length-table}
 use Rattle.board.specs.declared.Board.{Board}
 use Rattle.board.specs.declared.Item.{Item}
 use Rattle.board.specs.declared.Item.the-variants.{ShareLine}

@@ -16,6 +16,7 @@ use Rattle.board.specs.declared.Board.{Board}
 use Rattle.board.specs.Records.{noSlave, sharesAt, totalSpan}
 use Rattle.board.specs.Rules.{widths, bursts, spans, slaveValues, meets, overlaps}
 use Rattle.board.specs.Rules.{masterRefusal, slaveRefusal, shareRefusal}
+use Rattle.board.specs.Legal.{LegalMaster}
 
 pub width-bound : (x : ℕ) → member x widths ≡ true → (1 ≤ x) × (x ≤ 8)
 width-bound x e = member-within 1 8 x widths tt e
@@ -61,6 +62,9 @@ pub record Values (base span width burst readWait writeWait : ℕ) : Type 0 wher
   pub burst-fits : (1 ≤ burst) × (burst ≤ 64)
   pub read-fits : readWait ≤ 255
   pub write-fits : writeWait ≤ 255
+  pub span-listed : member span spans ≡ true
+  pub width-listed : member width widths ≡ true
+  pub burst-listed : member burst bursts ≡ true
 
 pub values-fit : (base span width burst readWait writeWait : ℕ)
     → slaveValues base span width burst readWait writeWait ≡ true → Values base span width burst readWait writeWait
@@ -78,6 +82,9 @@ values-fit base span width burst readWait writeWait e =
       burst-fits = burst-bound burst (e4 .0);
       read-fits = leb-true _ _ (e5 .0);
       write-fits = leb-true _ _ (e5 .1);
+      span-listed = e2 .0;
+      width-listed = e3 .0;
+      burst-listed = e4 .0;
     }
 
 -- a master line that is not refused
@@ -86,6 +93,7 @@ pub record MasterTaken (b : Board) (width burst : ℕ) : Type 0 where
   pub room : b .«master_count» < 8
   pub width-fits : (1 ≤ width) × (width ≤ 8)
   pub burst-fits : (1 ≤ burst) × (burst ≤ 64)
+  pub legal : LegalMaster (record { width = width; burst = burst })
 
 pub master-taken : (b : Board) (width burst : ℕ) → masterRefusal b width burst ≡ 0 → MasterTaken b width burst
 unfolding masterRefusal
@@ -99,6 +107,7 @@ master-taken b width burst e =
       room = leb-false _ _ (counts .1);
       width-fits = width-bound width (lists .0);
       burst-fits = burst-bound burst (lists .1);
+      legal = record { width = lists .0; burst = lists .1 };
     }
 
 -- a slave line that is not refused

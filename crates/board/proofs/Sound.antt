@@ -1,71 +1,51 @@
 -- Whatever lines are read: while none is refused, the board so far keeps the rules, and zeros stand behind its counts.
 -- Assumes nothing.
 use mathlib.Core.Path.{_≡_, refl, _∙_}
-use mathlib.Core.Bool.{Bool, true, false, cond, not, _&&_, _||_}
+use mathlib.Core.Bool.{Bool, true, false, cond, _||_}
 use mathlib.Core.List.{List, [], _∷_}
 use mathlib.Core.Logic.{_≢_}
 use Prim.Native.Nat.{ℕ, _+_, _*_, _/_, _%_, _≤_, _<_}
 use native.Mathlib.Numerals.{add-one}
 use native.Mathlib.Omega.{arith}
-use lib.Dec.{leb, ltb, eqb}
+use lib.Dec.{eqb}
 use lib.ListN.{length, getD, length-set}
 use lib.Seq.{getD-set-same, getD-set-other, take-set-le}
-use borrow.Author.Tests.{eqb-true, eqb-false, leb-true, not-false}
-use Rattle.laws.specs.Lists.{member}
-use Rattle.laws.proofs.FrontLaws.{set-each, getD-blank}
-use Rattle.laws.proofs.Tests.{both, neither, passed}
+use borrow.Author.Tests.{eqb-true, eqb-false}
+use Rattle.laws.proofs.FrontLaws.{set-each}
+use Rattle.laws.proofs.TableLaws.{getD-replicate-all}
+use Rattle.laws.proofs.Tests.{neither}
 use Rattle.board.specs.declared.Slave.{Slave}
 use Rattle.board.specs.declared.Board.{Board}
 use Rattle.board.specs.declared.Item.{Item}
 use Rattle.board.specs.declared.Item.the-variants.{Malformed, MasterLine, SlaveLine, ShareLine}
 use Rattle.board.specs.declared.Reading.{Reading}
 use Rattle.board.specs.Records.{noMaster, noSlave, noBoard, masterAt, slaveAt, totalSpan, startOf, memoryLength}
-use Rattle.board.specs.Rules.{widths, bursts, spans, slaveValues, meets}
+use Rattle.board.specs.Rules.{slaveValues, meets}
 use Rattle.board.specs.Rules.{masterRefusal, slaveRefusal, shareRefusal, itemRefusal, withMaster, withSlave, withShare}
 use Rattle.board.specs.Rules.{withItem, refused, start, taken, step, run, finish, described}
-use Rattle.board.proofs.Legal.{LegalMaster, LegalSlave, Legal}
-use Rattle.board.proofs.RuleLaws.{master-taken, slave-taken, share-taken}
+use Rattle.board.specs.Legal.{LegalMaster, LegalSlave, Legal}
+use Rattle.board.proofs.RuleLaws.{Values, values-fit, master-taken, slave-taken, share-taken}
 use Rattle.board.proofs.SpanLaws.{apart-at, total-suc}
-
--- a line that is not refused has legal values
-pub master-legal : (b : Board) (w u : ℕ) → masterRefusal b w u ≡ 0 → LegalMaster (record { width = w; burst = u })
-unfolding masterRefusal
-master-legal b w u e =
-    let order = passed (ltb 0 (b .«slave_count») || leb 8 (b .«master_count»)) 1 _ e in
-    let values = passed (not (member w widths && member u bursts)) 2 0 (order .1) in
-    let lists = both (member w widths) _ (not-false _ (values .0)) in
-    record { width = lists .0; burst = lists .1 }
 
 -- the slave of a line
 abbrev pub slaveOf : ℕ → ℕ → ℕ → ℕ → ℕ → ℕ → Slave
 slaveOf a n w u rw′ ww = record { base = a; span = n; width = w; burst = u; «read_wait» = rw′; «write_wait» = ww }
 
+-- its values are legal where the test passes and the base is a multiple of the span
+legal-values : (a n w u rw′ ww : ℕ) → Values a n w u rw′ ww → a % n ≡ 0 → LegalSlave (slaveOf a n w u rw′ ww)
+legal-values a n w u rw′ ww v e = record {
+  base = v .base-fits;
+  span = v .span-listed;
+  width = v .width-listed;
+  burst = v .burst-listed;
+  readWait = v .read-fits;
+  writeWait = v .write-fits;
+  aligned = e;
+}
+
 pub values-legal : (a n w u rw′ ww : ℕ) → slaveValues a n w u rw′ ww ≡ true → a % n ≡ 0
     → LegalSlave (slaveOf a n w u rw′ ww)
-unfolding slaveValues
-values-legal a n w u rw′ ww e f =
-    let e1 = both (leb a 4294967295) _ e in
-    let e2 = both (member n spans) _ (e1 .1) in
-    let e3 = both (member w widths) _ (e2 .1) in
-    let e4 = both (member u bursts) _ (e3 .1) in
-    let e5 = both (leb rw′ 255) (leb ww 255) (e4 .1) in
-    record {
-      base = leb-true _ _ (e1 .0);
-      span = e2 .0;
-      width = e3 .0;
-      burst = e4 .0;
-      readWait = leb-true _ _ (e5 .0);
-      writeWait = leb-true _ _ (e5 .1);
-      aligned = f;
-    }
-
-pub slave-legal : (b : Board) (sharing : Bool) (a n w u rw′ ww : ℕ) → slaveRefusal b sharing a n w u rw′ ww ≡ 0
-    → LegalSlave (slaveOf a n w u rw′ ww)
-unfolding slaveRefusal
-slave-legal b sharing a n w u rw′ ww e =
-    let order = passed (eqb (b .«master_count») 0 || (sharing || leb 16 (b .«slave_count»))) 1 _ e in
-    let legal = passed (not (slaveValues a n w u rw′ ww)) 2 _ (order .1) in
-    values-legal a n w u rw′ ww (not-false _ (legal .0)) (slave-taken b sharing a n w u rw′ ww e .aligned)
+values-legal a n w u rw′ ww e f = legal-values a n w u rw′ ww (values-fit a n w u rw′ ww e) f
 
 -- the board so far
 pub record Sound (b : Board) : Type 0 where
@@ -95,9 +75,9 @@ sound-start = record {
   slave = λ s h. absurd (omega arith);
   apart = λ s k l h. absurd (omega arith);
   total = omega arith;
-  shares = λ i h n. absurd (n (getD-blank 128 i 0));
-  masterEnd = λ m h. getD-blank 8 m noMaster;
-  slaveEnd = λ s h. getD-blank 16 s noSlave;
+  shares = λ i h n. absurd (n (getD-replicate-all 128 i 0));
+  masterEnd = λ m h. getD-replicate-all 8 m noMaster;
+  slaveEnd = λ s h. getD-replicate-all 16 s noSlave;
 }
 
 sound-master : (b : Board) (w u : ℕ) → masterRefusal b w u ≡ 0 → Sound b → Sound (withMaster b w u)
@@ -112,7 +92,7 @@ sound-master b w u e k =
       fewMasters = omega arith;
       fewSlaves = k .fewSlaves;
       master = λ m l. set-each (λ i y. i < b .«master_count» + 1 → LegalMaster y) (b .masters) (b .«master_count») _ noMaster h
-          (λ _. master-legal b w u e) m (λ d _. k .master m (omega arith)) l;
+          (λ _. t .legal) m (λ d _. k .master m (omega arith)) l;
       slave = k .slave;
       apart = k .apart;
       total = k .total;
@@ -137,7 +117,7 @@ sound-slave b sharing a n w u rw′ ww e k =
       fewSlaves = omega arith;
       master = k .master;
       slave = λ s l. set-each (λ i y. i < b .«slave_count» + 1 → LegalSlave y) (b .slaves) c x noSlave h
-          (λ _. slave-legal b sharing a n w u rw′ ww e) s (λ d _. k .slave s (omega arith)) l;
+          (λ _. legal-values a n w u rw′ ww (t .values) (t .aligned)) s (λ d _. k .slave s (omega arith)) l;
       apart = λ s j l m.
           rw (getD-set-other (b .slaves) c s x noSlave (omega arith))
           (set-each (λ i y. s < i → i < b .«slave_count» + 1 → meets (y .base) (y .span) (slaveAt b s) ≡ false)

@@ -1,5 +1,6 @@
 pub mod Records
 pub mod Rules
+pub mod Legal
 pub mod Items
 pub mod Rebuilt
 pub mod Accept

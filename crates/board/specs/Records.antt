@@ -1,6 +1,6 @@
 -- The records of a board, and its elements by number.
 -- Assumes nothing.
-use mathlib.Core.Bool.{Bool, false, _&&_}
+use mathlib.Core.Bool.{Bool, _&&_}
 use mathlib.Core.List.{List, [], _∷_}
 use Prim.Native.Nat.{ℕ, _+_, _*_}
 use lib.Dec.{ltb}
@@ -25,14 +25,15 @@ noBoard = record {
   shares = replicate 128 0;
 }
 
--- "Masters and slaves count from 0 in line order."
+-- "Masters and slaves count from 0 in line order." Past the end of a list `getD` gives its last argument.
 abbrev pub masterAt : Board → ℕ → Master
 masterAt b m = getD (b .masters) m noMaster
 
 abbrev pub slaveAt : Board → ℕ → Slave
 slaveAt b s = getD (b .slaves) s noSlave
 
--- the shares of master m at slave s, for s below 16
+-- the shares of master m at slave s. Each master has 16 places: from s = 16 on, which is no slave of a legal board, the place
+-- is another master's.
 abbrev pub sharesAt : Board → ℕ → ℕ → ℕ
 sharesAt b m s = getD (b .shares) (16 * m + s) 0
 
@@ -45,7 +46,8 @@ unfoldable pub totalSpan : List Slave → ℕ
 totalSpan [] = 0
 totalSpan (s ∷ ss) = s .span + totalSpan ss
 
--- "Spans lie one after another, by slave number, in a lent memory": where the span of slave s starts in it
+-- "Spans lie one after another, by slave number, in a lent memory": where the span of slave s starts in it. `take` of more
+-- slaves than there are is all of them.
 unfoldable pub startOf : Board → ℕ → ℕ
 startOf b s = totalSpan (take s (b .slaves))
 

@@ -49,7 +49,8 @@ masterRefusal b width burst =
     0)
 
 -- A slave line. 2: before any master, behind a share line, or over the count of 16. 3: value outside its list or range.
--- 4: base no multiple of span. 5: overlaps an earlier slave. 6: spans total over 65,536.
+-- 4: base no multiple of span; a remainder by 0 is the number itself, but 3 comes first for a span of 0. 5: overlaps an earlier
+-- slave. 6: spans total over 65,536.
 unfoldable pub slaveRefusal : Board → Bool → ℕ → ℕ → ℕ → ℕ → ℕ → ℕ → ℕ
 slaveRefusal b sharing base span width burst readWait writeWait =
     cond (eqb (b .«master_count») 0 || (sharing || leb 16 (b .«slave_count»))) 2
@@ -75,7 +76,7 @@ itemRefusal r (SlaveLine base span width burst readWait writeWait) =
     slaveRefusal (r .board) (r .sharing) base span width burst readWait writeWait
 itemRefusal r (ShareLine m s shares) = shareRefusal (r .board) m s shares
 
--- the board with one master more
+-- the board with one master more. `set` changes no list past its end; 2 comes first for a line over the count.
 unfoldable pub withMaster : Board → ℕ → ℕ → Board
 withMaster b w u = record {
   «master_count» = b .«master_count» + 1;

@@ -1,9 +1,9 @@
 -- The clocks that some grants of one master last: `credit`, of which a turn is the credit of all shares.
 -- Assumes nothing.
-use mathlib.Core.Path.{_≡_, refl, sym, ap, _∙_}
+use mathlib.Core.Path.{_≡_, refl, ap}
 use mathlib.Core.Bool.{Bool, true, false, cond}
-use Prim.Native.Nat.{ℕ, zero, suc, _+_, _-_, _*_, _≤_, _<_}
-use native.Mathlib.Nat.{mul-le-mul-right, zero-mul, suc-mul}
+use Prim.Native.Nat.{ℕ, zero, suc, _+_, _*_, _≤_, _<_}
+use native.Mathlib.Nat.{mul-le-mul-right, suc-mul}
 use native.Mathlib.Omega.{arith}
 use lib.Dec.{ltb}
 use borrow.Author.Tests.{ltb-true, ltb-false, lt-ltb, le-ltb}
@@ -49,14 +49,6 @@ kept-zero beats = go (ltb 1 beats)
     go : (b : Bool) → _≡_ {A = ℕ} (cond b 0 0) 0
     go true = refl
     go false = refl
-
-pub kept-le : (beats r : ℕ) → kept beats r ≤ r
-unfolding kept
-kept-le beats r = go (ltb 1 beats)
-  where
-    go : (b : Bool) → cond b 0 r ≤ r
-    go true = omega arith
-    go false = omega arith
 
 module _ (single serve long beats : ℕ) (whole : long ≤ serve) (alone : beats ≤ 1 → long ≤ single) where
   -- a granted transfer with what then remains is within the credit before it

@@ -9,11 +9,13 @@ use native.Mathlib.Numerals.{add-one}
 use native.Mathlib.Decide.{ℕ-discrete}
 use native.Mathlib.Omega.{arith}
 use lib.Dec.{ltb, eqb}
-use borrow.Author.Tests.{ltb-true, ltb-false, eqb-true, eqb-false, eq-eqb, ne-eqb}
+use borrow.Author.Tests.{ltb-true, ltb-false, eq-eqb, ne-eqb}
 use Rattle.laws.specs.Lists.{sum}
 use Rattle.arbiter.specs.declared.Choice.{Choice}
 use Rattle.arbiter.specs.declared.Choice.the-variants.{Requester, Nobody}
 use Rattle.arbiter.specs.Choosing.{above, tried, chosen}
+use Rattle.arbiter.proofs.OrderLaws.{above-lt}
+use Rattle.arbiter.proofs.ChoiceLaws.{tried-none, tried-found, tried-on}
 
 -- the cost of the masters strictly between o and m, going up from o
 unfoldable pub between : (ℕ → ℕ) → ℕ → ℕ → ℕ → ℕ
@@ -33,8 +35,8 @@ sum-more : (cost : ℕ → ℕ) (d a : ℕ) → sum cost a ≤ sum cost (a + d)
 sum-more cost zero a = rw add-zero (omega arith)
 sum-more cost (suc d) a = rw (add-suc, sum-suc) (omega (arith, sum-more cost d a))
 
-pub sum-le : (cost : ℕ → ℕ) (a b : ℕ) → a ≤ b → sum cost a ≤ sum cost b
-sum-le cost a b h =
+pub sum-monotone : (cost : ℕ → ℕ) (a b : ℕ) → a ≤ b → sum cost a ≤ sum cost b
+sum-monotone cost a b h =
     let e : a + (b - a) ≡ b = omega arith in
     rw e at (sum-more cost (b - a) a)
 
@@ -64,9 +66,6 @@ above-cases n o = go (ltb (o + 1) n) refl
     go true e = inl (omega (arith, ltb-true (o + 1) n e), add-one o)
     go false e = inr (omega (arith, ltb-false (o + 1) n e), refl)
 
-pub above-lt : (n o : ℕ) → o < n → above n o < n
-above-lt n o h = ⊎-elim (λ a. omega arith) (λ a. omega arith) (above-cases n o)
-
 -- ---- what lies between
 
 -- `between` without a difference
@@ -79,8 +78,8 @@ between-cases cost n o m h = go (ltb o m) refl
     go : (b : Bool) → ltb o m ≡ b
         → let x = cond b (sum cost m - sum cost (suc o)) ((sum cost n + sum cost m) - sum cost (suc o)) in
         ((o < m) × (x + sum cost (suc o) ≡ sum cost m)) ⊎ ((m ≤ o) × (x + sum cost (suc o) ≡ sum cost n + sum cost m))
-    go true e = let l = ltb-true o m e in inl (l, omega (arith, sum-le cost (suc o) m l))
-    go false e = inr (ltb-false o m e, omega (arith, sum-le cost (suc o) n h))
+    go true e = let l = ltb-true o m e in inl (l, omega (arith, sum-monotone cost (suc o) m l))
+    go false e = inr (ltb-false o m e, omega (arith, sum-monotone cost (suc o) n h))
 
 module _ (cost : ℕ → ℕ) (n o m : ℕ) (ho : o < n) (hm : m < n) where
   -- nothing lies between a master and the next one
@@ -135,21 +134,18 @@ between-all cost n m h = ⊎-elim (λ a. omega arith) (λ a. omega (arith, sum-s
 pub between-owner : (cost : ℕ → ℕ) (n o m : ℕ) → o < n → m < n → o ≢ m → cost o + between cost n o m ≤ between cost n m m
 between-owner cost n o m ho hm e =
     ⊎-elim
-    (λ a. omega (arith, between-all cost n m hm, sum-suc cost o, sum-suc cost m, sum-le cost (suc m) n hm))
-    (λ a. omega (arith, between-all cost n m hm, sum-suc cost o, sum-suc cost m, sum-le cost (suc m) o (omega arith)))
+    (λ a. omega (arith, between-all cost n m hm, sum-suc cost o, sum-suc cost m, sum-monotone cost (suc m) n hm))
+    (λ a. omega (arith, between-all cost n m hm, sum-suc cost o, sum-suc cost m, sum-monotone cost (suc m) o (omega arith)))
     (between-cases cost n o m ho)
 
 -- ---- the first requester
 
-tried-yes : (requests : ℕ → Bool) (n k o : ℕ) → requests (above n o) ≡ true
-    → tried requests n (above n o) (suc k) ≡ Requester (above n o)
-unfolding tried
-tried-yes requests n k o e = rw e
-
-tried-no : (requests : ℕ → Bool) (n k o : ℕ) → requests (above n o) ≡ false
+-- a master that does not request is passed over
+tried-next : (requests : ℕ → Bool) (n k o : ℕ) → requests (above n o) ≡ false
     → tried requests n (above n o) (suc k) ≡ tried requests n (above n (above n o)) k
-unfolding tried
-tried-no requests n k o e = rw e
+tried-next requests n k o e =
+    let z : suc k - 1 ≡ k = omega arith in
+    rw z at (tried-on requests n (above n o) (suc k) (λ i. omega arith) e)
 
 -- going up from o, m is met among the next k
 abbrev Within : ℕ → ℕ → ℕ → ℕ → Type 0
@@ -196,9 +192,9 @@ module _ (requests : ℕ → Bool) (cost : ℕ → ℕ) (n m : ℕ) (hm : m < n)
   here k o ho e (yes q) =
       record {
         master = above n o;
-        is = tried-yes requests n k o e;
+        is = tried-found requests n (above n o) (suc k) (λ z. omega arith) e;
         asks = e;
-        low = above-lt n o ho;
+        low = above-lt n o (omega arith);
         skipped = 0;
         none = λ f. refl;
         place = inl (q, between-next cost n o m ho hm q);
@@ -206,9 +202,9 @@ module _ (requests : ℕ → Bool) (cost : ℕ → ℕ) (n m : ℕ) (hm : m < n)
   here k o ho e (no q) =
       record {
         master = above n o;
-        is = tried-yes requests n k o e;
+        is = tried-found requests n (above n o) (suc k) (λ z. omega arith) e;
         asks = e;
-        low = above-lt n o ho;
+        low = above-lt n o (omega arith);
         skipped = 0;
         none = λ f. refl;
         place = inr (q, omega (arith, between-step cost n o m ho hm q));
@@ -220,11 +216,11 @@ module _ (requests : ℕ → Bool) (cost : ℕ → ℕ) (n m : ℕ) (hm : m < n)
   later k o ho e q c =
       record {
         master = c .master;
-        is = tried-no requests n k o e ∙ c .is;
+        is = tried-next requests n k o e ∙ c .is;
         asks = c .asks;
         low = c .low;
         skipped = cost (above n o) + c .skipped;
-        none = λ f. omega (arith, c .none f, f (above n o) (above-lt n o ho) e);
+        none = λ f. omega (arith, c .none f, f (above n o) (above-lt n o (omega arith)) e);
         place =
             ⊎-elim
             (λ a. inl (a .0, omega (arith, between-step cost n o m ho hm q)))
@@ -235,7 +231,7 @@ module _ (requests : ℕ → Bool) (cost : ℕ → ℕ) (n m : ℕ) (hm : m < n)
   found : (k o : ℕ) → o < n → Within n k o m → Found requests cost n o m (tried requests n (above n o) k)
   found zero o ho w = absurd (within-zero n o m ho w)
   found (suc k) o ho w =
-      go (requests (above n o)) refl (λ q. found k (above n o) (above-lt n o ho) (within-step n k o m ho hm q w))
+      go (requests (above n o)) refl (λ q. found k (above n o) (above-lt n o (omega arith)) (within-step n k o m ho hm q w))
     where
       go : (b : Bool) → requests (above n o) ≡ b
           → (above n o ≢ m → Found requests cost n (above n o) m (tried requests n (above n (above n o)) k))
@@ -250,9 +246,9 @@ module _ (requests : ℕ → Bool) (cost : ℕ → ℕ) (n m : ℕ) (hm : m < n)
 
 -- with no requester nobody is chosen
 pub chosen-nobody : (requests : ℕ → Bool) (n o : ℕ) → ((j : ℕ) → requests j ≡ false) → chosen requests n o ≡ Nobody
-unfolding chosen tried
+unfolding chosen
 chosen-nobody requests n o h = go n o
   where
     go : (k p : ℕ) → tried requests n (above n p) k ≡ Nobody
-    go zero p = refl
-    go (suc k) p = tried-no requests n k p (h (above n p)) ∙ go k (above n p)
+    go zero p = tried-none requests n (above n p) 0 refl
+    go (suc k) p = tried-next requests n k p (h (above n p)) ∙ go k (above n p)

@@ -1,23 +1,22 @@
 -- One slave at a grant: what a waiting master may still have to wait for falls by the length of what is granted to others.
 -- Assumes nothing.
-use mathlib.Core.Path.{_≡_, refl, sym, ap, subst, _∙_}
-use mathlib.Core.Bool.{Bool, true, false, cond, _&&_, true≢false, false≢true}
+use mathlib.Core.Path.{_≡_, refl, sym, ap, _∙_}
+use mathlib.Core.Bool.{Bool, true, false, cond, _&&_, false≢true}
 use mathlib.Core.Logic.{_⊎_, inl, inr, ⊎-elim, _≢_}
-use Prim.Native.Nat.{ℕ, zero, suc, _+_, _-_, _*_, _≤_, _<_}
+use Prim.Native.Nat.{ℕ, zero, suc, _+_, _-_, _≤_, _<_}
 use native.Mathlib.Decide.{ℕ-discrete}
 use native.Mathlib.Omega.{arith}
 use lib.Dec.{ltb, eqb}
 use borrow.Author.Tests.{ltb-true, ltb-false}
 use Rattle.laws.specs.Lists.{sum}
-use Rattle.arbiter.specs.declared.Arbiter.{Arbiter}
 use Rattle.arbiter.specs.declared.Choice.{Choice}
 use Rattle.arbiter.specs.declared.Choice.the-variants.{Requester, Nobody}
 use Rattle.arbiter.specs.declared.Grant.{Grant}
 use Rattle.arbiter.specs.declared.Grant.the-variants.{Granted, Silent}
 use Rattle.arbiter.specs.Choosing.{chosen}
 use Rattle.arbiter.specs.Granting.{kept, grantTo, granted}
-use Rattle.bounds.proofs.Order.{between, between-all, between-owner, sum-except, Found, chosen-found, chosen-nobody}
-use Rattle.bounds.proofs.Credit.{credit, credit-zero, credit-le, kept-le, spend}
+use Rattle.bounds.proofs.Order.{between, between-all, between-owner, sum-except, Found, chosen-found}
+use Rattle.bounds.proofs.Credit.{credit, credit-zero, credit-le, spend}
 
 -- the master granted with what remains to it: the last owner again, or the first requester upward from it
 pub record Next (requests : ℕ → Bool) (shares : ℕ → ℕ) (o r : ℕ) (x : Choice) (j p : ℕ) : Type 0 where
@@ -35,9 +34,6 @@ granted-left i j p q e = cc
 
 pub requester-is : (i j : ℕ) → Requester i ≡ Requester j → i ≡ j
 requester-is i j e = cc
-
-nobody-apart : (j : ℕ) → Nobody ≢ Requester j
-nobody-apart j e = let z : _≡_ {A = ℕ} 0 1 = cc in omega arith
 
 -- how a grant came about: `kept` of p is what remains
 pub grant-next : (n : ℕ) (requests : ℕ → Bool) (shares beats : ℕ → ℕ) (o r j k : ℕ)
@@ -69,8 +65,7 @@ grant-next n requests shares beats o r j k e = go (requests o) (ltb 0 r) refl re
     go false c q d f = fresh (chosen requests n o) refl (inr q) f
 
 -- the slave's masters: shares, and the clocks of a single and of the longest transfer
-module _ (n : ℕ) (shares single serve : ℕ → ℕ)
-    (sizes : (j : ℕ) → j < n → 1 ≤ shares j → (1 ≤ single j) × (single j ≤ serve j)) where
+module _ (n : ℕ) (shares single serve : ℕ → ℕ) where
   abbrev pub afford : ℕ → ℕ → ℕ
   afford j r = credit (single j) (serve j) r
 
@@ -160,16 +155,6 @@ module _ (n : ℕ) (shares single serve : ℕ → ℕ)
           let b : suc (next .0) ≡ shares j = omega (arith, h .1) in
           omega (arith, grant-spend, ap (afford j) b))
           (next .2 .how)
-
-      pub grant-remains : (r ≡ 0) ⊎ (r < shares o) → (k ≡ 0) ⊎ (k < shares j)
-      grant-remains l =
-          let a = asks j (grant-asks .0) (grant-asks .1) in
-          let b = kept-le (beats j) (next .0) in
-          inr
-          (⊎-elim
-          (λ h. ⊎-elim (λ z. absurd (omega (arith, h .2))) (λ z. omega (arith, h .2, next .1, ap shares (h .0))) l)
-          (λ h. omega (arith, h .1, next .1))
-          (next .2 .how))
 
       -- the transfer granted to another falls within what m may have to wait for
       pub grant-falls : j ≢ m → (o ≡ m → r ≡ 0) → long j + afford j k + between turn n j m ≤ afford o r + between turn n o m

@@ -20,7 +20,7 @@ use Rattle.board.specs.declared.Item.{Item}
 use Rattle.board.specs.declared.Item.the-variants.{Malformed, MasterLine, SlaveLine, ShareLine}
 use Rattle.board.specs.Records.{masterAt, slaveAt}
 use Rattle.board.specs.Items.{masterItem, slaveItem, shareItem, items}
-use Rattle.board.proofs.Legal.{Legal}
+use Rattle.board.specs.Legal.{Legal}
 use Rattle.board.proofs.RuleLaws.{width-bound, burst-bound, span-bound}
 use Rattle.description.specs.Reader.{masterWord, slaveWord, shareWord, masterLine, slaveLine, shareLine}
 use Rattle.description.specs.Reader.{itemOf, itemOfFields, itemsOf, itemsOfPieces, unended}

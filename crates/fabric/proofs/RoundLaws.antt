@@ -1,23 +1,23 @@
--- The turns of the loops over slaves and masters that make one clock.
+-- The turns of the loop over the slaves that makes one clock, and of the loop that makes the mask of its finished masters.
 -- Assumes nothing.
 use mathlib.Core.Path.{_≡_, refl, sym, ap, _∙_}
-use mathlib.Core.Bool.{Bool, true, false, cond, _&&_}
+use mathlib.Core.Bool.{Bool, true, false, cond, _&&_, _||_}
 use mathlib.Core.List.{List}
 use Prim.Native.Nat.{ℕ, _+_, _*_, _^_, _≤_, _<_}
+use native.Mathlib.Decide.{ℕ-discrete}
 use native.Mathlib.Numerals.{add-one}
 use native.Mathlib.Omega.{arith}
 use lib.Dec.{ltb, eqb}
 use lib.ListN.{length, getD, set, replicate, length-replicate, List·getD-eq-default}
 use lib.Pow.{pow-mono}
-use borrow.Author.Tests.{lt-ltb, ltb-true, ltb-false}
-use Rattle.laws.specs.Bits.{bit}
+use borrow.Author.Tests.{eq-eqb, ne-eqb, ltb-true, ltb-false}
 use Rattle.laws.specs.Lists.{table, sum, some}
 use Rattle.laws.proofs.TableLaws.{getD-table, getD-table-past, getD-replicate-all, mask, mask-lt}
-use Rattle.laws.proofs.FillLaws.{sum-same, table-is, filled, filled-none, filled-next, filled-later}
+use Rattle.laws.proofs.FillLaws.{sum-same, table-is, set-table, filled, filled-none}
 use Rattle.laws.proofs.FrontLaws.{table-same}
 use Rattle.board.specs.declared.Board.{Board}
 use Rattle.board.specs.Records.{masterAt, slaveAt, sharesAt, startOf, memoryLength}
-use Rattle.board.proofs.Legal.{Legal}
+use Rattle.board.specs.Legal.{Legal}
 use Rattle.board.proofs.Accepted.{accepted-legal}
 use Rattle.geometry.specs.declared.Transfer.{Transfer}
 use Rattle.geometry.specs.Accesses.{noTransfer}
@@ -38,9 +38,10 @@ use Rattle.state.proofs.SoundLaws.{sound-facts, grant-sound}
 use Rattle.state.proofs.StepLaws.{line-owner, finished-serving}
 use Rattle.state.proofs.TargetLaws.{mask-requests}
 use Rattle.state.proofs.ServeLaws.{asked-is, step-is, carried-is}
-use Rattle.state.proofs.PlaceLaws.{start-next, start-within, grant-placed, grant-reached}
+use Rattle.board.proofs.StartLaws.{end-inside}
+use Rattle.state.proofs.PlaceLaws.{grant-placed, grant-reached}
 use Rattle.fabric.specs.declared.Clocked.{Clocked}
-use Rattle.fabric.specs.Rounds.{Runs, slotBetween, slotsBetween}
+use Rattle.fabric.specs.Rounds.{Runs}
 
 -- ---- a mask as a sum
 
@@ -56,30 +57,40 @@ module _ (test : ℕ → Bool) where
       let p : 2 ^ (m + 1) ≤ 2 ^ 8 = pow-mono q in
       omega (arith, mask-next m e f, l, p)
 
--- ---- rule 1 at every slave
+-- ---- the transfers of finished masters
 
--- what the code makes of the slot of slave k
-unfoldable pub granting : ℕ → List ℕ → List ℕ → List ℕ → List Slot → ℕ → Slot
-granting n targets shares beats slots k =
-    slotAsked n (requestMask targets k) (table (λ m. getD shares (16 * m + k) 0) 8) beats (getD slots k noSlot)
+-- a transfer ended before now, or now
+ended-now : {X : Type 0} (before on : Bool) (d x : X) → cond on d (cond before d x) ≡ cond (before || (on && true)) d x
+ended-now true true d x = refl
+ended-now true false d x = refl
+ended-now false true d x = refl
+ended-now false false d x = refl
 
-module _ (n : ℕ) (targets shares beats : List ℕ) (slots : List Slot) where
-  pub grants-begin : length slots ≡ 16 → slots ≡ filled (granting n targets shares beats slots) (λ k. getD slots k noSlot) 16 0
-  grants-begin l = filled-none (granting n targets shares beats slots) (λ k. getD slots k noSlot) 16 noSlot slots l (λ k h. refl)
+-- another master's transfer
+kept-now : {X : Type 0} (before on : Bool) (d x : X) → cond before d x ≡ cond (before || (on && false)) d x
+kept-now true on d x = refl
+kept-now false true d x = refl
+kept-now false false d x = refl
 
-  pub grants-next : (s : ℕ) {out : List Slot} {x : Slot} → s < 16
-      → out ≡ filled (granting n targets shares beats slots) (λ k. getD slots k noSlot) 16 s
-      → x
-      ≡ slotAsked n (requestMask targets s) (table (λ m. getD shares (16 * m + s) 0) 8) beats (getD out s noSlot)
-      → set out s x ≡ filled (granting n targets shares beats slots) (λ k. getD slots k noSlot) 16 (s + 1)
-  unfolding granting
-  grants-next s {out} h e q =
-      let here : getD out s noSlot ≡ getD slots s noSlot
-      = ap (λ (y : List Slot). getD y s noSlot) e
-      ∙ filled-later (granting n targets shares beats slots) (λ k. getD slots k noSlot) 16 s s noSlot h (omega arith) in
-      filled-next (granting n targets shares beats slots) (λ k. getD slots k noSlot) 16 s e (q ∙ rw here)
+-- of n places those are d for which some number below i passes: the number i passes at most the test of place o
+module _ {X : Type 0} (test : ℕ → ℕ → Bool) (d : X) (f : ℕ → X) (n i o : ℕ) (on : Bool) where
+  pub ended-next : {l : List X} {v : X} → o < n → l ≡ table (λ m. cond (some (test m) i) d (f m)) n
+      → ((m : ℕ) → test m i ≡ (on && eqb o m)) → v ≡ cond on d (getD l o d)
+      → set l o v ≡ table (λ m. cond (some (test m) (i + 1)) d (f m)) n
+  unfolding some
+  ended-next {l} {v} h e t q =
+      rw (e, add-one i)
+      (set-table (λ m. cond (some (test m) i) d (f m)) n o v ∙ table-same _ _ n (λ m k. go m (ℕ-discrete m o)))
+    where
+      here : v ≡ cond on d (cond (some (test o) i) d (f o))
+      here = q ∙ rw (e, getD-table (λ m. cond (some (test m) i) d (f m)) n d o h)
 
--- ---- rules 2 and 3 at every slave, and the bytes of every slave
+      go : (m : ℕ) → Dec (m ≡ o)
+          → cond (eqb m o) v (cond (some (test m) i) d (f m)) ≡ cond (some (test m) i || test m i) d (f m)
+      go m (yes p) = rw (p, t o, eq-eqb o o refl) (here ∙ ended-now (some (test o) i) on d (f o))
+      go m (no p) = rw (t m, ne-eqb m o p, ne-eqb o m (λ w. p (sym w))) (kept-now (some (test m) i) on d (f m))
+
+-- ---- every slave's clock, and its bytes
 
 module _ (b : Board) (st : State) where
   pub lines-begin : {x : Line} → x ≡ noLine → replicate 16 x ≡ filled (λ i. stepOf b st i .line) (λ i. noLine) 16 0
@@ -96,6 +107,12 @@ module _ (b : Board) (st : State) where
   finished-begin =
       table-is (λ m. some (finishes b st m) 0) 8 false (replicate 8 false) (length-replicate 8 false)
       (λ m h. getD-replicate-all 8 m false)
+
+  pub transfers-begin : length (st .transfers) ≡ 8
+      → st .transfers ≡ table (λ m. cond (some (finishes b st m) 0) noTransfer (transferAt st m)) 8
+  unfolding some
+  transfers-begin l =
+      table-is (λ m. cond (some (finishes b st m) 0) noTransfer (transferAt st m)) 8 noTransfer (st .transfers) l (λ m h. refl)
 
   -- the step that the code makes
   pub step-at : (s : ℕ) {x : Slot} {y : Step} → x ≡ slotAfterGrant b st s
@@ -117,6 +134,11 @@ module _ (b : Board) (st : State) where
   unfolding finished
   finished-end s e q = q ∙ rw e
 
+  pub transfers-end : (s : ℕ) {left : List Transfer} → s ≡ b .«slave_count»
+      → left ≡ table (λ m. cond (some (finishes b st m) s) noTransfer (transferAt st m)) 8 → left ≡ stateAfter b st .transfers
+  unfolding stateAfter transferAfter finished
+  transfers-end s e q = q ∙ rw e
+
   pub bytes-begin : (d : Store) → d ≡ carriedBy b st 0 d
   unfolding carriedBy
   bytes-begin d = refl
@@ -134,25 +156,21 @@ module _ (b : Board) (st : State) where
   unfolding storeAfter
   bytes-end s d e q = q ∙ rw e
 
-  -- the mask and the transfers by who is finished
+  -- the mask by who is finished
   pub mask-end : {done : List Bool} {x : ℕ} → done ≡ table (finished b st) 8
       → x ≡ sum (λ m. cond (getD done m false) (2 ^ m) 0) 8 → x ≡ maskOf b st
   unfolding maskOf
   mask-end e q =
       q ∙ rw e (sum-same _ _ 8 (λ m h. rw (getD-table (finished b st) 8 false m h)))
 
-  pub transfers-end : {done : List Bool} {left : List Transfer} → done ≡ table (finished b st) 8
-      → left ≡ table (λ m. cond (getD done m false) noTransfer (transferAt st m)) 8 → left ≡ stateAfter b st .transfers
-  unfolding stateAfter transferAfter
-  transfers-end e q =
-      q ∙ rw e (table-same _ _ 8 (λ m h. rw (getD-table (finished b st) 8 false m h)))
-
   -- the answer by its parts
-  pub answer-of : {left : List Transfer} {slots : List Slot} {x : ℕ} {lines : List Line} → left ≡ stateAfter b st .transfers
-      → slots ≡ stateAfter b st .slots → x ≡ maskOf b st → lines ≡ linesOf b st
-      → _≡_ {A = Clocked} (record { number = 0; state = record { transfers = left; slots = slots }; mask = x; lines = lines })
+  pub answer-of : {after : State} {x : ℕ} {lines : List Line} → after .transfers ≡ stateAfter b st .transfers
+      → after .slots ≡ stateAfter b st .slots → x ≡ maskOf b st → lines ≡ linesOf b st
+      → _≡_ {A = Clocked} (record { number = 0; state = after; mask = x; lines = lines })
       (record { number = 0; state = stateAfter b st; mask = maskOf b st; lines = linesOf b st })
-  answer-of e f g h = rw (e, f, g, h)
+  answer-of {after} e f g h =
+      let same : _≡_ {A = State} (record { transfers = after .transfers; slots = after .slots }) (stateAfter b st) = rw (e, f) in
+      rw (same, g, h)
 
 -- ---- what a call that is not refused tells
 
@@ -165,7 +183,7 @@ module _ (b : Board) (st : State) (l : length (st .transfers) ≡ 8) (k : length
 
   -- where the span of the next slave starts
   pub start-room : (s : ℕ) → s < b .«slave_count» → startOf b s + slaveAt b s .span ≤ 65536
-  start-room s h = omega (arith, start-within b s h, runs-legal .total)
+  start-room s h = omega (arith, end-inside b s h, runs-legal .total)
 
   shares-agree : length (b .shares) ≡ 128 → (s m : ℕ) → getD (table (λ i. sharesAt b i s) 8) m 0 ≡ sharesAt b m s
   shares-agree n s m = go (ltb m 8) refl
@@ -187,38 +205,19 @@ module _ (b : Board) (st : State) (l : length (st .transfers) ≡ 8) (k : length
           getD-table-past (λ i. transferAt st i .beats) 8 0 m far
           ∙ ap (λ (t : Transfer). t .beats) (sym (List·getD-eq-default (st .transfers) noTransfer {n = m} (rw l far)))
 
-  granting-is : length (b .shares) ≡ 128 → (i : ℕ) → i < b .«slave_count»
-      → granting (b .«master_count») (targetsIn b (st .transfers)) (b .shares) (table (λ m. transferAt st m .beats) 8) (st .slots) i
-      ≡ slotAfterGrant b st i
-  unfolding granting
-  granting-is n i h =
-      asked-is b st i (requestMask (targetsIn b (st .transfers)) i) (table (λ m. sharesAt b m i) 8)
-      (table (λ m. transferAt st m .beats) 8) (mask-requests b (r .board) st l i h) (shares-agree n i) beats-agree
-
-  -- the slots that the code's loop leaves are those after rule 1
-  pub grants-end : (s : ℕ) {out : List Slot} {targets beats : List ℕ} → length (b .shares) ≡ 128 → s ≡ b .«slave_count»
-      → targets ≡ targetsIn b (st .transfers) → beats ≡ table (λ m. transferAt st m .beats) 8
-      → out ≡ filled (granting (b .«master_count») targets (b .shares) beats (st .slots)) (slotAt st) 16 s
-      → out ≡ slotsBetween b st
-  unfolding filled slotsBetween slotBetween
-  grants-end s {out} {targets} {beats} n e f g q =
-      q ∙ rw (e, f, g) (table-same _ _ 16 (λ i h. go i (ltb i (b .«slave_count»)) refl))
-    where
-      go : (i : ℕ) (c : Bool) → ltb i (b .«slave_count») ≡ c
-          → cond c
-          (granting (b .«master_count») (targetsIn b (st .transfers)) (b .shares) (table (λ m. transferAt st m .beats) 8) (st .slots) i)
-          (slotAt st i)
-          ≡ cond c (slotAfterGrant b st i) (slotAt st i)
-      go i true h = granting-is n i (ltb-true i (b .«slave_count») h)
-      go i false h = refl
+  -- the slot that the code grants is the one after rule 1
+  pub grant-is : {targets beats : List ℕ} {x : Slot} → length (b .shares) ≡ 128 → targets ≡ targetsIn b (st .transfers)
+      → beats ≡ table (λ m. transferAt st m .beats) 8 → (s : ℕ) → s < b .«slave_count»
+      → x ≡ slotAsked (b .«master_count») (requestMask targets s) (table (λ m. sharesAt b m s) 8) beats (slotAt st s)
+      → x ≡ slotAfterGrant b st s
+  grant-is n e f s h q =
+      q
+      ∙ rw (e, f)
+      (asked-is b st s (requestMask (targetsIn b (st .transfers)) s) (table (λ m. sharesAt b m s) 8)
+      (table (λ m. transferAt st m .beats) 8) (mask-requests b (r .board) st l s h) (shares-agree n s) beats-agree)
 
   -- the slot of a slave of the board between the rules
   module _ (s : ℕ) (h : s < b .«slave_count») where
-    pub between-at : {granted : List Slot} → granted ≡ slotsBetween b st → getD granted s noSlot ≡ slotAfterGrant b st s
-    unfolding slotsBetween slotBetween
-    between-at e =
-        rw e (getD-table (slotBetween b st) 16 noSlot s (omega (arith, runs-legal .fewSlaves)) ∙ rw (lt-ltb s (b .«slave_count») h))
-
     module _ {x : Slot} (e : x ≡ slotAfterGrant b st s) where
       pub owner-known : x .owner < 8
       owner-known = rw e (omega (arith, grant-sound b st runs-legal runs-sound s h .owner, runs-legal .fewMasters))

@@ -1,10 +1,9 @@
-// One clock of an accepted board in a state that breaks no rule: each rule at every slave, then the bytes.
+// One clock of an accepted board in a state that breaks no rule, slave by slave: the three rules and the bytes.
 use crate::Clocked;
 use arbiter::Grant;
 use board::Board;
 use board::Slave;
 use geometry::Transfer;
-use state::Line;
 use state::Slot;
 use state::State;
 ghost use mathlib.Core.Path.{_≡_};
@@ -16,16 +15,8 @@ ghost use Rattle.board.specs.Records.{totalSpan, memoryLength};
 ghost use Rattle.geometry.specs.Accesses.{noTransfer};
 ghost use Rattle.moves.specs.Bytes.{bufferLength};
 ghost use Rattle.state.specs.Targets.{targetsIn, requestMask};
-ghost use Rattle.state.specs.Carrying.{storeAfter};
 ghost use Rattle.state.specs.Serving.{slotAsked};
-ghost use Rattle.fabric.specs.Rounds.{Runs, slotsBetween, Advanced, refusedClock, Turned};
-
-// What rules 2 and 3 leave: what each slave shows, its slot, and whether each master is finished.
-pub struct Round {
-    pub lines: [Line; 16],
-    pub slots: [Slot; 16],
-    pub finished: [bool; 8],
-}
+ghost use Rattle.fabric.specs.Rounds.{Runs, refusedClock, Turned};
 
 // The spans of the first n slaves together.
 pub fn span_total(slaves: [Slave; 16], n: usize) -> usize
@@ -88,87 +79,6 @@ fn grant_at(slot: Slot, n: u8, targets: [u8; 8], shares: &[u8; 128], beats: [u8;
     state::steps::slot_asked(slot, n, requests, here, beats)
 }
 
-// Rule 1 at every slave.
-fn grant_all(board: Board, state: State, targets: [u8; 8]) -> [Slot; 16]
-    requires { ⌜ Runs board state × (targets ≡ targetsIn board (state .transfers)) ⌝ }
-    ensures { λ r. ⌜ r ≡ slotsBetween board state ⌝ }
-{
-    let n = board.master_count;
-    let count = board.slave_count;
-    let shares = board.shares;
-    let transfers = state.transfers;
-    let beats = beats_of(transfers);
-    let mut out = state.slots;
-    let mut s: u8 = 0;
-    while s < count {
-        let slot = out[s as usize];
-        out[s as usize] = grant_at(slot, n, targets, &shares, beats, s);
-        s += 1;
-    }
-    out
-}
-
-// Rules 2 and 3 at every slave.
-fn advance_all(board: Board, state: State, granted: [Slot; 16]) -> Round
-    requires { ⌜ Runs board state × (granted ≡ slotsBetween board state) ⌝ }
-    ensures { λ r. ⌜ Advanced board state r ⌝ }
-{
-    let count = board.slave_count as usize;
-    let mut lines = [state::steps::no_line(); 16];
-    let mut slots = state.slots;
-    let mut finished = [false; 8];
-    let mut s = 0;
-    while s < count {
-        let slot = granted[s];
-        let o = slot.owner as usize;
-        let step = state::steps::step_from(
-            board.masters[o],
-            board.slaves[s],
-            state.transfers[o],
-            slot,
-        );
-        let line = step.line;
-        let after = step.slot;
-        lines[s] = line;
-        slots[s] = after;
-        finished[o] = finished[o] | step.finished;
-        s += 1;
-    }
-    Round {
-        lines: lines,
-        slots: slots,
-        finished: finished,
-    }
-}
-
-// The bytes of every slave, by slave number: its span starts where the spans before it end.
-fn carry_all(board: Board, state: State, granted: [Slot; 16], memory: &mut [u8], buffer: &mut [u8])
-    requires { ⌜ Runs board state × (granted ≡ slotsBetween board state)
-        × (length (now memory) ≡ memoryLength board) × (length (now buffer) ≡ bufferLength) ⌝ }
-    ensures { λ r. ⌜ record { memory = now (memory .exit); buffer = now (buffer .exit) }
-        ≡ storeAfter board state (record { memory = now (memory .entry); buffer = now (buffer .entry) }) ⌝ }
-{
-    let count = board.slave_count as usize;
-    let mut start: usize = 0;
-    let mut s = 0;
-    while s < count {
-        let slot = granted[s];
-        let o = slot.owner as usize;
-        let sl = board.slaves[s];
-        state::steps::carry_slot(
-            board.masters[o],
-            sl,
-            state.transfers[o],
-            slot,
-            start,
-            memory,
-            buffer,
-        );
-        start += sl.span as usize;
-        s += 1;
-    }
-}
-
 // The bit of master m, where it is finished.
 fn weight_of(finished: bool, m: u8) -> u8
     requires { ⌜ m < 8 ⌝ }
@@ -206,20 +116,6 @@ fn transfer_after(t: Transfer, finished: bool) -> Transfer
     t
 }
 
-// A master that is finished is idle.
-fn transfers_after(transfers: [Transfer; 8], finished: [bool; 8]) -> [Transfer; 8]
-    ensures { λ r. ⌜ r ≡ table (λ m. cond (getD finished m false) noTransfer (getD transfers m noTransfer)) 8 ⌝ }
-{
-    let mut out = transfers;
-    let mut m = 0;
-    while m < 8 {
-        let t = transfers[m];
-        out[m] = transfer_after(t, finished[m]);
-        m += 1;
-    }
-    out
-}
-
 // A refusal: its number, the state as it is, and nothing else.
 pub fn refuse(number: u8, state: State) -> Clocked
     ensures { λ r. ⌜ r ≡ refusedClock number state ⌝ }
@@ -233,7 +129,8 @@ pub fn refuse(number: u8, state: State) -> Clocked
     }
 }
 
-// A clock that is not refused.
+// A clock that is not refused, in one pass over the slaves. Every rule reads the state before the clock, so that no slave
+// sees what another has changed in it. A slave's span begins at `start` in the memory.
 pub fn turn(
     board: Board,
     state: State,
@@ -246,18 +143,31 @@ pub fn turn(
     ensures { λ r. ⌜ Turned board state (record { memory = now (memory .entry); buffer = now (buffer .entry) })
         (record { memory = now (memory .exit); buffer = now (buffer .exit) }) r ⌝ }
 {
-    let granted = grant_all(board, state, targets);
-    carry_all(board, state, granted, memory, buffer);
-    let round = advance_all(board, state, granted);
-    let lines = round.lines;
-    let slots = round.slots;
-    let finished = round.finished;
-    let transfers = state.transfers;
-    let left = transfers_after(transfers, finished);
-    let after = State {
-        transfers: left,
-        slots: slots,
-    };
+    let n = board.master_count;
+    let beats = beats_of(state.transfers);
+    let mut lines = [state::steps::no_line(); 16];
+    let mut after = state;
+    let mut finished = [false; 8];
+    let mut start: usize = 0;
+    let mut s: u8 = 0;
+    while s < board.slave_count {
+        let i = s as usize;
+        let sl = board.slaves[i];
+        let slot = grant_at(state.slots[i], n, targets, &board.shares, beats, s);
+        let o = slot.owner as usize;
+        let ma = board.masters[o];
+        let t = state.transfers[o];
+        state::steps::carry_slot(ma, sl, t, slot, start, memory, buffer);
+        let step = state::steps::step_from(ma, sl, t, slot);
+        let line = step.line;
+        let next = step.slot;
+        lines[i] = line;
+        after.slots[i] = next;
+        after.transfers[o] = transfer_after(after.transfers[o], step.finished);
+        finished[o] = finished[o] | step.finished;
+        start += sl.span as usize;
+        s += 1;
+    }
     Clocked {
         number: 0,
         state: after,

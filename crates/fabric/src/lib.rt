@@ -9,11 +9,9 @@ use state::Slot;
 use state::State;
 ghost use mathlib.Core.Path.{_≡_};
 ghost use mathlib.Core.Bool.{cond};
-ghost use Prim.Native.Nat.{_*_, _<_};
-ghost use Rattle.laws.specs.Lists.{table};
-ghost use Rattle.board.specs.Items.{checkBoard};
+ghost use Prim.Native.Nat.{_*_, _≤_};
 ghost use Rattle.state.specs.Records.{noState};
-ghost use Rattle.state.specs.Resetting.{stateAtReset};
+ghost use Rattle.state.specs.Resetting.{ownedBy};
 ghost use Rattle.fabric.specs.Calls.{bufferAfterPost, storeAfterClock};
 ghost use Rattle.fabric.specs.Requests.{request, refusalBy};
 ghost use Rattle.fabric.specs.Calls as calls;
@@ -64,17 +62,16 @@ fn no_state() -> State
     }
 }
 
-// The state that a reset of an accepted board gives: every slave's last owner is the highest master.
-fn state_at_reset(b: Board) -> State
-    requires { ⌜ checkBoard b ≡ 0 ⌝ }
-    ensures { λ r. ⌜ r ≡ stateAtReset b ⌝ }
+// The state whose first count slots were last owned by the owner, all else 0.
+fn state_at_reset(owner: u8, count: u8) -> State
+    requires { ⌜ count ≤ 16 ⌝ }
+    ensures { λ r. ⌜ r ≡ ownedBy owner count ⌝ }
 {
     let mut st = no_state();
-    let highest = b.master_count - 1;
     let mut s: u8 = 0;
-    while s < b.slave_count {
+    while s < count {
         st.slots[s as usize] = Slot {
-            owner: highest,
+            owner: owner,
             remaining: 0,
             serving: false,
             done: 0,
@@ -85,19 +82,21 @@ fn state_at_reset(b: Board) -> State
     st
 }
 
-// Reset: the board's own state, or zeros where the board is refused.
+// Reset: the board's own state, every slave last owned by the highest master, or zeros where the board is refused. Both are
+// built in one way: where a state made of constants met another, the compiler would hold every field of it in a value of its
+// own, here and in the callers that it inlines this into, and put the state together again at each call.
 pub fn reset(board: Board) -> Started
     ensures { λ r. ⌜ r ≡ calls.reset board ⌝ }
 {
-    let number = board::refusal(board);
+    // not refusal: a reset need not be fast, and refusal with its one caller is inlined there
+    let number = board::check(board);
+    let mut owner = 0;
+    let mut count = 0;
     if number == 0 {
-        let st = state_at_reset(board);
-        return Started {
-            number: 0,
-            state: st,
-        };
+        owner = board.master_count - 1;
+        count = board.slave_count;
     }
-    let st = no_state();
+    let st = state_at_reset(owner, count);
     Started {
         number: number,
         state: st,
@@ -118,21 +117,20 @@ fn words_length(ma: Master, t: Transfer) -> usize
 fn post_refusal(board: Board, state: State, room: usize, m: u32, t: Transfer, length: usize) -> u8
     ensures { λ r. ⌜ r ≡ refusalBy board state room m t length ⌝ }
 {
-    let number = board::refusal(board);
-    if number != 0 {
-        return number;
+    let checked = state::checks::ready(board, state);
+    if checked.number != 0 {
+        return checked.number;
     }
     if room != 4096 {
         return 8;
     }
-    let transfers = state.transfers;
-    let targets = state::checks::targets(board, transfers);
-    if !state::checks::state_sound(board, state, targets) {
+    if !checked.sound {
         return 9;
     }
     if board.master_count as u32 <= m {
         return 11;
     }
+    let transfers = state.transfers;
     let before = transfers[m as usize];
     if before.held {
         return 12;
@@ -192,9 +190,9 @@ pub fn clock(board: Board, state: State, memory: &mut [u8], buffer: &mut [u8]) -
     ensures stored { λ r. ⌜ record { memory = now (memory .exit); buffer = now (buffer .exit) }
         ≡ storeAfterClock board state (record { memory = now (memory .entry); buffer = now (buffer .entry) }) ⌝ }
 {
-    let number = board::refusal(board);
-    if number != 0 {
-        return cycles::refuse(number, state);
+    let checked = state::checks::ready(board, state);
+    if checked.number != 0 {
+        return cycles::refuse(checked.number, state);
     }
     let slaves = board.slaves;
     let room = cycles::span_total(slaves, board.slave_count as usize);
@@ -204,9 +202,8 @@ pub fn clock(board: Board, state: State, memory: &mut [u8], buffer: &mut [u8]) -
     if buffer.len() != 4096 {
         return cycles::refuse(8, state);
     }
-    let transfers = state.transfers;
-    let targets = state::checks::targets(board, transfers);
-    if state::checks::state_sound(board, state, targets) {
+    if checked.sound {
+        let targets = checked.targets;
         return cycles::turn(board, state, targets, memory, buffer);
     }
     cycles::refuse(9, state)

@@ -9,8 +9,8 @@ use native.Mathlib.Omega.{arith}
 use lib.Dec.{eqb, leb}
 use lib.Count.{ones, trailingZeros, ones-ones, onesIn}
 use borrow.Author.Tests.{eq-eqb, ne-eqb, le-leb, lt-leb, eqb-true, eqb-false, leb-true}
-use Rattle.laws.specs.Lists.{member}
-use Rattle.laws.proofs.Finite.{each, agree, agree-eq}
+use Rattle.laws.specs.Lists.{member, agree}
+use Rattle.laws.proofs.Finite.{each, agree-eq}
 use Rattle.geometry.specs.Lanes.{lowest, allLanes, adjacent, legalLanes, postLanes}
 
 -- adjacent ones, moved down to lane 0, are the lowest lanes: computed at every mask

@@ -1,4 +1,6 @@
--- The accesses of one transfer at one slave: how many, which bytes, where.
+-- The accesses of one transfer at one slave: how many, which bytes, where. The definitions are total: a quotient by 0 is 0, a
+-- remainder by 0 the number itself, and a difference stops at 0. On a legal board no width is 0, and the address of a transfer
+-- that is not refused is not below the base.
 -- Assumes nothing.
 use mathlib.Core.Bool.{Bool, cond}
 use Prim.Native.Nat.{ℕ, _+_, _-_, _*_, _/_, _%_, _^_, _≤_, min}

@@ -9,7 +9,8 @@ use Rattle.board.specs.declared.Board.{Board}
 use Rattle.board.specs.Records.{slaveAt, connected}
 use Rattle.laws.specs.Lists.{first}
 
--- "the address agrees with its base in all bits above the span (of weight span and higher)"
+-- "the address agrees with its base in all bits above the span (of weight span and higher)". A quotient by 0 is 0, so that
+-- every address agrees with a span of 0, which no legal board has.
 unfoldable pub agrees : Slave → ℕ → Bool
 agrees sl address = eqb (address / sl .span) (sl .base / sl .span)
 

@@ -7,11 +7,11 @@ use lib.Dec.{eqb, leb}
 use lib.Count.{ones, trailingZeros}
 use Rattle.laws.specs.Lists.{member}
 
--- the number of the lowest lane of a mask of 8 lanes
+-- the number of the lowest lane of a mask of 8 lanes; 8 of the mask 0, which `legalLanes` refuses for its count
 unfoldable pub lowest : ℕ → ℕ
 lowest lanes = trailingZeros 8 lanes
 
--- all ones over a width
+-- all ones over a width. A difference stops at 0, but a power of two is at least 1.
 abbrev pub allLanes : ℕ → ℕ
 allLanes width = 2 ^ width - 1
 

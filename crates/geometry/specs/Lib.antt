@@ -1,4 +1,5 @@
 pub mod Lanes
+pub mod LaneMeaning
 pub mod Decoding
 pub mod Accesses
 pub mod Runs

@@ -1,4 +1,5 @@
--- Slave bursts: the runs that a transfer's accesses are cut into.
+-- Slave bursts: the runs that a transfer's accesses are cut into. With a burst of 0, which no legal board has, access a is at
+-- place a of a run of 0: a remainder by 0 is the number itself.
 -- Assumes nothing.
 use mathlib.Core.Bool.{cond}
 use Prim.Native.Nat.{ℕ, _-_, _*_, _/_, _%_, min}

@@ -11,7 +11,8 @@ ghost use Rattle.geometry.specs.Accesses.{ratio, accesses, accessBytes, 
 ghost use Rattle.geometry.specs.Accesses.{writeLanes, slaveLanes, InWord, waitOf, ownLength};
 ghost use Rattle.geometry.specs.Runs.{runLimit, placeOf, runOf};
 
-// What a master posted. A master that is idle holds the zero record.
+// What a master posted. Where `held` is false the master is idle and the other fields say nothing; a reset and a finish leave
+// the zero record.
 pub struct Transfer {
     pub held: bool,
     pub write: bool,

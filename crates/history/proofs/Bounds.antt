@@ -1,44 +1,38 @@
 -- The upper bound: a transfer's first cycle no later than clock w + 1, its finish no later than clock w + own length.
 -- Assumes nothing.
 use mathlib.Core.Path.{_≡_, refl, sym, ap, subst, _∙_}
-use mathlib.Core.Bool.{Bool, true, false, cond, not, _&&_, _||_, or-true, true≢false, false≢true}
+use mathlib.Core.Bool.{Bool, true, false, not, or-true, true≢false, false≢true}
 use mathlib.Core.List.{List, [], _∷_}
 use mathlib.Core.Logic.{_⊎_, inl, inr, ⊎-elim, _≢_}
-use Prim.Native.Nat.{ℕ, zero, suc, _+_, _-_, _*_, _≤_, _<_}
-use native.Mathlib.Numerals.{add-one}
+use Prim.Native.Nat.{ℕ, zero, suc, _+_, _-_, _≤_, _<_}
 use native.Mathlib.Omega.{arith}
-use lib.Dec.{eqb}
-use lib.ListN.{length, take, getD}
-use borrow.Author.Tests.{eq-eqb}
-use Rattle.laws.proofs.TableLaws.{some-here}
+use lib.ListN.{length, take}
 use Rattle.board.specs.declared.Board.{Board}
 use Rattle.board.specs.Records.{masterAt, slaveAt}
-use Rattle.board.proofs.Legal.{Legal}
+use Rattle.board.specs.Legal.{Legal}
 use Rattle.geometry.specs.declared.Transfer.{Transfer}
-use Rattle.geometry.specs.Accesses.{accesses, ownLength}
+use Rattle.geometry.specs.Accesses.{ownLength}
 use Rattle.state.specs.declared.Slot.{Slot}
 use Rattle.state.specs.declared.State.{State}
-use Rattle.state.specs.declared.Line.{Line}
-use Rattle.state.specs.declared.Step.{Step}
 use Rattle.fabric.specs.declared.Clocked.{Clocked}
-use Rattle.state.specs.Records.{noLine, transferAt, slotAt}
+use Rattle.state.specs.Records.{transferAt, slotAt}
 use Rattle.state.specs.Posting.{Request, transferOf}
 use Rattle.state.specs.Soundness.{requests}
-use Rattle.state.specs.Control.{slotAfterGrant, stepOf, stateAfter, finished, linesOf, maskOf}
+use Rattle.state.specs.Control.{slotAfterGrant, stepOf, stateAfter, finished}
 use Rattle.state.specs.Posting.{stateWith}
-use Rattle.fabric.specs.Calls.{World, postRefusal, post}
-use Rattle.state.proofs.Sound.{Sound}
-use Rattle.state.proofs.CycleLaws.{leftOf, left-resting, Cycle}
-use Rattle.state.proofs.StateLaws.{line-after, slot-after, transfer-after, transfer-kept, transfer-with, transfer-with-other, slot-with, mask-bit, finished-here}
-use Rattle.state.proofs.DecodeLaws.{Accepted, accepted, requests-held, requests-of}
-use Rattle.state.proofs.SoundLaws.{clock-sound, finished-only, requests-same}
-use Rattle.quote.specs.Waits as quote
-use Rattle.bounds.proofs.Potential.{pot, pot-quoted}
-use Rattle.history.specs.Claim.{Call, Start, History, next, after, answers, owns, shows, names, any}
-use Rattle.history.proofs.Pairs.{sharesOf, singleOf, serveOf, sizes, wait-quoted}
-use Rattle.history.proofs.SlaveClock.{leftAt, Paced, InTurn, potAt, keeps-serving, acts, nearer, owner-after, left-after, granted-now, left-granted}
-use Rattle.history.proofs.Calls.{withPost, withClock, answerOf, Came, refused, postTaken, clockTaken, came}
-use Rattle.history.proofs.Standing.{Standing, Taken, post-taken, post-stands, clock-stands, next-stands, acting, stays, left-with}
+use Rattle.fabric.specs.Calls.{World}
+use Rattle.state.proofs.CycleLaws.{leftOf, Cycle}
+use Rattle.state.proofs.StateLaws.{slot-after, transfer-with-other, slot-with, mask-bit, finished-here}
+use Rattle.state.proofs.DecodeLaws.{requests-held}
+use Rattle.state.proofs.SoundLaws.{requests-same}
+use Rattle.state.proofs.StepLaws.{grant-serving}
+use Rattle.bounds.proofs.Potential.{pot}
+use Rattle.history.specs.Claim.{Call, History, next, answers, shows, names, any}
+use Rattle.history.proofs.Pairs.{sharesOf, singleOf, serveOf}
+use Rattle.history.proofs.SlaveClock.{leftAt, potAt, acts, nearer, owner-after, left-after, granted-now, left-granted}
+use Rattle.history.proofs.Calls.{answerOf, Came, refused, postTaken, clockTaken, came}
+use Rattle.history.proofs.MasterClock.{kept-after, shown}
+use Rattle.history.proofs.Standing.{Standing, Taken, post-taken, post-stands, clock-stands, acting, stays, left-with}
 
 -- ---- answers
 
@@ -73,15 +67,6 @@ any-more test (suc i) (suc j) (a ∷ xs) h e = go (test a) refl (any-more test i
     go : (c : Bool) → test a ≡ c → (any test (take i xs) ≡ true → any test (take j xs) ≡ true) → any test (a ∷ take j xs) ≡ true
     go true q f = any-here test a (take j xs) q
     go false q f = any-later test a (take j xs) (f (sym (any-rest test a (take i xs) q) ∙ e))
-
--- a line that serves m is seen
-shows-line : (b : Board) (w : World) (m s : ℕ) → s < b .«slave_count» → b .«slave_count» ≤ 16
-    → (eqb (stepOf b (w .state) s .line .phase) 1 || eqb (stepOf b (w .state) s .line .phase) 2) ≡ true
-    → stepOf b (w .state) s .line .owner ≡ m → shows m (answerOf b w) ≡ true
-unfolding shows owns
-shows-line b w m s hs few phase owner =
-    some-here (λ k. owns m (getD (linesOf b (w .state)) k noLine)) 16 s (omega arith)
-    (ap (owns m) (line-after b (w .state) s hs few) ∙ rw (phase, eq-eqb _ m owner))
 
 names-finished : (b : Board) (w : World) (m : ℕ) → m < 8 → finished b (w .state) m ≡ true → names m (answerOf b w) ≡ true
 unfolding names
@@ -124,25 +109,12 @@ module _ (b : Board) (legal : Legal b) (m : ℕ) (hm : m < b .«master_count») 
         → leftAt b (stateAfter b st) s ≡ leftOf (masterAt b (now .owner)) (slaveAt b s) (transferAt st (now .owner)) now - 1
     left-next = left-after b legal st (x .sound) s hs (acting b legal st (x .sound) s hs) (stays b legal st (x .sound) s hs)
 
-    -- not finished, it holds its transfer
-    keeps : requests b st s m ≡ true → finished b st m ≡ false → transferAt (stateAfter b st) m ≡ transferAt st m
-    keeps q f = transfer-after b st m low ∙ transfer-kept b st m f
-
-    -- served by another, it is not finished
-    unfinished : requests b st s m ≡ true → now .serving ≡ true → now .owner ≢ m → finished b st m ≡ false
-    unfinished q on d = go (finished b st m) refl
-      where
-        go : (c : Bool) → finished b st m ≡ c → finished b st m ≡ false
-        go true e = absurd (d (sym (acts-now on .line) ∙ finished-only b st legal (x .sound) s m q e .1))
-        go false e = e
-
     -- the clock is its first cycle, or it comes nearer
     wait-clock : (K : ℕ) → Waiting K st → ((now .serving ≡ true) × (now .owner ≡ m)) ⊎ ((1 ≤ K) × Waiting (K - 1) (stateAfter b st))
     wait-clock K y =
         ⊎-elim inl
         (λ n.
-        let f = unfinished (y .asks) (n .0) (n .1) in
-        let k = keeps (y .asks) f in
+        let k = kept-after b legal st (x .sound) s hs m (y .asks) (λ _. n .1) hm in
         inr (
           n .2,
           record {
@@ -155,8 +127,9 @@ module _ (b : Board) (legal : Legal b) (m : ℕ) (hm : m < b .«master_count») 
         (nearer b legal st (x .sound) s hs (acting b legal st (x .sound) s hs) (stays b legal st (x .sound) s hs) m hm (y .asks) K
         (y .off) (y .bound))
 
-    shown : (now .serving ≡ true) × (now .owner ≡ m) → shows m (answerOf b w) ≡ true
-    shown n = let c = acts-now (n .0) in shows-line b w m s hs (legal .fewSlaves) (c .shown) (c .line ∙ n .1)
+    first-shown : (now .serving ≡ true) × (now .owner ≡ m) → shows m (answerOf b w) ≡ true
+    unfolding shows
+    first-shown n = shown b legal st (x .sound) s hs m (n .0) (n .1)
 
     -- served and going on, or finished
     go-on : (L : ℕ) → requests b st s m ≡ true → transferAt st m ≡ t → (now .serving ≡ true) × (now .owner ≡ m)
@@ -188,39 +161,36 @@ module _ (b : Board) (legal : Legal b) (m : ℕ) (hm : m < b .«master_count») 
             (names-finished b w m low
             (finished-here b st m s hs (c .ends ∙ ap not e) (c .line ∙ n .1)))
 
-    start-clock : Waiting 0 st ⊎ ((K : ℕ) × Waiting K st) → (now .serving ≡ true) × (now .owner ≡ m)
+    start-clock : (K : ℕ) → Waiting K st → (now .serving ≡ true) × (now .owner ≡ m)
         → (names m (answerOf b w) ≡ true) ⊎ InService (ownLength (masterAt b m) (slaveAt b s) t - 1) (stateAfter b st)
-    start-clock y n = ⊎-elim (λ z. go 0 z) (λ z. go (z .0) (z .1)) y
+    start-clock K z n =
+        go-on (ownLength (masterAt b m) (slaveAt b s) t) (z .asks) (z .holds) n (whole (slotAt st s .serving) refl)
       where
-        go : (K : ℕ) → Waiting K st
-            → (names m (answerOf b w) ≡ true) ⊎ InService (ownLength (masterAt b m) (slaveAt b s) t - 1) (stateAfter b st)
-        go K z = go-on (ownLength (masterAt b m) (slaveAt b s) t) (z .asks) (z .holds) n (whole (slotAt st s .serving) refl)
-          where
-            whole : (c : Bool) → slotAt st s .serving ≡ c
-                → leftOf (masterAt b (now .owner)) (slaveAt b s) (transferAt st (now .owner)) now ≤ ownLength (masterAt b m) (slaveAt b s) t
-            whole true e =
-                absurd (z .off e (sym (ap (λ (y : Slot). y .owner) (keeps-serving b st s e)) ∙ n .1))
-            whole false e =
-                let g = granted-now b legal st (x .sound) s hs (acting b legal st (x .sound) s hs) (stays b legal st (x .sound) s hs) e (n .0) in
-                let l =
-                left-granted b legal st (x .sound) s hs (acting b legal st (x .sound) s hs) (stays b legal st (x .sound) s hs)
-                (g .0) (g .1) (g .3) in
-                let i : g .0 ≡ m = sym (ap (λ (y : Slot). y .owner) (g .3)) ∙ n .1 in
-                let k : ownLength (masterAt b (g .0)) (slaveAt b s) (transferAt st (g .0)) ≡ ownLength (masterAt b m) (slaveAt b s) t =
-                ap (λ (j : ℕ). ownLength (masterAt b j) (slaveAt b s) (transferAt st j)) i
-                ∙ ap (ownLength (masterAt b m) (slaveAt b s)) (z .holds) in
-                omega (arith, l, k)
+        whole : (c : Bool) → slotAt st s .serving ≡ c
+            → leftOf (masterAt b (now .owner)) (slaveAt b s) (transferAt st (now .owner)) now ≤ ownLength (masterAt b m) (slaveAt b s) t
+        whole true e =
+            absurd (z .off e (sym (ap (λ (y : Slot). y .owner) (grant-serving b st s e)) ∙ n .1))
+        whole false e =
+            let g = granted-now b legal st (x .sound) s hs (acting b legal st (x .sound) s hs) (stays b legal st (x .sound) s hs) e (n .0) in
+            let l =
+            left-granted b legal st (x .sound) s hs (acting b legal st (x .sound) s hs) (stays b legal st (x .sound) s hs)
+            (g .0) (g .1) (g .3) in
+            let i : g .0 ≡ m = sym (ap (λ (y : Slot). y .owner) (g .3)) ∙ n .1 in
+            let k : ownLength (masterAt b (g .0)) (slaveAt b s) (transferAt st (g .0)) ≡ ownLength (masterAt b m) (slaveAt b s) t =
+            ap (λ (j : ℕ). ownLength (masterAt b j) (slaveAt b s) (transferAt st j)) i
+            ∙ ap (ownLength (masterAt b m) (slaveAt b s)) (z .holds) in
+            omega (arith, l, k)
 
     serve-clock : (L : ℕ) → InService L st → (names m (answerOf b w) ≡ true) ⊎ InService (L - 1) (stateAfter b st)
     serve-clock L y =
-        let e = keeps-serving b st s (y .on) in
+        let e = grant-serving b st s (y .on) in
         go-on L (y .asks) (y .holds)
         (ap (λ (z : Slot). z .serving) e ∙ y .on, ap (λ (z : Slot). z .owner) e ∙ y .own)
         (subst (λ (z : Slot). leftOf (masterAt b (z .owner)) (slaveAt b s) (transferAt st (z .owner)) z ≤ L) (sym e) (y .bound))
 
     some-left : (L : ℕ) → InService L st → 1 ≤ L
     some-left L y =
-        let e = keeps-serving b st s (y .on) in
+        let e = grant-serving b st s (y .on) in
         let c = acts-now (ap (λ (z : Slot). z .serving) e ∙ y .on) .some in
         let d = subst (λ (z : Slot). 1 ≤ leftOf (masterAt b (z .owner)) (slaveAt b s) (transferAt st (z .owner)) z) e c in
         omega (arith, d, y .bound)
@@ -251,19 +221,19 @@ module _ (b : Board) (legal : Legal b) (m : ℕ) (hm : m < b .«master_count») 
           bounded : {z : Slot} → slotAt st s ≡ z → {l : ℕ} → leftAt b st s ≡ l
               → ((slotAt st s .owner ≡ m → slotAt st s .remaining ≡ 0) → potAt b legal s hs m st ≤ K)
               → (z .owner ≡ m → z .remaining ≡ 0)
-              → pot (b .«master_count») (sharesOf b legal s hs) (singleOf b legal s hs) (serveOf b legal s hs) (sizes b legal s hs) m
+              → pot (b .«master_count») (sharesOf b legal s hs) (singleOf b legal s hs) (serveOf b legal s hs) m
               (z .owner) (z .remaining) l ≤ K
           bounded {z} e {l} f g =
               subst
               (λ (z : Slot).
               (z .owner ≡ m → z .remaining ≡ 0)
-              → pot (b .«master_count») (sharesOf b legal s hs) (singleOf b legal s hs) (serveOf b legal s hs) (sizes b legal s hs)
+              → pot (b .«master_count») (sharesOf b legal s hs) (singleOf b legal s hs) (serveOf b legal s hs)
               m (z .owner) (z .remaining) l ≤ K)
               e
               (subst
               (λ (l : ℕ).
               (slotAt st s .owner ≡ m → slotAt st s .remaining ≡ 0)
-              → pot (b .«master_count») (sharesOf b legal s hs) (singleOf b legal s hs) (serveOf b legal s hs) (sizes b legal s hs)
+              → pot (b .«master_count») (sharesOf b legal s hs) (singleOf b legal s hs) (serveOf b legal s hs)
               m (slotAt st s .owner) (slotAt st s .remaining) l ≤ K)
               f g)
 
@@ -277,9 +247,6 @@ module _ (b : Board) (legal : Legal b) (m : ℕ) (hm : m < b .«master_count») 
       }
 
   -- ---- along a history
-
-  front : (test : Clocked → Bool) (n : ℕ) (xs ys : List Clocked) → xs ≡ ys → any test (take n ys) ≡ true → any test (take n xs) ≡ true
-  front test n xs ys e h = ap (λ (z : List Clocked). any test (take n z)) e ∙ h
 
   -- what the rest of the history gives, from where the next call finds things
   abbrev Rest : (ℕ → State → Type 0) → (ℕ → List Clocked → Type 0) → World → List Call → Type 0
@@ -304,7 +271,7 @@ module _ (b : Board) (legal : Legal b) (m : ℕ) (hm : m < b .«master_count») 
           → ((slotAfterGrant b (w .state) s .serving ≡ true) × (slotAfterGrant b (w .state) s .owner ≡ m))
           ⊎ ((1 ≤ K) × Waiting (K - 1) (stateAfter b (w .state)))
           → Soon (shows m) n (answerOf b w ∷ answers cs)
-      go n k (inl a) l = any-here (shows m) (answerOf b w) (take n (answers cs)) (shown w x a)
+      go n k (inl a) l = any-here (shows m) (answerOf b w) (take n (answers cs)) (first-shown w x a)
       go zero k (inr a) l = absurd (omega (arith, a .0))
       go (suc n) k (inr a) l =
           let v : K - 1 ≡ n = omega arith in
@@ -393,7 +360,7 @@ module _ (b : Board) (legal : Legal b) (m : ℕ) (hm : m < b .«master_count») 
           → ((slotAfterGrant b (w .state) s .serving ≡ true) × (slotAfterGrant b (w .state) s .owner ≡ m))
           ⊎ ((1 ≤ K) × Waiting (K - 1) (stateAfter b (w .state)))
           → any (names m) (answerOf b w ∷ take (K + own - 1) (answers cs)) ≡ true
-      go l (inl a) = started l (start-clock w x (inr (K, y)) a)
+      go l (inl a) = started l (start-clock w x K y a)
       go l (inr a) =
           let v : K - 1 + own ≡ K + own - 1 = omega (arith, a .0) in
           any-later (names m) (answerOf b w) (take (K + own - 1) (answers cs))

@@ -1,9 +1,9 @@
 -- A call of a history, by cases: refused, a post taken, a clock taken; what each leaves and what each answers.
 -- Assumes nothing.
-use mathlib.Core.Path.{_≡_, refl, sym, ap, subst₃, _∙_}
-use mathlib.Core.Bool.{Bool, true, false, cond}
-use mathlib.Core.List.{List, [], _∷_}
-use mathlib.Core.Logic.{_⊎_, inl, inr, ⊎-elim, _≢_}
+use mathlib.Core.Path.{_≡_, refl, sym, subst₃, _∙_}
+use mathlib.Core.Bool.{Bool, true, false}
+use mathlib.Core.List.{List, _∷_}
+use mathlib.Core.Logic.{_⊎_, ⊎-elim, _≢_}
 use Prim.Native.Nat.{ℕ}
 use lib.Dec.{eqb}
 use borrow.Author.Tests.{eqb-true, eqb-false, eq-eqb, ne-eqb}
@@ -16,7 +16,7 @@ use Rattle.state.specs.Control.{stateAfter, maskOf, linesOf}
 use Rattle.state.specs.Carrying.{storeAfter}
 use Rattle.state.specs.Posting.{stateWith}
 use Rattle.fabric.specs.Calls.{World, postRefusal, post, bufferAfterPost, clockRefusal, clock, storeAfterClock}
-use Rattle.history.specs.Claim.{Call, posts, clocks, numberOf, Handed, leaves, next, after, History, answers, Reference, fed, fedPost, seenAll}
+use Rattle.history.specs.Claim.{Call, posts, clocks, numberAnswered, Handed, leaves, next, answers, Reference, fed, fedPost, seenAll}
 
 -- what a post that is taken leaves
 abbrev pub withPost : World → Request → World
@@ -47,6 +47,11 @@ pub clock-leaves : (b : Board) (w : World) → clockRefusal b (w .state) (w .sto
 unfolding leaves clock storeAfterClock
 clock-leaves b w e = rw (eq-eqb (clockRefusal b (w .state) (w .store)) 0 e)
 
+pub clock-stored : (b : Board) (w : World) → clockRefusal b (w .state) (w .store) ≡ 0
+    → storeAfterClock b (w .state) (w .store) ≡ storeAfter b (w .state) (w .store)
+unfolding storeAfterClock
+clock-stored b w e = rw (eq-eqb (clockRefusal b (w .state) (w .store)) 0 e)
+
 pub clock-answers : (b : Board) (w : World) → clockRefusal b (w .state) (w .store) ≡ 0 → clock b (w .state) (w .store) ≡ answerOf b w
 unfolding clock
 clock-answers b w e = rw (eq-eqb (clockRefusal b (w .state) (w .store)) 0 e)
@@ -70,50 +75,50 @@ pub data Came (b : Board) (w : World) (c : Call) : Type 0 where
       → ((cs : List Call) → answers (c ∷ cs) ≡ answerOf b w ∷ answers cs)
       → ((r : Reference) (cs : List Call) → fed b r (c ∷ cs) ≡ fed b (seenAll b (linesOf b (w .state)) r) cs) → Came b w c
 
-refused-next : (w : World) (c : Call) → numberOf c ≢ 0 → next w c ≡ w
+refused-next : (w : World) (c : Call) → numberAnswered c ≢ 0 → next w c ≡ w
 unfolding next
-refused-next w c h = rw (ne-eqb (numberOf c) 0 h)
+refused-next w c h = rw (ne-eqb (numberAnswered c) 0 h)
 
-taken-next : (w : World) (c : Call) → numberOf c ≡ 0 → next w c ≡ leaves w c
+taken-next : (w : World) (c : Call) → numberAnswered c ≡ 0 → next w c ≡ leaves w c
 unfolding next
-taken-next w c e = rw (eq-eqb (numberOf c) 0 e)
+taken-next w c e = rw (eq-eqb (numberAnswered c) 0 e)
 
-refused-call : (b : Board) (w : World) (c : Call) → numberOf c ≢ 0 → Came b w c
-unfolding numberOf answers fed
+refused-call : (b : Board) (w : World) (c : Call) → numberAnswered c ≢ 0 → Came b w c
+unfolding numberAnswered answers fed
 refused-call b w (posts b′ st buffer q) h =
     refused (refused-next w (posts b′ st buffer q) h) (λ cs. refl) (λ r cs. rw (ne-eqb (post b′ st buffer q .number) 0 h))
 refused-call b w (clocks b′ st d) h =
     refused (refused-next w (clocks b′ st d) h) (λ cs. rw (ne-eqb (clock b′ st d .number) 0 h))
     (λ r cs. rw (ne-eqb (clock b′ st d .number) 0 h))
 
-post-came : (b : Board) (w : World) (q : Request) → numberOf (posts b (w .state) (w .store .buffer) q) ≡ 0
+post-came : (b : Board) (w : World) (q : Request) → numberAnswered (posts b (w .state) (w .store .buffer) q) ≡ 0
     → Came b w (posts b (w .state) (w .store .buffer) q)
-unfolding numberOf answers fed post
+unfolding numberAnswered answers fed post
 post-came b w q e =
     postTaken q e (taken-next w (posts b (w .state) (w .store .buffer) q) e ∙ post-leaves b w q e) (λ cs. refl)
     (λ r cs. rw (eq-eqb (postRefusal b (w .state) (w .store .buffer) q) 0 e))
 
-clock-came : (b : Board) (w : World) → numberOf (clocks b (w .state) (w .store)) ≡ 0 → Came b w (clocks b (w .state) (w .store))
-unfolding numberOf answers fed
+clock-came : (b : Board) (w : World) → numberAnswered (clocks b (w .state) (w .store)) ≡ 0 → Came b w (clocks b (w .state) (w .store))
+unfolding numberAnswered answers fed
 clock-came b w e =
     let z = sym (clock-number b (w .state) (w .store)) ∙ e in
     let a = clock-answers b w z in
     clockTaken z (taken-next w (clocks b (w .state) (w .store)) e ∙ clock-leaves b w z)
     (λ cs. rw a) (λ r cs. rw a)
 
-taken-call : (b : Board) (w : World) (c : Call) → Handed b w c → numberOf c ≡ 0 → Came b w c
+taken-call : (b : Board) (w : World) (c : Call) → Handed b w c → numberAnswered c ≡ 0 → Came b w c
 unfolding Handed
 taken-call b w (posts b′ st buffer q) h e =
-    subst₃ (λ (x : Board) (y : State) (z : List ℕ). numberOf (posts x y z q) ≡ 0 → Came b w (posts x y z q))
+    subst₃ (λ (x : Board) (y : State) (z : List ℕ). numberAnswered (posts x y z q) ≡ 0 → Came b w (posts x y z q))
     (sym (h .0)) (sym (h .1)) (sym (h .2)) (post-came b w q) e
 taken-call b w (clocks b′ st d) h e =
-    subst₃ (λ (x : Board) (y : State) (z : Store). numberOf (clocks x y z) ≡ 0 → Came b w (clocks x y z))
+    subst₃ (λ (x : Board) (y : State) (z : Store). numberAnswered (clocks x y z) ≡ 0 → Came b w (clocks x y z))
     (sym (h .0)) (sym (h .1)) (sym (h .2)) (clock-came b w) e
 
 -- every call of a history came one of these ways
-pub came : (b : Board) (w : World) (c : Call) → (numberOf c ≢ 0) ⊎ Handed b w c → Came b w c
-came b w c h = go (eqb (numberOf c) 0) refl
+pub came : (b : Board) (w : World) (c : Call) → (numberAnswered c ≢ 0) ⊎ Handed b w c → Came b w c
+came b w c h = go (eqb (numberAnswered c) 0) refl
   where
-    go : (t : Bool) → eqb (numberOf c) 0 ≡ t → Came b w c
-    go true e = ⊎-elim (λ n. absurd (n (eqb-true (numberOf c) 0 e))) (λ p. taken-call b w c p (eqb-true (numberOf c) 0 e)) h
-    go false e = refused-call b w c (eqb-false (numberOf c) 0 e)
+    go : (t : Bool) → eqb (numberAnswered c) 0 ≡ t → Came b w c
+    go true e = ⊎-elim (λ n. absurd (n (eqb-true (numberAnswered c) 0 e))) (λ p. taken-call b w c p (eqb-true (numberAnswered c) 0 e)) h
+    go false e = refused-call b w c (eqb-false (numberAnswered c) 0 e)

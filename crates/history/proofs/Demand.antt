@@ -1,12 +1,9 @@
 -- Demand 3: every board that reset does not refuse has it whole; and the wait it speaks of is what the wait call answers.
 -- Assumes nothing.
-use mathlib.Core.Path.{_≡_, refl, sym, ap, _∙_}
-use mathlib.Core.Bool.{true}
-use mathlib.Core.List.{List}
-use Prim.Native.Nat.{ℕ, _≤_, _<_}
+use mathlib.Core.Path.{_≡_, refl, sym, _∙_}
 use Rattle.board.specs.declared.Board.{Board}
 use Rattle.board.specs.Items.{checkBoard}
-use Rattle.board.proofs.Legal.{Legal}
+use Rattle.board.specs.Legal.{Legal}
 use Rattle.board.proofs.Accepted.{accepted-legal}
 use Rattle.fabric.specs.Calls.{reset}
 use Rattle.history.specs.Claim.{Demand3}

@@ -13,7 +13,7 @@ use borrow.Author.Tests.{ltb-true}
 use Rattle.laws.proofs.Tests.{both}
 use Rattle.board.specs.declared.Board.{Board}
 use Rattle.board.specs.Records.{masterAt, slaveAt, sharesAt, connected}
-use Rattle.board.proofs.Legal.{Legal}
+use Rattle.board.specs.Legal.{Legal}
 use Rattle.geometry.specs.declared.Transfer.{Transfer}
 use Rattle.state.specs.Records.{transferAt, slotAt}
 use Rattle.state.specs.Posting.{Request}
@@ -22,12 +22,12 @@ use Rattle.fabric.specs.Calls.{World, reset, post}
 use Rattle.state.proofs.CycleLaws.{left-resting}
 use Rattle.state.proofs.StateLaws.{transfer-with, transfer-with-other}
 use Rattle.state.proofs.DecodeLaws.{selects-target}
-use Rattle.quote.specs.Waits.{waitOf}
+use Rattle.quote.specs.Waits.{quotedWait}
 use Rattle.bounds.proofs.Order.{between}
 use Rattle.bounds.proofs.Credit.{credit, credit-zero}
 use Rattle.bounds.proofs.Potential.{quoted-between}
-use Rattle.history.specs.Claim.{Call, Start, History, after, answers, shows, any, slaveOf, Accepted, posted}
-use Rattle.history.proofs.Pairs.{sharesOf, singleOf, serveOf, sizes, wait-quoted}
+use Rattle.history.specs.Claim.{Call, Start, History, after, answers, shows, any, slaveFor, Accepted, afterPosting}
+use Rattle.history.proofs.Pairs.{sharesOf, singleOf, serveOf, wait-quoted}
 use Rattle.history.proofs.SlaveClock.{potAt}
 use Rattle.history.proofs.Calls.{withPost, post-leaves}
 use Rattle.history.proofs.Standing.{Standing, Taken, left-with, post-stands}
@@ -56,7 +56,7 @@ module _ (b : Board) (legal : Legal b) (s : ℕ) (hs : s < b .«slave_count») (
       (omega (arith, legal .fewMasters))
 
   -- and has the quoted wait before it
-  wait-whole : potAt b legal s hs m (stateWith (w .state) m (transferFor b s m (dueAt b s (w .state) m))) ≡ waitOf b m s
+  wait-whole : potAt b legal s hs m (stateWith (w .state) m (transferFor b s m (dueAt b s (w .state) m))) ≡ quotedWait b m s
   unfolding stateWith
   wait-whole =
       let o = slotAt (w .state) s .owner in
@@ -70,11 +70,11 @@ module _ (b : Board) (legal : Legal b) (s : ℕ) (hs : s < b .«slave_count») (
             between (λ j. credit (singleOf b legal s hs j) (serveOf b legal s hs j) (sharesAt b j s)) (b .«master_count») i m)
             (x .owner),
         quoted-between (b .«master_count») (sharesOf b legal s hs) (singleOf b legal s hs) (serveOf b legal s hs)
-            (sizes b legal s hs) m hm,
+            m hm,
         wait-quoted b legal s hs m,
       )
 
-  starts : Tracked b legal s hs m hm (waitOf b m s) (withPost w asked .state)
+  starts : Tracked b legal s hs m hm (quotedWait b m s) (withPost w asked .state)
   unfolding stateWith requestFor transferFor
   starts = record {
     sound = stands .sound;
@@ -94,12 +94,12 @@ module _ (b : Board) (legal : Legal b) (s : ℕ) (hs : s < b .«slave_count») (
 
 pub exact-history : (b : Board) → Legal b → (w : World) → Start b w → (m s : ℕ) → m < b .«master_count» → connected b m s ≡ true
     → (before : List Call) × (q : Request) × (calls : List Call)
-    × History b w before × Accepted b (after w before) q × (q .master ≡ m) × (slaveOf b q ≡ s)
-    × History b (posted b (after w before) q) calls
-    × (length (answers calls) ≡ waitOf b m s + 1)
-    × (any (shows m) (take (waitOf b m s) (answers calls)) ≡ false)
+    × History b w before × Accepted b (after w before) q × (q .master ≡ m) × (slaveFor b q ≡ s)
+    × History b (afterPosting b (after w before) q) calls
+    × (length (answers calls) ≡ quotedWait b m s + 1)
+    × (any (shows m) (take (quotedWait b m s) (answers calls)) ≡ false)
     × (any (shows m) (answers calls) ≡ true)
-unfolding connected reset Accepted post posted slaveOf requestFor
+unfolding connected reset Accepted post afterPosting slaveFor requestFor
 exact-history b legal w x m s hm c =
     let p = both (ltb s (b .«slave_count»)) (ltb 0 (sharesAt b m s)) c in
     let hs = ltb-true s (b .«slave_count») (p .0) in
@@ -111,7 +111,7 @@ exact-history b legal w x m s hm c =
     let t = taken b legal s hs m hm has u (l .end) in
     let e = post-accepted b legal ok u q (l .end .stands) t in
     let r =
-    runs b legal s hs m hm ok (waitOf b m s) (withPost u q) (stands b legal s hs m hm has u (l .end))
+    runs b legal s hs m hm ok (quotedWait b m s) (withPost u q) (stands b legal s hs m hm has u (l .end))
     (starts b legal s hs m hm has u (l .end)) in (
       l .calls,
       q,

@@ -10,12 +10,12 @@ use lib.ListN.{length, take}
 use borrow.Author.Tests.{eq-eqb, lt-leb}
 use Rattle.board.specs.declared.Board.{Board}
 use Rattle.board.specs.Items.{checkBoard}
-use Rattle.board.proofs.Legal.{Legal}
+use Rattle.board.specs.Legal.{Legal}
 use Rattle.moves.specs.Bytes.{bufferLength}
 use Rattle.state.specs.Posting.{Request, transferOf, transferRefusal}
 use Rattle.fabric.specs.Calls.{World, postRefusal, post, clock}
 use Rattle.state.proofs.SoundLaws.{sound-test}
-use Rattle.history.specs.Claim.{Call, posts, clocks, numberOf, Handed, next, after, History, answers, shows, any}
+use Rattle.history.specs.Claim.{Call, posts, clocks, numberAnswered, Handed, next, after, History, answers, shows, any}
 use Rattle.history.proofs.Calls.{withPost, withClock, answerOf, post-leaves, clock-leaves, clock-answers}
 use Rattle.history.proofs.Calls.{clock-number}
 use Rattle.history.proofs.Standing.{Standing, Taken, clock-free}
@@ -37,13 +37,13 @@ module _ (b : Board) (legal : Legal b) (ok : checkBoard b ≡ 0) where
 
   post-next : (w : World) (q : Request) → Standing b legal w → Taken b (w .state) q
       → next w (posts b (w .state) (w .store .buffer) q) ≡ withPost w q
-  unfolding next numberOf post
+  unfolding next numberAnswered post
   post-next w q x t =
       let e = post-accepted w q x t in
       rw (eq-eqb (postRefusal b (w .state) (w .store .buffer) q) 0 e) (post-leaves b w q e)
 
   clock-next : (w : World) → Standing b legal w → next w (clocks b (w .state) (w .store)) ≡ withClock b w
-  unfolding next numberOf
+  unfolding next numberAnswered
   clock-next w x =
       let e = clock-free b legal ok w x in
       rw (eq-eqb (clock b (w .state) (w .store) .number) 0 (clock-number b (w .state) (w .store) ∙ e)) (clock-leaves b w e)

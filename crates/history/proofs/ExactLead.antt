@@ -7,33 +7,34 @@ use Prim.Native.Nat.{ℕ, zero, suc, _-_, _≤_, _<_}
 use native.Mathlib.Decide.{ℕ-discrete}
 use native.Mathlib.Nat.{le-refl}
 use native.Mathlib.Omega.{arith}
-use borrow.Author.Tests.{eq-eqb}
 use Rattle.board.specs.declared.Board.{Board}
 use Rattle.board.specs.Records.{masterAt, slaveAt, sharesAt}
 use Rattle.board.specs.Items.{checkBoard}
-use Rattle.board.proofs.Legal.{Legal}
+use Rattle.board.specs.Legal.{Legal}
 use Rattle.geometry.specs.declared.Transfer.{Transfer}
 use Rattle.arbiter.specs.declared.Grant.the-variants.{Silent}
 use Rattle.arbiter.specs.Granting.{grantTo, granted}
 use Rattle.state.specs.declared.Slot.{Slot}
 use Rattle.state.specs.declared.State.{State}
+use Rattle.state.specs.declared.Step.{Step}
 use Rattle.state.specs.Records.{transferAt, slotAt}
 use Rattle.state.specs.Soundness.{requests}
 use Rattle.state.specs.Control.{grantAt, slotGranted, slotAfterGrant, stepOf, stateAfter}
 use Rattle.state.specs.Posting.{stateWith}
 use Rattle.state.specs.Resetting.{stateAtReset}
-use Rattle.fabric.specs.Calls.{World, reset}
+use Rattle.fabric.specs.Calls.{World}
 use Rattle.state.proofs.CycleLaws.{leftOf, left-resting}
 use Rattle.state.proofs.StateLaws.{slot-after, transfer-with, transfer-with-other, transfer-reset, slot-reset}
 use Rattle.state.proofs.DecodeLaws.{requests-not}
 use Rattle.bounds.proofs.Order.{chosen-nobody}
 use Rattle.history.specs.Claim.{Start}
-use Rattle.history.proofs.SlaveClock.{Acting, leftAt, potAt, keeps-serving, takes-grant, step-resting, leftNow}
+use Rattle.state.proofs.StepLaws.{grant-serving, grant-given, step-rests}
+use Rattle.history.proofs.SlaveClock.{Acting, leftAt, potAt, leftNow}
 use Rattle.history.proofs.SlaveClock.{acts, owner-after, left-after, nearer}
 use Rattle.history.proofs.Calls.{withPost, withClock}
-use Rattle.history.proofs.Standing.{Standing, Taken, acting, stays, start-stands, post-stands, clock-stands}
+use Rattle.history.proofs.Standing.{Standing, Taken, acting, stays, start-stands, post-stands, clock-stands, start-state}
 use Rattle.history.proofs.ExactRequests.{requestFor, transferFor}
-use Rattle.history.proofs.ExactClock.{free-after, acted}
+use Rattle.history.proofs.MasterClock.{free-after, acted}
 use Rattle.history.proofs.ExactStep.{due-asks}
 use Rattle.history.proofs.ExactCalls.{Lead, lead-here, lead-post, lead-clock}
 use Rattle.history.proofs.ExactRuns.{request-taken}
@@ -104,20 +105,20 @@ module _ (b : Board) (legal : Legal b) (s : ℕ) (hs : s < b .«slave_count») (
       where
         now : slotAfterGrant b (w .state) s ≡ slotGranted (slotAt (w .state) s) Silent
         now =
-            takes-grant b (w .state) s rest
+            grant-given b (w .state) s rest
             ∙ ap (slotGranted (slotAt (w .state) s)) (silent b (w .state) s (λ j. requests-not b (w .state) s j (free j)))
 
         after : slotAt (stateAfter b (w .state)) s ≡ slotGranted (slotAt (w .state) s) Silent
         after =
             slot-after b (w .state) s hs (legal .fewSlaves)
-            ∙ step-resting b (w .state) s (ap (λ (y : Slot). y .serving) now)
+            ∙ ap (λ (y : Step). y .slot) (step-rests b (w .state) s (ap (λ (y : Slot). y .serving) now))
             ∙ now
 
     -- what is left of a slave that serves
     left-now : slotAt (w .state) s .serving ≡ true
         → (1 ≤ leftAt b (w .state) s) × (leftNow b legal (w .state) (x .sound) s hs ≡ leftAt b (w .state) s)
     left-now c =
-        let k = keeps-serving b (w .state) s c in
+        let k = grant-serving b (w .state) s c in
         let e = ap (λ (y : Slot). leftOf (masterAt b (y .owner)) (slaveAt b s) (transferAt (w .state) (y .owner)) y) k in
         let l = acts b legal (w .state) (x .sound) s hs act stay (ap (λ (y : Slot). y .serving) k ∙ c) .some in
         (subst (λ (n : ℕ). 1 ≤ n) e l, e)
@@ -140,7 +141,7 @@ module _ (b : Board) (legal : Legal b) (s : ℕ) (hs : s < b .«slave_count») (
     one-clock l w x f =
         ⊎-elim
         (λ c.
-        let k = keeps-serving b (w .state) s c in
+        let k = grant-serving b (w .state) s c in
         let e : leftNow b legal (w .state) (x .stands .sound) s hs - 1 ≡ l =
         omega (arith, x .left, left-now w (x .stands) c .1) in
         lead-clock b legal ok w (x .stands)
@@ -161,8 +162,7 @@ module _ (b : Board) (legal : Legal b) (s : ℕ) (hs : s < b .«slave_count») (
 
     module _ (hm : m < b .«master_count») (has : 1 ≤ sharesAt b m s) (w : World) (x : Start b w) where
       first : w .state ≡ stateAtReset b
-      unfolding reset
-      first = x .state ∙ rw (eq-eqb (checkBoard b) 0 ok)
+      first = start-state b w x
 
       all-free : (j : ℕ) → transferAt (w .state) j .held ≡ false
       all-free j = rw (first, transfer-reset b j)

@@ -1,11 +1,11 @@
 -- What a master posts at a slave to use up its credit there: singles while grants are to come, the longest transfer at
 -- the last. Such a transfer is not refused and lasts exactly as long as is quoted.
 -- Assumes nothing.
-use mathlib.Core.Path.{_≡_, refl, sym, ap, _∙_}
+use mathlib.Core.Path.{_≡_, refl, ap, _∙_}
 use mathlib.Core.Bool.{Bool, true, false, cond, _||_}
 use Prim.Native.Nat.{ℕ, zero, suc, _+_, _*_, _/_, _%_, _≤_, _<_, max}
-use native.Mathlib.Nat.{one-mul, le-refl, le-trans, mul-le-mul, div-mul-le-self, zero-mod, mod-mod-of-dvd}
-use native.Mathlib.Nat.{dvd-of-mod-eq-zero, min-le-left, min-le-right}
+use native.Mathlib.Nat.{one-mul, le-refl, le-trans, mul-le-mul, div-mul-le-self}
+use native.Mathlib.Nat.{min-le-left, min-le-right}
 use native.Mathlib.Omega.{arith}
 use lib.Dec.{leb}
 use lib.Count.{ones, onesIn, trailingZeros}
@@ -16,13 +16,14 @@ use Rattle.laws.proofs.TableLaws.{member-each}
 use Rattle.board.specs.declared.Board.{Board}
 use Rattle.board.specs.declared.Slave.{Slave}
 use Rattle.board.specs.Records.{masterAt, slaveAt}
-use Rattle.board.specs.Rules.{widths, spans}
-use Rattle.board.proofs.Legal.{Legal}
+use Rattle.board.specs.Rules.{widths}
+use Rattle.board.specs.Legal.{Legal}
 use Rattle.board.proofs.RuleLaws.{width-bound, burst-bound, span-bound}
 use Rattle.geometry.specs.declared.Transfer.{Transfer}
 use Rattle.geometry.specs.Lanes.{allLanes, lowest, adjacent, legalLanes, postLanes}
 use Rattle.geometry.specs.Decoding.{selects, targetOf}
-use Rattle.geometry.specs.Accesses.{ratio, accesses, waitOf, ownLength}
+use Rattle.geometry.specs.Accesses.{ratio, waitOf, ownLength}
+use Rattle.geometry.proofs.AccessLaws.{base-aligned, accesses-full}
 use Rattle.state.specs.Posting.{Request, transferOf, wrongBeats, unaligned, wrongLanes, unmapped, passesEnd}
 use Rattle.state.specs.Posting.{transferRefusal}
 use Rattle.fabric.specs.Calls.{wrongWords}
@@ -72,16 +73,6 @@ full-post w k e = rw (full-lanes w e, eq-eqb (allLanes w) (allLanes w) refl) (go
     go true = refl
     go false = refl
 
-multiple : (a c d : ℕ) → a % c ≡ 0 → c % d ≡ 0 → a % d ≡ 0
-multiple a c d e f =
-    sym (mod-mod-of-dvd d a (dvd-of-mod-eq-zero d f)) ∙ ap (λ (x : ℕ). x % d) e ∙ zero-mod d
-
--- a transfer at the base of a slave of span n and of a master of width w is aligned
-base-aligned : (a n w : ℕ) → a % n ≡ 0 → member n spans ≡ true → member w widths ≡ true → a % w ≡ 0
-base-aligned a n w e f g =
-    multiple a n w e
-    (multiple n 8 w (member-each (λ x. x % 8 ≡ 0) n spans (omega arith) f) (member-each (λ x. 8 % x ≡ 0) w widths (omega arith) g))
-
 -- what passes 13 to 17
 not-refused : (b : Board) (j s : ℕ) (t : Transfer) → 1 ≤ t .beats → t .beats ≤ masterAt b j .burst
     → t .address % masterAt b j .width ≡ 0 → postLanes (masterAt b j .width) (t .lanes) (t .beats) ≡ true
@@ -101,8 +92,8 @@ not-refused b j s t some few aligned lanes target within end =
 
 -- ---- its length
 
-wait-is : (sl : Slave) (t : Transfer) → t .write ≡ writes sl → 1 + waitOf sl t ≡ quote.longest sl
-unfolding waitOf quote.longest writes
+wait-is : (sl : Slave) (t : Transfer) → t .write ≡ writes sl → 1 + waitOf sl t ≡ quote.longestAccess sl
+unfolding waitOf quote.longestAccess writes
 wait-is sl t e = rw e (go (leb (sl .«read_wait») (sl .«write_wait»)) refl)
   where
     go : (c : Bool) → leb (sl .«read_wait») (sl .«write_wait») ≡ c
@@ -112,10 +103,12 @@ wait-is sl t e = rw e (go (leb (sl .«read_wait») (sl .«write_wait»)) refl)
 
 module _ (b : Board) (legal : Legal b) (s : ℕ) (hs : s < b .«slave_count») (j : ℕ) where
   long-is : (a : ℕ) → ownLength (masterAt b j) (slaveAt b s) (transferFor b s j a)
-      ≡ beatsFor b s j a * ratio (masterAt b j) (slaveAt b s) * quote.longest (slaveAt b s)
-  unfolding ownLength accesses transferFor requestFor
+      ≡ beatsFor b s j a * ratio (masterAt b j) (slaveAt b s) * quote.longestAccess (slaveAt b s)
+  unfolding ownLength transferFor requestFor
   long-is a =
-      ap (λ (x : ℕ). beatsFor b s j a * ratio (masterAt b j) (slaveAt b s) * x) (wait-is (slaveAt b s) (transferFor b s j a) refl)
+      ap (λ (x : ℕ). x * (1 + waitOf (slaveAt b s) (transferFor b s j a)))
+      (accesses-full (masterAt b j) (slaveAt b s) (transferFor b s j a) refl)
+      ∙ ap (λ (x : ℕ). beatsFor b s j a * ratio (masterAt b j) (slaveAt b s) * x) (wait-is (slaveAt b s) (transferFor b s j a) refl)
 
   pub last-serve : (a : ℕ) → a ≡ 0
       → ownLength (masterAt b j) (slaveAt b s) (transferFor b s j a) ≡ serveOf b legal s hs j
@@ -130,7 +123,7 @@ module _ (b : Board) (legal : Legal b) (s : ℕ) (hs : s < b .«slave_count») (
   first-single zero h = absurd (omega arith)
   first-single (suc a) h = (
     long-is (suc a)
-        ∙ ap (λ (x : ℕ). x * quote.longest (slaveAt b s)) (one-mul (ratio (masterAt b j) (slaveAt b s))),
+        ∙ ap (λ (x : ℕ). x * quote.longestAccess (slaveAt b s)) (one-mul (ratio (masterAt b j) (slaveAt b s))),
     le-refl 1,
   )
 

@@ -11,7 +11,7 @@ use borrow.Author.Tests.{ltb-true, ltb-false}
 use Rattle.board.specs.declared.Board.{Board}
 use Rattle.board.specs.Records.{sharesAt}
 use Rattle.board.specs.Items.{checkBoard}
-use Rattle.board.proofs.Legal.{Legal}
+use Rattle.board.specs.Legal.{Legal}
 use Rattle.geometry.specs.declared.Transfer.{Transfer}
 use Rattle.state.specs.declared.State.{State}
 use Rattle.state.specs.Records.{transferAt, slotAt}
@@ -23,11 +23,11 @@ use Rattle.state.proofs.StateLaws.{transfer-with, transfer-with-other}
 use Rattle.state.proofs.DecodeLaws.{requests-held}
 use Rattle.bounds.proofs.Potential.{pot}
 use Rattle.history.specs.Claim.{shows}
-use Rattle.history.proofs.Pairs.{sharesOf, singleOf, serveOf, sizes}
+use Rattle.history.proofs.Pairs.{sharesOf, singleOf, serveOf}
 use Rattle.history.proofs.Calls.{withPost, withClock}
 use Rattle.history.proofs.Standing.{Standing, Taken, left-with, post-stands, clock-stands}
 use Rattle.history.proofs.ExactRequests.{requestFor, transferFor, request-fits, words-right}
-use Rattle.history.proofs.ExactClock.{hidden, shown}
+use Rattle.history.proofs.MasterClock.{hidden, shown}
 use Rattle.history.proofs.ExactStep.{dueAt, Has, Tracked, Ready, on, serves-mine, serves-other, tracked-after}
 use Rattle.history.proofs.ExactCalls.{Run, run-post, run-clock, run-last}
 
@@ -74,7 +74,7 @@ module _ (b : Board) (legal : Legal b) (s : ℕ) (hs : s < b .«slave_count») w
         count =
             ap
             (pot (b .«master_count») (sharesOf b legal s hs) (singleOf b legal s hs) (serveOf b legal s hs)
-            (sizes b legal s hs) m (slotAt st s .owner) (slotAt st s .remaining))
+            m (slotAt st s .owner) (slotAt st s .remaining))
             (left-with b legal st (x .sound) i (transferFor b s i (dueAt b s st i)) free s hs)
             ∙ x .count;
         owes = λ j hj shared. go j hj shared (ℕ-discrete j i);

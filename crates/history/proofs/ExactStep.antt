@@ -12,7 +12,7 @@ use lib.Dec.{ltb, eqb}
 use borrow.Author.Tests.{eq-eqb, ne-eqb, lt-ltb}
 use Rattle.board.specs.declared.Board.{Board}
 use Rattle.board.specs.Records.{masterAt, slaveAt, sharesAt}
-use Rattle.board.proofs.Legal.{Legal}
+use Rattle.board.specs.Legal.{Legal}
 use Rattle.geometry.specs.declared.Transfer.{Transfer}
 use Rattle.geometry.specs.Accesses.{ownLength}
 use Rattle.arbiter.specs.Choosing.{chosen}
@@ -30,12 +30,13 @@ use Rattle.state.proofs.SoundLaws.{grant-facts, clock-sound}
 use Rattle.bounds.proofs.Order.{between}
 use Rattle.bounds.proofs.Credit.{credit, spend-all}
 use Rattle.bounds.proofs.Potential.{Next, grant-exactly}
-use Rattle.history.proofs.Pairs.{sharesOf, singleOf, serveOf, sizes}
-use Rattle.history.proofs.SlaveClock.{Acting, keeps-serving, potAt, beats, long, asks-fit, acts, owner-after}
+use Rattle.history.proofs.Pairs.{sharesOf, singleOf, serveOf}
+use Rattle.state.proofs.StepLaws.{grant-serving}
+use Rattle.history.proofs.SlaveClock.{Acting, potAt, beats, long, asks-fit, acts, owner-after}
 use Rattle.history.proofs.SlaveClock.{remaining-after, left-after, granted-now, left-granted, put-aside, nearer}
 use Rattle.history.proofs.Standing.{acting, stays}
 use Rattle.history.proofs.ExactRequests.{transferFor, requestFor, last-serve, first-single, base-selects}
-use Rattle.history.proofs.ExactClock.{acted, kept-after}
+use Rattle.history.proofs.MasterClock.{acted, kept-after}
 
 -- the grants that come after the next one of a master with a shares: o owns the slave with r grants
 unfoldable pub spareOf : ℕ → ℕ → ℕ → ℕ → ℕ
@@ -152,7 +153,7 @@ module _ (b : Board) (legal : Legal b) (s : ℕ) (hs : s < b .«slave_count») (
       granted-exactly j k g =
           let a = grant-facts b st legal safe s hs j k g in
           grant-exactly (b .«master_count») (sharesOf b legal s hs) (singleOf b legal s hs) (serveOf b legal s hs)
-          (sizes b legal s hs) (requests b st s) (beats b legal st safe s hs) length (asks-fit b legal st safe s hs)
+          (requests b st s) (beats b legal st safe s hs) length (asks-fit b legal st safe s hs)
           m owner remaining hm (safe .owner s hs) (x .tracked .asks) j k g (λ i h l. all-asks i h l .1)
           (λ p. all-uses j p (a .within) (a .asks)) (λ e. x .tracked .aside e .1) (safe .remaining s hs)
 
@@ -179,7 +180,7 @@ module _ (b : Board) (legal : Legal b) (s : ℕ) (hs : s < b .«slave_count») (
           → ((now .owner ≡ m) × (potAt b legal s hs m st ≡ 0))
           ⊎ ((now .owner ≢ m) × (potOf now ≡ potAt b legal s hs m st))
       pot-now true e =
-          let k = keeps-serving b st s e in
+          let k = grant-serving b st s e in
           inr ((λ q. off e (sym (ap (λ (y : Slot). y .owner) k) ∙ q)), ap potOf k)
       pot-now false e =
           let g = granted-now b legal st safe s hs act stay e on in
@@ -230,7 +231,7 @@ module _ (b : Board) (legal : Legal b) (s : ℕ) (hs : s < b .«slave_count») (
 
           go : (c : Bool) → slotAt st s .serving ≡ c → dueAt b s (stateAfter b st) j ≡ dueAt b s st j
           go true c =
-              let k = keeps-serving b st s c in
+              let k = grant-serving b st s c in
               ap₂ (spareOf (sharesAt b j s) j) (o ∙ ap (λ (y : Slot). y .owner) k)
               (remaining-after b legal st safe s hs act stay on ∙ ap (λ (y : Slot). y .remaining) k)
           go false c =
@@ -253,7 +254,7 @@ module _ (b : Board) (legal : Legal b) (s : ℕ) (hs : s < b .«slave_count») (
         go : Dec (now .owner ≡ j) → (transferAt (stateAfter b st) j .held ≡ false) ⊎ Has b s (stateAfter b st) j
         go (yes q) = ⊎-elim (λ h. inl h) (λ h. inr (inl h)) (acted b legal st safe s hs j on q)
         go (no q) =
-            ⊎-elim (λ h. absurd (q (ap (λ (y : Slot). y .owner) (keeps-serving b st s (h .0)) ∙ h .1)))
+            ⊎-elim (λ h. absurd (q (ap (λ (y : Slot). y .owner) (grant-serving b st s (h .0)) ∙ h .1)))
             (λ e. inr (inr (keeps-due j hj has q e))) (x .full j hj has)
 
     asks-after : now .owner ≢ m → requests b (stateAfter b st) s m ≡ true

@@ -12,14 +12,13 @@ use lib.ListN.{take, drop}
 use borrow.Author.Tests.{eq-eqb, ne-eqb, lt-ltb, le-ltb}
 use Rattle.laws.specs.Lists.{table, gather}
 use Rattle.laws.proofs.Tests.{both}
-use Rattle.laws.proofs.TableLaws.{member-each}
 use Rattle.board.specs.declared.Board.{Board}
 use Rattle.board.specs.Records.{masterAt, slaveAt, startOf}
-use Rattle.board.specs.Rules.{widths, bursts}
-use Rattle.board.proofs.Legal.{Legal}
+use Rattle.board.specs.Legal.{Legal}
+use Rattle.board.proofs.RuleLaws.{width-bound, burst-bound}
 use Rattle.board.proofs.StartLaws.{end-inside}
 use Rattle.geometry.specs.declared.Transfer.{Transfer}
-use Rattle.geometry.proofs.AccessLaws.{accesses-bytes}
+use Rattle.geometry.proofs.AccessLaws.{first-all}
 use Rattle.arbiter.specs.declared.Grant.{Grant}
 use Rattle.arbiter.specs.declared.Grant.the-variants.{Granted, Silent}
 use Rattle.moves.specs.Bytes.{Store, partOf, memoryPlace}
@@ -112,18 +111,16 @@ module _ (b : Board) (legal : Legal b) (st : State) (sound : Sound b st) where
       let t = transferAt st m in
       let h = sound .holds m (w .held) in
       let a : Accepted b m t k = rw (w .target) at (accepted b legal m t (h .1)) in
-      let burst = member-each (λ x. x ≤ 64) (masterAt b m .burst) bursts (omega arith) (legal .master m (h .0) .burst) in
-      let width = member-each (λ x. x ≤ 8) (masterAt b m .width) widths (omega arith) (legal .master m (h .0) .width) in
-      let beats : t .beats ≤ 64 = omega (arith, a .few) in
+      let burst = burst-bound (masterAt b m .burst) (legal .master m (h .0) .burst) in
+      let width = width-bound (masterAt b m .width) (legal .master m (h .0) .width) in
+      let beats : t .beats ≤ 64 = omega (arith, a .few, burst .1) in
       record {
         known = omega (arith, h .0, legal .fewMasters);
-        few = mul-le-mul beats width;
+        few = mul-le-mul beats (width .1);
         low = omega arith;
         high = omega (arith, a .low, a .end);
         inside = end-inside b k (a .within);
-        whole =
-            accesses-bytes (masterAt b m) (slaveAt b k) (legal .master m (h .0) .width)
-            (legal .slave k (a .within) .width) t;
+        whole = first-all (masterAt b m) (slaveAt b k) (legal .master m (h .0) .width) (legal .slave k (a .within) .width) t;
       }
 
   pub wants-of : (k m : ℕ) → requests b st k m ≡ true → Wants b m k (transferAt st m)

@@ -1,23 +1,19 @@
 -- The read claim of demand 3: a reset makes what is true of every slave, posts, clocks and refused calls keep it.
 -- Assumes nothing.
-use mathlib.Core.Path.{_≡_, refl, ap, _∙_, sym}
+use mathlib.Core.Path.{_≡_, refl, sym, ap, subst, _∙_}
 use mathlib.Core.Bool.{Bool, true, false, cond, not, _&&_, true≢false}
 use mathlib.Core.List.{List, [], _∷_}
-use mathlib.Core.Logic.{⊎-elim, _⊎_, _≢_}
+use mathlib.Core.Logic.{⊎-elim, _≢_}
 use Prim.Native.Nat.{ℕ, _+_, _*_, _≤_, _<_}
 use native.Mathlib.Omega.{arith}
-use lib.Dec.{eqb, leb}
+use lib.Dec.{eqb}
 use lib.ListN.{length, take, drop}
-use lib.Pow.{pow-pos}
 use lib.Seq.{take-length}
-use borrow.Author.Tests.{eq-eqb, ne-eqb, eqb-true, eqb-false, leb-false, not-false}
+use borrow.Author.Tests.{eq-eqb, ne-eqb}
 use Rattle.laws.specs.Bits.{bit}
-use Rattle.laws.proofs.BitLaws.{bit-above}
-use Rattle.laws.proofs.Tests.{passed}
 use Rattle.board.specs.declared.Board.{Board}
 use Rattle.board.specs.Records.{masterAt, startOf, memoryLength}
-use Rattle.board.specs.Items.{checkBoard}
-use Rattle.board.proofs.Legal.{Legal}
+use Rattle.board.specs.Legal.{Legal}
 use Rattle.geometry.specs.declared.Transfer.{Transfer}
 use Rattle.geometry.specs.Decoding.{targetOf}
 use Rattle.moves.specs.Moving.{all}
@@ -28,19 +24,20 @@ use Rattle.moves.proofs.StoreLaws.{length-posted, parts-apart}
 use Rattle.state.specs.declared.Slot.{Slot}
 use Rattle.state.specs.declared.State.{State}
 use Rattle.state.specs.Records.{transferAt, slotAt}
-use Rattle.state.specs.Posting.{Request, transferOf, transferRefusal}
+use Rattle.state.specs.Posting.{Request, transferOf}
 use Rattle.state.specs.Soundness.{sound}
-use Rattle.state.specs.Control.{finished, maskOf}
+use Rattle.state.specs.Control.{finished, maskOf, linesOf}
 use Rattle.state.specs.Resetting.{stateAtReset}
 use Rattle.state.specs.Posting.{stateWith}
-use Rattle.fabric.specs.Calls.{reset, wrongWords, postRefusal, post, bufferAfterPost}
-use Rattle.fabric.specs.Calls.{clockRefusal, clock, storeAfterClock, World}
+use Rattle.fabric.specs.Calls.{clock, storeAfterClock, World}
 use Rattle.state.proofs.Sound.{Sound}
 use Rattle.state.proofs.StateLaws.{transfer-reset, slot-reset, mask-bit, mask-bit-past}
 use Rattle.state.proofs.StateLaws.{transfer-with, transfer-with-other, slot-with}
-use Rattle.state.proofs.SoundLaws.{reset-sound, post-sound, clock-sound}
-use Rattle.history.specs.Claim.{Call, posts, clocks, numberOf, Handed, leaves, next, after, History, Start}
+use Rattle.state.proofs.SoundLaws.{post-sound}
+use Rattle.history.specs.Claim.{Call, next, after, History, Start}
 use Rattle.history.specs.Claim.{names, Reference, referenceAt, bytesIn, seenAll, fedPost, fed}
+use Rattle.history.proofs.Calls.{withPost, withClock, Came, refused, postTaken, clockTaken, came, clock-stored, clock-answers}
+use Rattle.history.proofs.Standing.{Standing, Taken, post-taken, words-counted, start-checked, start-state, start-stands, post-stands, clock-stands, clock-free}
 use Rattle.history.proofs.ReadsServing.{bytesHeld, endOf, Asked, served-kept}
 use Rattle.history.proofs.ReadsSlave.{Wants, Right, SameMaster, asked-kept}
 use Rattle.history.proofs.ReadsClock.{Agreed, lies, clock-right, clock-read}
@@ -68,38 +65,6 @@ reset-right b legal d l n k h =
 
 -- ---- a post that is not refused
 
--- what it has passed
-record Taken (b : Board) (st : State) (q : Request) : Type 0 where
-  pub known : q .master < b .«master_count»
-  pub idle : transferAt st (q .master) .held ≡ false
-  pub legal : transferRefusal b (q .master) (transferOf q) ≡ 0
-  pub words : length (q .words) ≡ cond (q .write) (q .beats * masterAt b (q .master) .width) 0
-
-passed-number : (n x : ℕ) → cond (not (eqb n 0)) n x ≡ 0 → (n ≡ 0) × (x ≡ 0)
-passed-number n x e = go (eqb n 0) refl
-  where
-    go : (c : Bool) → eqb n 0 ≡ c → (n ≡ 0) × (x ≡ 0)
-    go true h = (eqb-true n 0 h, rw h at e)
-    go false h = absurd (eqb-false n 0 h (rw h at e))
-
-taken : (b : Board) (st : State) (buffer : List ℕ) (q : Request) → postRefusal b st buffer q ≡ 0 → Taken b st q
-unfolding postRefusal wrongWords
-taken b st buffer q e =
-    let f = passed-number (checkBoard b) _ e .1 in
-    let g = passed (not (eqb (length buffer) bufferLength)) 7 _ f .1 in
-    let h = passed (not (sound b st)) 8 _ g .1 in
-    let i = passed (leb (b .«master_count») (q .master)) 10 _ h in
-    let j = passed (transferAt st (q .master) .held) 11 _ (i .1) in
-    let k = passed-number (transferRefusal b (q .master) (transferOf q)) _ (j .1) in
-    let l = passed (wrongWords b q) 17 _ (k .1) in
-    record {
-      known = leb-false (b .«master_count») (q .master) (i .0);
-      idle = j .0;
-      legal = k .0;
-      words =
-          eqb-true (length (q .words)) (cond (q .write) (q .beats * masterAt b (q .master) .width) 0) (not-false _ (l .0));
-    }
-
 module _
     (b : Board) (legal : Legal b) (st : State) (sound : Sound b st) (d : Store) (r : Reference) (q : Request)
     (fresh : Taken b st q)
@@ -112,10 +77,10 @@ module _
     storeThen = record { memory = d .memory; buffer = posted (q .master) (q .words) (d .buffer) }
 
     then-sound : Sound b stateThen
-    then-sound = post-sound b st (q .master) (transferOf q) legal sound (fresh .known) (fresh .idle) (fresh .legal) refl
+    then-sound = post-sound b st (q .master) (transferOf q) legal sound (fresh .master) (fresh .free) (fresh .fits) refl
 
     then-new : transferAt stateThen (q .master) ≡ transferOf q
-    then-new = transfer-with st (q .master) (transferOf q) (sound .transfers) (omega (arith, fresh .known, legal .fewMasters))
+    then-new = transfer-with st (q .master) (transferOf q) (sound .transfers) (omega (arith, fresh .master, legal .fewMasters))
 
     few : bytesHeld b (q .master) (transferOf q) ≤ 512
     few =
@@ -124,7 +89,7 @@ module _
         rw then-new at (lies b legal stateThen then-sound (q .master) (targetOf b (q .master) (q .address)) w .few)
 
     words-few : length (q .words) ≤ 512
-    words-few = go (q .write) (fresh .words)
+    words-few = go (q .write) (words-counted b q (fresh .words))
       where
         go : (c : Bool) → length (q .words) ≡ cond c (q .beats * masterAt b (q .master) .width) 0 → length (q .words) ≤ 512
         go true e = omega (arith, few)
@@ -149,11 +114,11 @@ module _
         record {
           master = rw e;
           transfer = rw e;
-          many = rw e (fresh .words);
+          many = rw e (words-counted b q (fresh .words));
           there =
               rw e
               (front-moved (q .words) 0 (partOf (q .master)) (length (q .words)) (d .buffer)
-              (omega (arith, words-few, fresh .known, legal .fewMasters)) (omega arith)
+              (omega (arith, words-few, fresh .master, legal .fewMasters)) (omega arith)
               ∙ take-length (q .words));
         }
 
@@ -164,7 +129,7 @@ module _
       -- whom the slave serves holds another transfer
       owner-other : x .serving ≡ true → x .owner ≢ q .master
       owner-other v e =
-          true≢false (sym (c .wants v .held) ∙ ap (λ (i : ℕ). transferAt st i .held) e ∙ fresh .idle)
+          true≢false (sym (c .wants v .held) ∙ ap (λ (i : ℕ). transferAt st i .held) e ∙ fresh .free)
 
       slave-right : Right b (transferAt stateThen) storeThen (fedPost q r) k x
       unfolding fedPost
@@ -215,96 +180,55 @@ module _
 
 -- ---- the calls of a history
 
-clock-number : (b : Board) (st : State) (d : Store) → eqb (clock b st d .number) 0 ≡ eqb (clockRefusal b st d) 0
-unfolding clock
-clock-number b st d = go (eqb (clockRefusal b st d) 0) refl
-  where
-    go : (c : Bool) → eqb (clockRefusal b st d) 0 ≡ c → eqb (clock b st d .number) 0 ≡ eqb (clockRefusal b st d) 0
-    go true e = rw e
-    go false e = rw e e
-
--- what is true where the world stands, and the reference with it
-pub record Good (b : Board) (w : World) (r : Reference) : Type 0 where
-  pub sound : Sound b (w .state)
+-- what stands, and the byte memory with it
+pub record Good (b : Board) (legal : Legal b) (w : World) (r : Reference) : Type 0 where
+  pub stands : Standing b legal w
   pub right : Agreed b (w .state) (w .store) r
 
-pub start-good : (b : Board) → Legal b → (w : World) → Start b w → Good b w (referenceAt (w .store .memory))
-unfolding reset
-start-good b legal w s =
-    let e : w .state ≡ stateAtReset b = s .state ∙ rw (eq-eqb (checkBoard b) 0 (s .accepted)) in
-    record {
-      sound = rw e (reset-sound b legal);
-      right = rw e (reset-right b legal (w .store) (s .memory) (s .buffer));
-    }
+pub start-good : (b : Board) (legal : Legal b) (w : World) → Start b w → Good b legal w (referenceAt (w .store .memory))
+start-good b legal w s = record {
+  stands = start-stands b legal w s;
+  right = rw (start-state b w s) (reset-right b legal (w .store) (s .memory) (s .buffer));
+}
 
-module _ (b : Board) (legal : Legal b) (w : World) (r : Reference) (g : Good b w r) where
-  -- handed what stood
-  post-good : (q : Request) → eqb (post b (w .state) (w .store .buffer) q .number) 0 ≡ true
-      → Good b (leaves w (posts b (w .state) (w .store .buffer) q)) (fedPost q r)
-  unfolding leaves post bufferAfterPost
-  post-good q e =
-      let none : eqb (postRefusal b (w .state) (w .store .buffer) q) 0 ≡ true = e in
-      let f = taken b (w .state) (w .store .buffer) q (eqb-true _ 0 e) in
-      rw none
-      (record {
-        sound = then-sound b legal (w .state) (g .sound) (w .store) r q f;
-        right = post-right b legal (w .state) (g .sound) (w .store) r q f (g .right);
-      })
+module _ (b : Board) (legal : Legal b) where
+  post-good : (w : World) (r : Reference) (q : Request) → Good b legal w r → Taken b (w .state) q
+      → Good b legal (withPost w q) (fedPost q r)
+  post-good w r q g t = record {
+    stands = post-stands b legal w q (g .stands) t;
+    right = post-right b legal (w .state) (g .stands .sound) (w .store) r q t (g .right);
+  }
 
-  clock-good : eqb (clockRefusal b (w .state) (w .store)) 0 ≡ true
-      → Good b (leaves w (clocks b (w .state) (w .store))) (seenAll b (clock b (w .state) (w .store) .lines) r)
-  unfolding leaves clock storeAfterClock
-  clock-good e =
-      rw e
-      (record {
-        sound = clock-sound b (w .state) legal (g .sound);
-        right = clock-right b legal (w .state) (g .sound) (w .store) r (g .right);
-      })
+  clock-good : (w : World) (r : Reference) → Good b legal w r → Good b legal (withClock b w) (seenAll b (linesOf b (w .state)) r)
+  clock-good w r g = record {
+    stands = clock-stands b legal w (g .stands);
+    right = clock-right b legal (w .state) (g .stands .sound) (w .store) r (g .right);
+  }
 
-  -- handed that, or refused
-  post-any : (b′ : Board) (st : State) (buffer : List ℕ) (q : Request)
-      → (numberOf (posts b′ st buffer q) ≢ 0) ⊎ Handed b w (posts b′ st buffer q)
-      → Good b (next w (posts b′ st buffer q)) (cond (eqb (post b′ st buffer q .number) 0) (fedPost q r) r)
-  unfolding next numberOf Handed
-  post-any b′ st buffer q h = go (eqb (post b′ st buffer q .number) 0) refl
-    where
-      go : (c : Bool) → eqb (post b′ st buffer q .number) 0 ≡ c
-          → Good b (next w (posts b′ st buffer q)) (cond (eqb (post b′ st buffer q .number) 0) (fedPost q r) r)
-      go false e = rw e g
-      go true e =
-          rw e
-          (⊎-elim (λ n. absurd (n (eqb-true _ 0 e)))
-          (λ x. rw (x .0, x .1, x .2) (post-good q (rw (x .0, x .1, x .2) at e))) h)
+  good-step : (c : Call) (cs : List Call) (w : World) (r : Reference) → Good b legal w r → Came b w c
+      → ((s : Reference) → Good b legal (next w c) s → Good b legal (after (next w c) cs) (fed b s cs))
+      → Good b legal (after (next w c) cs) (fed b r (c ∷ cs))
+  good-step c cs w r g (refused e f k) rest =
+      subst (Good b legal (after (next w c) cs)) (sym (k r cs))
+      (rest r (subst (λ (u : World). Good b legal u r) (sym e) g))
+  good-step c cs w r g (postTaken q t e f k) rest =
+      subst (Good b legal (after (next w c) cs)) (sym (k r cs))
+      (rest (fedPost q r)
+      (subst (λ (u : World). Good b legal u (fedPost q r)) (sym e)
+      (post-good w r q g (post-taken b (w .state) (w .store .buffer) q t))))
+  good-step c cs w r g (clockTaken t e f k) rest =
+      subst (Good b legal (after (next w c) cs)) (sym (k r cs))
+      (rest (seenAll b (linesOf b (w .state)) r)
+      (subst (λ (u : World). Good b legal u (seenAll b (linesOf b (w .state)) r)) (sym e) (clock-good w r g)))
 
-  clock-any : (b′ : Board) (st : State) (d : Store) → (numberOf (clocks b′ st d) ≢ 0) ⊎ Handed b w (clocks b′ st d)
-      → Good b (next w (clocks b′ st d)) (cond (eqb (clock b′ st d .number) 0) (seenAll b (clock b′ st d .lines) r) r)
-  unfolding next numberOf Handed
-  clock-any b′ st d h = go (eqb (clock b′ st d .number) 0) refl
-    where
-      go : (c : Bool) → eqb (clock b′ st d .number) 0 ≡ c
-          → Good b (next w (clocks b′ st d)) (cond (eqb (clock b′ st d .number) 0) (seenAll b (clock b′ st d .lines) r) r)
-      go false e = rw e g
-      go true e =
-          rw e
-          (⊎-elim (λ n. absurd (n (eqb-true _ 0 e)))
-          (λ x. rw (x .0, x .1, x .2) (clock-good (rw (x .0, x .1, x .2) at (sym (clock-number b′ st d) ∙ e)))) h)
-
-pub history-good : (b : Board) → Legal b → (calls : List Call) (w : World) (r : Reference) → Good b w r → History b w calls
-    → Good b (after w calls) (fed b r calls)
-unfolding History after fed
-history-good b legal [] w r g h = g
-history-good b legal (posts b′ st buffer q ∷ cs) w r g h =
-    history-good b legal cs (next w (posts b′ st buffer q)) (cond (eqb (post b′ st buffer q .number) 0) (fedPost q r) r)
-    (post-any b legal w r g b′ st buffer q (h .0)) (h .1)
-history-good b legal (clocks b′ st d ∷ cs) w r g h =
-    history-good b legal cs (next w (clocks b′ st d))
-    (cond (eqb (clock b′ st d .number) 0) (seenAll b (clock b′ st d .lines) r) r)
-    (clock-any b legal w r g b′ st d (h .0)) (h .1)
+  pub history-good : (cs : List Call) (w : World) (r : Reference) → Good b legal w r → History b w cs
+      → Good b legal (after w cs) (fed b r cs)
+  unfolding History after fed
+  history-good [] w r g h = g
+  history-good (c ∷ cs) w r g h =
+      good-step c cs w r g (came b w c (h .0)) (λ s x. history-good cs (next w c) s x (h .1))
 
 -- ---- the claim
-
-no-mask : (m : ℕ) → bit 0 m ≡ false
-no-mask m = bit-above m 0 m (pow-pos m) (omega arith)
 
 named : (b : Board) (st : State) (m : ℕ) → bit (maskOf b st) m ≡ true → finished b st m ≡ true
 named b st m e =
@@ -319,23 +243,11 @@ pub reads-right : (b : Board) → Legal b → (w : World) (calls : List Call) (m
     let r = seenAll b (a .lines) (fed b (referenceAt (w .store .memory)) calls) in
     names m a ≡ true → r .request m .write ≡ false
     → take (bytesIn b (r .request m)) (drop (partOf m) (storeAfterClock b (u .state) (u .store) .buffer)) ≡ r .given m
-unfolding names clock storeAfterClock
+unfolding names
 reads-right b legal w calls m s h =
-    go (eqb (clockRefusal b (after w calls .state) (after w calls .store)) 0) refl
-  where
-    u : World
-    u = after w calls
-
-    f : Reference
-    f = fed b (referenceAt (w .store .memory)) calls
-
-    good : Good b u f
-    good = history-good b legal calls w (referenceAt (w .store .memory)) (start-good b legal w s) h
-
-    go : (c : Bool) → eqb (clockRefusal b (u .state) (u .store)) 0 ≡ c
-        → let a = clock b (u .state) (u .store) in
-        let r = seenAll b (a .lines) f in
-        names m a ≡ true → r .request m .write ≡ false
-        → take (bytesIn b (r .request m)) (drop (partOf m) (storeAfterClock b (u .state) (u .store) .buffer)) ≡ r .given m
-    go true e = rw e (λ n. clock-read b legal (u .state) (good .sound) (u .store) f m (good .right) (named b (u .state) m n))
-    go false e = rw e (λ n. absurd (true≢false (sym n ∙ no-mask m)))
+    let f = fed b (referenceAt (w .store .memory)) calls in
+    let g = history-good b legal calls w (referenceAt (w .store .memory)) (start-good b legal w s) h in
+    let u = after w calls in
+    let free = clock-free b legal (start-checked b w s) u (g .stands) in
+    rw (clock-answers b u free, clock-stored b u free)
+    (λ n. clock-read b legal (u .state) (g .stands .sound) (u .store) f m (g .right) (named b (u .state) m n))

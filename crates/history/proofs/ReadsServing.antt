@@ -5,7 +5,7 @@ use mathlib.Core.Bool.{Bool, true, false, cond, true≢false}
 use mathlib.Core.List.{List}
 use mathlib.Core.Logic.{⊎-elim, inl, inr, _≢_}
 use Prim.Native.Nat.{ℕ, _+_, _-_, _*_, _≤_, _<_}
-use native.Mathlib.Nat.{zero-add, zero-mul, add-mul, one-mul, mul-le-mul-right}
+use native.Mathlib.Nat.{zero-add}
 use native.Mathlib.Omega.{arith}
 use lib.ListN.{length, getD}
 use borrow.Author.Tests.{eq-eqb}
@@ -14,6 +14,7 @@ use Rattle.board.specs.Records.{masterAt, slaveAt, startOf, memoryLength}
 use Rattle.geometry.specs.declared.Transfer.{Transfer}
 use Rattle.geometry.specs.Accesses.{accesses, accessBytes, firstByte}
 use Rattle.geometry.specs.Decoding.{targetOf}
+use Rattle.geometry.proofs.AccessLaws.{first-zero, first-next, first-le}
 use Rattle.moves.specs.Moving.{move}
 use Rattle.moves.specs.Bytes.{Store, bufferLength, partOf, enabled, memoryPlace, written, accessed}
 use Rattle.moves.proofs.MoveLaws.{length-move}
@@ -22,7 +23,7 @@ use Rattle.moves.proofs.Ranges.{front, front-at, front-same, front-moved}
 use Rattle.moves.proofs.StoreLaws.{accessed-write, carry, accessed-carries, Alike, parts-apart}
 use Rattle.moves.proofs.StoreLaws.{carry-none, carry-join, carry-memory, carry-buffer, carry-alike}
 use Rattle.state.specs.Posting.{transferOf}
-use Rattle.history.specs.Claim.{Reference, slaveOf, bytesIn, placeOf, bytesAfter, given, stepped}
+use Rattle.history.specs.Claim.{Reference, slaveFor, bytesIn, placeInMemory, bytesAfter, given, stepped}
 
 -- "beats × master width bytes"
 abbrev pub bytesHeld : Board → ℕ → Transfer → ℕ
@@ -49,7 +50,7 @@ pub record Lies (b : Board) (m k : ℕ) (t : Transfer) : Type 0 where
   pub low : startOf b k ≤ placeAt b k t
   pub high : placeAt b k t + bytesHeld b m t ≤ endOf b k
   pub inside : endOf b k ≤ memoryLength b
-  pub whole : accessesAt b k m t * accessBytes (masterAt b m) (slaveAt b k) ≡ bytesHeld b m t
+  pub whole : firstByte (masterAt b m) (slaveAt b k) (accessesAt b k m t) ≡ bytesHeld b m t
 
 -- the transfer t is what master m asked for last, and the words of that request are at the front of its part
 pub record Asked (b : Board) (d : Store) (r : Reference) (m : ℕ) (t : Transfer) : Type 0 where
@@ -79,14 +80,8 @@ pub record Done (b : Board) (d : Store) (r : Reference) (k m : ℕ) (t : Transfe
 module _ (b : Board) (k m : ℕ) (t : Transfer) (lies : Lies b m k t) where
   -- ---- one access more, and the last
 
-  first-next : (a : ℕ) → firstByte (masterAt b m) (slaveAt b k) (a + 1)
-      ≡ firstByte (masterAt b m) (slaveAt b k) a + accessBytes (masterAt b m) (slaveAt b k)
-  unfolding firstByte
-  first-next a = rw (add-mul, one-mul)
-
   first-few : (a : ℕ) → a ≤ accessesAt b k m t → firstByte (masterAt b m) (slaveAt b k) a ≤ bytesHeld b m t
-  unfolding firstByte
-  first-few a h = rw (← lies .whole) (mul-le-mul-right _ h)
+  first-few a h = rw (← lies .whole) (first-le (masterAt b m) (slaveAt b k) a _ h)
 
   access-few : (a : ℕ) → a < accessesAt b k m t
       → firstByte (masterAt b m) (slaveAt b k) a + accessBytes (masterAt b m) (slaveAt b k) ≤ bytesHeld b m t
@@ -101,21 +96,21 @@ module _ (b : Board) (k m : ℕ) (t : Transfer) (lies : Lies b m k t) where
       let n = bytesHeld b m t in
       let l = access-few a h in
       let e : g + (n - (f + g)) ≡ n - f = omega arith in
-      rw (accessed-carries, first-next a)
+      rw (accessed-carries, first-next (masterAt b m) (slaveAt b k) a)
       (carry-join (t .write) (enabled (masterAt b m) t) (partOf m) (placeAt b k t) f g (n - (f + g)) d ∙ rw e)
 
   rest-none : (a : ℕ) (d : Store) → a ≡ accessesAt b k m t → rest b k m t a d ≡ d
-  unfolding rest firstByte
+  unfolding rest
   rest-none a d e =
       let z : bytesHeld b m t - bytesHeld b m t ≡ 0 = omega arith in
       rw (e, lies .whole, z) (carry-none (t .write) (enabled (masterAt b m) t) (partOf m) (placeAt b k t) (bytesHeld b m t) d)
 
   rest-whole : (d : Store)
       → rest b k m t 0 d ≡ carry (t .write) (enabled (masterAt b m) t) (partOf m) (placeAt b k t) 0 (bytesHeld b m t) d
-  unfolding rest firstByte
+  unfolding rest
   rest-whole d =
       let z : bytesHeld b m t - 0 ≡ bytesHeld b m t = omega arith in
-      rw (zero-mul, z)
+      rw (first-zero, z)
 
   pub served-next : (a : ℕ) (d : Store) (r : Reference) → a < accessesAt b k m t → Served b d r k m t a
       → Served b (accessAt b k m t a d) r k m t (a + 1)
@@ -241,10 +236,10 @@ module _ (b : Board) (k m : ℕ) (t : Transfer) (lies : Lies b m k t) where
     unfolding bytesIn
     bytes-in = λ i. asked .transfer i .beats * masterAt b (asked .master i) .width
 
-    place-of : placeOf b (r .request m) ≡ placeAt b k t
-    unfolding placeOf slaveOf
+    place-of : placeInMemory b (r .request m) ≡ placeAt b k t
+    unfolding placeInMemory slaveFor
     place-of =
-        let e : placeOf b (r .request m) ≡ placeAt b (targetOf b m (t .address)) t =
+        let e : placeInMemory b (r .request m) ≡ placeAt b (targetOf b m (t .address)) t =
         λ i. placeAt b (targetOf b (asked .master i) (asked .transfer i .address)) (asked .transfer i) in
         e ∙ rw target
 

@@ -2,9 +2,9 @@
 -- Assumes nothing.
 use mathlib.Core.Path.{_≡_, refl, sym, ap, subst, subst₃, _∙_}
 use mathlib.Core.Bool.{Bool, true, false, true≢false}
-use mathlib.Core.List.{List, [], _∷_}
-use mathlib.Core.Logic.{_⊎_, inl, inr, ⊎-elim, _≢_}
-use Prim.Native.Nat.{ℕ, zero, suc, _+_, _-_, _*_, _≤_, _<_}
+use mathlib.Core.List.{List}
+use mathlib.Core.Logic.{_⊎_, _≢_}
+use Prim.Native.Nat.{ℕ, _+_, _*_, _≤_}
 use native.Mathlib.Nat.{mul-le-mul}
 use native.Mathlib.Numerals.{add-one}
 use native.Mathlib.Omega.{arith}
@@ -12,7 +12,7 @@ use lib.ListN.{length, take}
 use Rattle.board.specs.declared.Board.{Board}
 use Rattle.board.specs.Records.{masterAt, slaveAt}
 use Rattle.board.specs.Items.{checkBoard}
-use Rattle.board.proofs.Legal.{Legal}
+use Rattle.board.specs.Legal.{Legal}
 use Rattle.geometry.specs.declared.Transfer.{Transfer}
 use Rattle.geometry.specs.Accesses.{waitOf, ownLength}
 use Rattle.geometry.specs.Decoding.{selects, targetOf}
@@ -21,18 +21,18 @@ use Rattle.state.specs.declared.State.{State}
 use Rattle.state.specs.Records.{transferAt, slotAt}
 use Rattle.state.specs.Posting.{Request, transferOf}
 use Rattle.state.specs.Posting.{stateWith}
-use Rattle.fabric.specs.Calls.{World, reset, postRefusal, post, clock}
+use Rattle.fabric.specs.Calls.{World, postRefusal, post, clock}
 use Rattle.state.proofs.CycleLaws.{left-resting}
 use Rattle.state.proofs.StateLaws.{transfer-with, slot-with}
 use Rattle.state.proofs.DecodeLaws.{Accepted, accepted, requests-held, requests-of}
 use Rattle.quote.specs.Waits as quote
 use Rattle.bounds.proofs.Potential.{pot, pot-quoted}
 use Rattle.history.specs.Claim as claim
-use Rattle.history.specs.Claim.{Call, posts, Start, History, after, answers, shows, names, any, slaveOf, waitFor, lengthOf, leaves}
-use Rattle.history.proofs.Pairs.{sharesOf, singleOf, serveOf, sizes, wait-quoted}
+use Rattle.history.specs.Claim.{Call, Start, History, after, answers, shows, names, any, slaveFor, waitFor, lengthOf}
+use Rattle.history.proofs.Pairs.{sharesOf, singleOf, serveOf, wait-quoted}
 use Rattle.history.proofs.SlaveClock.{leftAt, InTurn}
 use Rattle.history.proofs.Calls.{withPost, post-leaves, clock-number}
-use Rattle.history.proofs.Standing.{Standing, Taken, post-taken, post-stands, left-with, start-stands, history-stands, clock-free, post-free}
+use Rattle.history.proofs.Standing.{Standing, Taken, post-taken, post-stands, left-with, start-stands, history-stands, clock-free, post-free, start-checked}
 use Rattle.history.proofs.Bounds.{Waiting, first-within, finish-within}
 
 module _ (b : Board) (legal : Legal b) where
@@ -70,17 +70,17 @@ module _ (b : Board) (legal : Legal b) where
 
     bound : (slotAt st s .owner ≡ m → slotAt st s .remaining ≡ 0)
         → pot (b .«master_count») (sharesOf b legal s (fits .within)) (singleOf b legal s (fits .within))
-        (serveOf b legal s (fits .within)) (sizes b legal s (fits .within)) m (slotAt st s .owner) (slotAt st s .remaining)
-        (leftAt b st s) ≤ quote.waitOf b m s
+        (serveOf b legal s (fits .within)) m (slotAt st s .owner) (slotAt st s .remaining)
+        (leftAt b st s) ≤ quote.quotedWait b m s
     unfolding InTurn
     bound a =
         let p : InTurn b legal s (fits .within) (slotAt st s .owner) (slotAt st s .remaining) (leftAt b st s) = x .paced s (fits .within) in
         rw (wait-quoted b legal s (fits .within) m)
         (pot-quoted (b .«master_count») (sharesOf b legal s (fits .within)) (singleOf b legal s (fits .within))
-        (serveOf b legal s (fits .within)) (sizes b legal s (fits .within)) m (slotAt st s .owner) (slotAt st s .remaining)
+        (serveOf b legal s (fits .within)) m (slotAt st s .owner) (slotAt st s .remaining)
         (leftAt b st s) (taken .master) (x .sound .owner s (fits .within)) p (λ o. (a o, none-left o)))
 
-    pub posted-waits : Waiting b legal m (taken .master) s (fits .within) (transferOf q) (quote.waitOf b m s) (stateWith st m (transferOf q))
+    pub posted-waits : Waiting b legal m (taken .master) s (fits .within) (transferOf q) (quote.quotedWait b m s) (stateWith st m (transferOf q))
     posted-waits = record {
       holds = holds;
       asks =
@@ -91,7 +91,7 @@ module _ (b : Board) (legal : Legal b) where
           subst₃
           (λ (o r l : ℕ).
           pot (b .«master_count») (sharesOf b legal s (fits .within)) (singleOf b legal s (fits .within))
-          (serveOf b legal s (fits .within)) (sizes b legal s (fits .within)) m o r l ≤ quote.waitOf b m s)
+          (serveOf b legal s (fits .within)) m o r l ≤ quote.quotedWait b m s)
           (sym owner) (sym remaining) (sym (left-with b legal st (x .sound) m (transferOf q) (taken .free) s (fits .within)))
           (bound (λ o. sym remaining ∙ a (owner ∙ o)));
     }
@@ -117,8 +117,7 @@ module _ (b : Board) (legal : Legal b) where
     stands = history-stands b legal before w (start-stands b legal w start) history
 
     checked : checkBoard b ≡ 0
-    unfolding reset
-    checked = start .accepted
+    checked = start-checked b w start
 
     module _ (q : Request) (ok : claim.Accepted b (after w before) q) where
       refusal : postRefusal b (after w before .state) (after w before .store .buffer) q ≡ 0
@@ -128,29 +127,29 @@ module _ (b : Board) (legal : Legal b) where
       taken : Taken b (after w before .state) q
       taken = post-taken b (after w before .state) (after w before .store .buffer) q refusal
 
-      posted-is : claim.posted b (after w before) q ≡ withPost (after w before) q
-      unfolding claim.posted
+      posted-is : claim.afterPosting b (after w before) q ≡ withPost (after w before) q
+      unfolding claim.afterPosting
       posted-is = post-leaves b (after w before) q refusal
 
-      module _ (calls : List Call) (later : History b (claim.posted b (after w before) q) calls) where
+      module _ (calls : List Call) (later : History b (claim.afterPosting b (after w before) q) calls) where
         later′ : History b (withPost (after w before) q) calls
         later′ = subst (λ (u : World). History b u calls) posted-is later
 
         pub within : waitFor b q + 1 ≤ length (answers calls) → any (shows (q .master)) (take (waitFor b q + 1) (answers calls)) ≡ true
-        unfolding waitFor slaveOf
+        unfolding waitFor slaveFor
         within l =
-            let e = add-one (quote.waitOf b (q .master) (slaveOf b q)) in
+            let e = add-one (quote.quotedWait b (q .master) (slaveFor b q)) in
             ap (λ (n : ℕ). any (shows (q .master)) (take n (answers calls))) e
-            ∙ first-within b legal (q .master) (taken .master) (slaveOf b q) (fits (after w before) stands q taken .within) (transferOf q)
-            calls (withPost (after w before) q) (quote.waitOf b (q .master) (slaveOf b q))
+            ∙ first-within b legal (q .master) (taken .master) (slaveFor b q) (fits (after w before) stands q taken .within) (transferOf q)
+            calls (withPost (after w before) q) (quote.quotedWait b (q .master) (slaveFor b q))
             (post-stands b legal (after w before) q stands taken) (posted-waits (after w before) stands q taken) later′ (omega arith)
 
         pub finished : waitFor b q + lengthOf b q ≤ length (answers calls)
             → any (names (q .master)) (take (waitFor b q + lengthOf b q) (answers calls)) ≡ true
-        unfolding waitFor lengthOf slaveOf
+        unfolding waitFor lengthOf slaveFor
         finished l =
-            finish-within b legal (q .master) (taken .master) (slaveOf b q) (fits (after w before) stands q taken .within) (transferOf q)
-            calls (withPost (after w before) q) (quote.waitOf b (q .master) (slaveOf b q)) (lasts (after w before) stands q taken)
+            finish-within b legal (q .master) (taken .master) (slaveFor b q) (fits (after w before) stands q taken .within) (transferOf q)
+            calls (withPost (after w before) q) (quote.quotedWait b (q .master) (slaveFor b q)) (lasts (after w before) stands q taken)
             (post-stands b legal (after w before) q stands taken) (posted-waits (after w before) stands q taken) later′ l
 
     pub served : (q : Request)

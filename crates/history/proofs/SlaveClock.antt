@@ -1,15 +1,14 @@
 -- One clock of one slave of a sound state: what it serves stays within its owner's turn, and a waiting master comes nearer.
 -- Assumes nothing.
 use mathlib.Core.Path.{_≡_, refl, sym, ap, subst, subst₃, _∙_}
-use mathlib.Core.Bool.{Bool, true, false, cond, not, true≢false, false≢true}
+use mathlib.Core.Bool.{Bool, true, false, true≢false, false≢true}
 use mathlib.Core.Logic.{_⊎_, inl, inr, ⊎-elim, _≢_}
-use Prim.Native.Nat.{ℕ, zero, suc, _+_, _-_, _*_, _≤_, _<_}
+use Prim.Native.Nat.{ℕ, suc, _+_, _-_, _*_, _≤_, _<_}
 use native.Mathlib.Decide.{ℕ-discrete}
 use native.Mathlib.Omega.{arith}
-use borrow.Author.Tests.{not-true, not-false}
 use Rattle.board.specs.declared.Board.{Board}
-use Rattle.board.specs.Records.{masterAt, slaveAt, sharesAt}
-use Rattle.board.proofs.Legal.{Legal}
+use Rattle.board.specs.Records.{masterAt, slaveAt}
+use Rattle.board.specs.Legal.{Legal}
 use Rattle.board.proofs.RuleLaws.{width-bound}
 use Rattle.geometry.specs.declared.Transfer.{Transfer}
 use Rattle.geometry.specs.Accesses.{accesses, waitOf, ownLength}
@@ -20,41 +19,28 @@ use Rattle.state.specs.declared.State.{State}
 use Rattle.state.specs.declared.Step.{Step}
 use Rattle.state.specs.Records.{transferAt, slotAt}
 use Rattle.state.specs.Soundness.{requests}
-use Rattle.state.specs.Control.{grantAt, slotGranted, slotAfterGrant, served, stepOf, stateAfter, finished, transferAfter}
-use Rattle.state.proofs.Sound.{Sound, Serves}
-use Rattle.state.proofs.CycleLaws.{leftOf, left-resting, left-serving, left-whole, Cycle, cycle}
-use Rattle.state.proofs.StateLaws.{slot-after, transfer-after, transfer-kept}
+use Rattle.state.specs.Control.{grantAt, slotGranted, slotAfterGrant, served, stepOf, stateAfter}
+use Rattle.state.proofs.Sound.{Sound}
+use Rattle.state.proofs.CycleLaws.{leftOf, left-resting, left-whole, Cycle, cycle}
+use Rattle.state.proofs.StepLaws.{grant-serving, grant-given, step-rests}
+use Rattle.state.proofs.StateLaws.{slot-after}
 use Rattle.state.proofs.DecodeLaws.{Accepted, accepted-at, requests-held, requests-selects}
 use Rattle.bounds.proofs.Order.{between}
 use Rattle.bounds.proofs.Credit.{credit, credit-zero}
-use Rattle.bounds.proofs.Potential.{pot, pot-quoted, quoted, some-grant, grant-asks, grant-turn, grant-falls, grant-next}
-use Rattle.history.proofs.Pairs.{sharesOf, singleOf, serveOf, sizes, beats-most, long-serve, long-single}
+use Rattle.bounds.proofs.Potential.{pot, some-grant, grant-turn, grant-falls, grant-next}
+use Rattle.history.proofs.Pairs.{sharesOf, singleOf, serveOf, beats-most, long-serve, long-single}
 
 -- the clocks left of what slave s serves
 abbrev pub leftAt : Board → State → ℕ → ℕ
 leftAt b st s =
     let slot = slotAt st s in leftOf (masterAt b (slot .owner)) (slaveAt b s) (transferAt st (slot .owner)) slot
 
--- the slot after rule 1 is the slot itself where it serves
-pub keeps-serving : (b : Board) (st : State) (s : ℕ) → slotAt st s .serving ≡ true → slotAfterGrant b st s ≡ slotAt st s
-unfolding slotAfterGrant
-keeps-serving b st s e = rw e
-
-pub takes-grant : (b : Board) (st : State) (s : ℕ) → slotAt st s .serving ≡ false
-    → slotAfterGrant b st s ≡ slotGranted (slotAt st s) (grantAt b st s)
-unfolding slotAfterGrant
-takes-grant b st s e = rw e
-
+-- a slave that serves after rule 1 goes by rules 2 and 3
 pub step-serving : (b : Board) (st : State) (s : ℕ) → slotAfterGrant b st s .serving ≡ true
     → let slot = slotAfterGrant b st s in
     stepOf b st s ≡ served (masterAt b (slot .owner)) (slaveAt b s) (transferAt st (slot .owner)) slot
 unfolding stepOf
 step-serving b st s e = rw e
-
-pub step-resting : (b : Board) (st : State) (s : ℕ) → slotAfterGrant b st s .serving ≡ false
-    → stepOf b st s .slot ≡ slotAfterGrant b st s
-unfolding stepOf
-step-resting b st s e = rw e
 
 -- what is left of a transfer, with what the remaining grants may last, is within the owner's turn
 unfoldable pub InTurn : (b : Board) (legal : Legal b) (s : ℕ) → s < b .«slave_count» → ℕ → ℕ → ℕ → Type 0
@@ -69,7 +55,7 @@ Paced b legal s hs st = InTurn b legal s hs (slotAt st s .owner) (slotAt st s .r
 -- what master m may have to wait for at slave s
 abbrev pub potAt : (b : Board) (legal : Legal b) (s : ℕ) → s < b .«slave_count» → ℕ → State → ℕ
 potAt b legal s hs m st =
-    pot (b .«master_count») (sharesOf b legal s hs) (singleOf b legal s hs) (serveOf b legal s hs) (sizes b legal s hs) m
+    pot (b .«master_count») (sharesOf b legal s hs) (singleOf b legal s hs) (serveOf b legal s hs) m
     (slotAt st s .owner) (slotAt st s .remaining) (leftAt b st s)
 
 module _ (b : Board) (legal : Legal b) (st : State) (sound : Sound b st) (s : ℕ) (hs : s < b .«slave_count») where
@@ -172,7 +158,7 @@ module _ (b : Board) (legal : Legal b) (st : State) (sound : Sound b st) (s : �
     resting e = go (slotAt st s .serving) refl
       where
         go : (c : Bool) → slotAt st s .serving ≡ c → slotAt st s .serving ≡ false
-        go true q = absurd (true≢false (sym q ∙ sym (ap (λ (x : Slot). x .serving) (keeps-serving b st s q)) ∙ e))
+        go true q = absurd (true≢false (sym q ∙ sym (ap (λ (x : Slot). x .serving) (grant-serving b st s q)) ∙ e))
         go false q = q
 
     granted-serving : (slot : Slot) (j k : ℕ) → slotGranted slot (Granted j k) .serving ≡ true
@@ -184,20 +170,20 @@ module _ (b : Board) (legal : Legal b) (st : State) (sound : Sound b st) (s : �
     silent-slot slot = refl
 
     no-remaining : now .serving ≡ false → now .remaining ≡ 0
-    no-remaining e = ap (λ (x : Slot). x .remaining) (takes-grant b st s (resting e)) ∙ go (grantAt b st s) refl
+    no-remaining e = ap (λ (x : Slot). x .remaining) (grant-given b st s (resting e)) ∙ go (grantAt b st s) refl
       where
         go : (g : Grant) → grantAt b st s ≡ g → slotGranted (slotAt st s) g .remaining ≡ 0
         go (Granted j k) q =
             absurd
             (true≢false
             (sym (granted-serving (slotAt st s) j k)
-            ∙ sym (ap (λ (x : Slot). x .serving) (takes-grant b st s (resting e) ∙ ap (slotGranted (slotAt st s)) q))
+            ∙ sym (ap (λ (x : Slot). x .serving) (grant-given b st s (resting e) ∙ ap (slotGranted (slotAt st s)) q))
             ∙ e))
         go Silent q = silent-slot (slotAt st s)
 
     pub rests-after : now .serving ≡ false → (slotAt (stateAfter b st) s .remaining ≡ 0) × (leftAt b (stateAfter b st) s ≡ 0)
     rests-after e =
-        let x : slotAt (stateAfter b st) s ≡ now = after-slot ∙ step-resting b st s e in (
+        let x : slotAt (stateAfter b st) s ≡ now = after-slot ∙ ap (λ (y : Step). y .slot) (step-rests b st s e) in (
           ap (λ (y : Slot). y .remaining) x ∙ no-remaining e,
           left-resting _ (slaveAt b s) _ (slotAt (stateAfter b st) s) (ap (λ (y : Slot). y .serving) x ∙ e),
         )
@@ -214,11 +200,11 @@ module _ (b : Board) (legal : Legal b) (st : State) (sound : Sound b st) (s : �
         go : (g : Grant) → grantAt b st s ≡ g
             → (j : ℕ) × (k : ℕ) × (grantAt b st s ≡ Granted j k)
             × (now ≡ record { owner = j; remaining = k; serving = true; done = 0; waited = 0 })
-        go (Granted j k) q = (j, k, q, takes-grant b st s off ∙ ap (slotGranted (slotAt st s)) q)
+        go (Granted j k) q = (j, k, q, grant-given b st s off ∙ ap (slotGranted (slotAt st s)) q)
         go Silent q =
             absurd
             (true≢false
-            (sym on ∙ ap (λ (x : Slot). x .serving) (takes-grant b st s off ∙ ap (slotGranted (slotAt st s)) q)))
+            (sym on ∙ ap (λ (x : Slot). x .serving) (grant-given b st s off ∙ ap (slotGranted (slotAt st s)) q)))
 
     -- at a grant all of the transfer is left
     pub left-granted : (j k : ℕ) → now ≡ record { owner = j; remaining = k; serving = true; done = 0; waited = 0 } → leftNow ≡ long j
@@ -239,7 +225,7 @@ module _ (b : Board) (legal : Legal b) (st : State) (sound : Sound b st) (s : �
             (λ (x : Slot).
             InTurn b legal s hs (x .owner) (x .remaining)
             (leftOf (masterAt b (x .owner)) (slaveAt b s) (transferAt st (x .owner)) x))
-            (sym (keeps-serving b st s e)) p
+            (sym (grant-serving b st s e)) p
         go false e =
             let g = granted-now e on in
             let o : now .owner ≡ g .0 = ap (λ (x : Slot). x .owner) (g .3) in
@@ -253,7 +239,7 @@ module _ (b : Board) (legal : Legal b) (st : State) (sound : Sound b st) (s : �
               arith,
               left-whole (masterAt b (g .0)) (slaveAt b s) (transferAt st (g .0))
                   (record { owner = g .0; remaining = g .1; serving = true; done = 0; waited = 0 }) refl refl refl,
-              grant-turn masters shares single serve (sizes b legal s hs) (requests b st s) beats long asks-fit (g .0) owner remaining
+              grant-turn masters shares single serve (requests b st s) beats long asks-fit (g .0) owner remaining
                   (subst (λ (i : ℕ). i < masters) o (a .low)) owner-low (ap (requests b st s) (sym o) ∙ a .asks) (g .0) (g .1) (g .2)
                   (sound .remaining s hs),
             ))
@@ -298,7 +284,7 @@ module _ (b : Board) (legal : Legal b) (st : State) (sound : Sound b st) (s : �
           falls on h = (
             omega (arith, h),
             subst₃
-                (λ (o r l : ℕ). pot masters shares single serve (sizes b legal s hs) m o r l ≤ K - 1)
+                (λ (o r l : ℕ). pot masters shares single serve m o r l ≤ K - 1)
                 (sym (owner-after on)) (sym (remaining-after on)) (sym (left-after on)) (omega (arith, h)),
           )
 
@@ -306,7 +292,7 @@ module _ (b : Board) (legal : Legal b) (st : State) (sound : Sound b st) (s : �
               → ((now .serving ≡ true) × (now .owner ≡ m))
               ⊎ ((now .serving ≡ true) × (now .owner ≢ m) × (1 ≤ K) × (potAt b legal s hs m (stateAfter b st) ≤ K - 1))
           go true e =
-              let x = keeps-serving b st s e in
+              let x = grant-serving b st s e in
               let on : now .serving ≡ true = ap (λ (y : Slot). y .serving) x ∙ e in
               let d : now .owner ≢ m = λ q. off e (sym (ap (λ (y : Slot). y .owner) x) ∙ q) in
               let p = bound (λ q. absurd (off e q)) in
@@ -333,10 +319,10 @@ module _ (b : Board) (legal : Legal b) (st : State) (sound : Sound b st) (s : �
                   ⊎ ((now .serving ≡ true) × (now .owner ≢ m) × (1 ≤ K) × (potAt b legal s hs m (stateAfter b st) ≤ K - 1))
               grants Silent q =
                   absurd
-                  (some-grant masters shares single serve (sizes b legal s hs) (requests b st s) beats long asks-fit m owner remaining
+                  (some-grant masters shares single serve (requests b st s) beats long asks-fit m owner remaining
                   hm owner-low waiting q)
               grants (Granted j k) q =
-                  let x = takes-grant b st s e ∙ ap (slotGranted (slotAt st s)) q in
+                  let x = grant-given b st s e ∙ ap (slotGranted (slotAt st s)) q in
                   let on : now .serving ≡ true = ap (λ (y : Slot). y .serving) x ∙ granted-serving (slotAt st s) j k in
                   choose (granted-now e on) (ℕ-discrete (now .owner) m) on
                 where
@@ -351,7 +337,7 @@ module _ (b : Board) (legal : Legal b) (st : State) (sound : Sound b st) (s : �
                       let r : now .remaining ≡ g .1 = ap (λ (y : Slot). y .remaining) (g .3) in
                       let d′ : g .0 ≢ m = λ z. d (i ∙ z) in
                       let h =
-                      grant-falls masters shares single serve (sizes b legal s hs) (requests b st s) beats long asks-fit m owner
+                      grant-falls masters shares single serve (requests b st s) beats long asks-fit m owner
                       remaining hm owner-low waiting (g .0) (g .1) (g .2) d′ (put-aside (g .0) (g .1) (g .2) d′) in
                       let p = bound (put-aside (g .0) (g .1) (g .2) d′) in
                       let z = left-resting (masterAt b owner) (slaveAt b s) (transferAt st owner) (slotAt st s) e in

@@ -1,73 +1,73 @@
 -- What stands after every call of a history: a sound state, each slave within its owner's turn, memory and buffer of their lengths.
 -- Assumes nothing.
 use mathlib.Core.Path.{_≡_, refl, sym, ap, subst, subst₃, _∙_}
-use mathlib.Core.Bool.{Bool, true, false, cond, not, _||_, true≢false, false≢true}
+use mathlib.Core.Bool.{Bool, true, false, cond, not, true≢false, false≢true}
 use mathlib.Core.List.{List, [], _∷_}
-use mathlib.Core.Logic.{_⊎_, inl, inr, ⊎-elim, _≢_}
-use Prim.Native.Nat.{ℕ, zero, suc, _+_, _-_, _*_, _≤_, _<_}
+use mathlib.Core.Logic.{_⊎_, inl, inr}
+use Prim.Native.Nat.{ℕ, zero, suc, _*_, _≤_, _<_}
 use native.Mathlib.Omega.{arith}
 use lib.Dec.{eqb, leb}
 use lib.ListN.{length}
 use borrow.Author.Tests.{eq-eqb, eqb-true, leb-false, not-false}
-use Rattle.laws.proofs.Tests.{neither, passed}
+use Rattle.laws.proofs.Tests.{passed}
 use Rattle.board.specs.declared.Board.{Board}
 use Rattle.board.specs.Records.{masterAt, slaveAt, memoryLength, startOf}
 use Rattle.board.specs.Items.{checkBoard}
-use Rattle.board.proofs.Legal.{Legal}
+use Rattle.board.specs.Legal.{Legal}
 use Rattle.geometry.specs.declared.Transfer.{Transfer}
-use Rattle.moves.specs.Bytes.{Store, bufferLength, posted, accessed, written, fetched}
-use Rattle.moves.proofs.MoveLaws.{length-move}
+use Rattle.moves.specs.Bytes.{Store, bufferLength, accessed}
+use Rattle.moves.proofs.StoreLaws.{length-posted, length-memory, length-buffer}
 use Rattle.state.specs.declared.Slot.{Slot}
 use Rattle.state.specs.declared.State.{State}
 use Rattle.state.specs.declared.Step.{Step}
-use Rattle.state.specs.Records.{noSlot, transferAt, slotAt}
+use Rattle.state.specs.Records.{transferAt, slotAt}
 use Rattle.geometry.specs.Decoding.{targetOf}
 use Rattle.state.specs.Posting.{Request, transferOf, wrongBeats, unaligned, wrongLanes, unmapped, passesEnd, transferRefusal}
-use Rattle.state.specs.Soundness.{requests, sound}
+use Rattle.state.specs.Soundness.{sound}
 use Rattle.state.specs.Control.{slotAfterGrant, stepOf, stateAfter}
 use Rattle.state.specs.Carrying.{carriesOut, carried, carriedBy, storeAfter}
 use Rattle.state.specs.Resetting.{stateAtReset}
 use Rattle.state.specs.Posting.{stateWith}
-use Rattle.fabric.specs.Calls.{World, reset, postRefusal, post, clockRefusal, wrongWords}
+use Rattle.fabric.specs.Calls.{World, reset, postRefusal, clockRefusal, wrongWords}
+use Rattle.fabric.proofs.ClockLaws.{not-refused}
 use Rattle.state.proofs.Sound.{Sound}
 use Rattle.state.proofs.CycleLaws.{leftOf, left-resting, cycle}
 use Rattle.state.proofs.StateLaws.{slot-with, transfer-with-other, slot-reset}
 use Rattle.state.proofs.DecodeLaws.{requests-held}
 use Rattle.state.proofs.SoundLaws.{sound-test, reset-sound, post-sound, clock-sound, grant-sound, served-kept}
-use Rattle.bounds.proofs.Credit.{credit, credit-zero}
+use Rattle.bounds.proofs.Credit.{credit-zero}
 use Rattle.history.specs.Claim.{Call, Start, History, next, after}
-use Rattle.history.proofs.Pairs.{sharesOf, singleOf, serveOf}
+use Rattle.history.proofs.Pairs.{singleOf, serveOf}
 use Rattle.history.proofs.SlaveClock.{leftAt, InTurn, Paced, Acting, step-serving, pace-after}
 use Rattle.history.proofs.Calls.{withPost, withClock, Came, refused, postTaken, clockTaken, came}
 
 -- ---- lengths
 
-accessed-length : (b : Board) (st : State) (s : ℕ) (d : Store)
+carried-one : (b : Board) (st : State) (s : ℕ) (d : Store)
     → (length (carried b st s d .memory) ≡ length (d .memory)) × (length (carried b st s d .buffer) ≡ length (d .buffer))
-unfolding carried accessed written fetched
-accessed-length b st s d = go (carriesOut b st s (slotAfterGrant b st s)) (transferAt st (slotAfterGrant b st s .owner) .write)
+unfolding carried
+carried-one b st s d = go (carriesOut b st s (slotAfterGrant b st s))
   where
     slot : Slot
     slot = slotAfterGrant b st s
 
-    go : (c e : Bool)
-        → let x =
+    -- the access of this clock, or none
+    then : Bool → Store
+    then c =
         cond c
-        (cond e
-        (written (masterAt b (slot .owner)) (slaveAt b s) (transferAt st (slot .owner)) (slot .owner) (startOf b s) (slot .done) d)
-        (fetched (masterAt b (slot .owner)) (slaveAt b s) (transferAt st (slot .owner)) (slot .owner) (startOf b s) (slot .done) d))
-        d in
-        (length (x .memory) ≡ length (d .memory)) × (length (x .buffer) ≡ length (d .buffer))
-    go true true = (length-move _ _ _ _ _ _ (d .memory), refl)
-    go true false = (refl, length-move _ _ _ _ _ _ (d .buffer))
-    go false e = (refl, refl)
+        (accessed (masterAt b (slot .owner)) (slaveAt b s) (transferAt st (slot .owner)) (slot .owner) (startOf b s) (slot .done) d)
+        d
+
+    go : (c : Bool) → (length (then c .memory) ≡ length (d .memory)) × (length (then c .buffer) ≡ length (d .buffer))
+    go true = (length-memory _ _ _ _ _ _ d, length-buffer _ _ _ _ _ _ d)
+    go false = (refl, refl)
 
 carried-length : (b : Board) (st : State) (n : ℕ) (d : Store)
     → (length (carriedBy b st n d .memory) ≡ length (d .memory)) × (length (carriedBy b st n d .buffer) ≡ length (d .buffer))
 unfolding carriedBy
 carried-length b st zero d = (refl, refl)
 carried-length b st (suc n) d =
-    let x = accessed-length b st n (carriedBy b st n d) in
+    let x = carried-one b st n (carriedBy b st n d) in
     let y = carried-length b st n d in
     (x .0 ∙ y .0, x .1 ∙ y .1)
 
@@ -86,8 +86,8 @@ pub record Taken (b : Board) (st : State) (q : Request) : Type 0 where
   pub fits : transferRefusal b (q .master) (transferOf q) ≡ 0
   pub words : wrongWords b q ≡ false
 
-own-number : (t : Bool) (n x : ℕ) → cond (not (eqb n 0)) n x ≡ 0 → (n ≡ 0) × (x ≡ 0)
-own-number t n x e = go (eqb n 0) refl e
+passed-number : (n x : ℕ) → cond (not (eqb n 0)) n x ≡ 0 → (n ≡ 0) × (x ≡ 0)
+passed-number n x e = go (eqb n 0) refl e
   where
     go : (c : Bool) → eqb n 0 ≡ c → cond (not c) n x ≡ 0 → (n ≡ 0) × (x ≡ 0)
     go true q f = (eqb-true n 0 q, f)
@@ -96,14 +96,30 @@ own-number t n x e = go (eqb n 0) refl e
 pub post-taken : (b : Board) (st : State) (buffer : List ℕ) (q : Request) → postRefusal b st buffer q ≡ 0 → Taken b st q
 unfolding postRefusal
 post-taken b st buffer q e =
-    let p = own-number true (checkBoard b) _ e in
+    let p = passed-number (checkBoard b) _ e in
     let r = passed (not (eqb (length buffer) bufferLength)) 7 _ (p .1) in
     let u = passed (not (sound b st)) 8 _ (r .1) in
     let v = passed (leb (b .«master_count») (q .master)) 10 _ (u .1) in
     let x = passed (transferAt st (q .master) .held) 11 _ (v .1) in
-    let y = own-number true (transferRefusal b (q .master) (transferOf q)) _ (x .1) in
+    let y = passed-number (transferRefusal b (q .master) (transferOf q)) _ (x .1) in
     let z = passed (wrongWords b q) 17 0 (y .1) in
     record { master = leb-false _ _ (v .0); free = x .0; fits = y .0; words = z .0 }
+
+-- its words are as many as its beats ask
+pub words-counted : (b : Board) (q : Request) → wrongWords b q ≡ false
+    → length (q .words) ≡ cond (q .write) (q .beats * masterAt b (q .master) .width) 0
+unfolding wrongWords
+words-counted b q e =
+    eqb-true (length (q .words)) (cond (q .write) (q .beats * masterAt b (q .master) .width) 0) (not-false _ e)
+
+-- a history starts on a checked board, with the state at reset
+pub start-checked : (b : Board) (w : World) → Start b w → checkBoard b ≡ 0
+unfolding reset
+start-checked b w x = x .accepted
+
+pub start-state : (b : Board) (w : World) → Start b w → w .state ≡ stateAtReset b
+unfolding reset
+start-state b w x = x .state ∙ rw (eq-eqb (checkBoard b) 0 (start-checked b w x))
 
 -- taken, or refused with 11 or more
 abbrev Late : ℕ → Type 0
@@ -143,7 +159,6 @@ module _ (b : Board) (legal : Legal b) where
           ∙ sym (left-resting (masterAt b (slotAt st s .owner)) (slaveAt b s) _ (slotAt st s) e)
 
   pub post-stands : (w : World) (q : Request) → Standing b legal w → Taken b (w .state) q → Standing b legal (withPost w q)
-  unfolding posted
   post-stands w q x t = record {
     sound = post-sound b (w .state) (q .master) (transferOf q) legal (x .sound) (t .master) (t .free) (t .fits) refl;
     paced = λ s hs.
@@ -151,7 +166,7 @@ module _ (b : Board) (legal : Legal b) where
         subst₃ (InTurn b legal s hs) (sym (ap (λ (y : Slot). y .owner) e)) (sym (ap (λ (y : Slot). y .remaining) e))
         (sym (left-with (w .state) (x .sound) (q .master) (transferOf q) (t .free) s hs)) (x .paced s hs);
     memory = x .memory;
-    buffer = length-move _ _ _ _ _ _ (w .store .buffer) ∙ x .buffer;
+    buffer = length-posted (q .master) (q .words) (w .store .buffer) ∙ x .buffer;
   }
 
   -- the facts of one clock that the theory of one slave asks for
@@ -187,7 +202,7 @@ module _ (b : Board) (legal : Legal b) where
   -- ---- from the reset on
 
   pub start-stands : (w : World) → Start b w → Standing b legal w
-  unfolding reset InTurn
+  unfolding InTurn
   start-stands w x = record {
     sound = subst (Sound b) (sym first) (reset-sound b legal);
     paced = λ s hs.
@@ -204,7 +219,7 @@ module _ (b : Board) (legal : Legal b) where
   }
     where
       first : w .state ≡ stateAtReset b
-      first = x .state ∙ rw (eq-eqb (checkBoard b) 0 (x .accepted))
+      first = start-state b w x
 
   pub next-stands : (w : World) (c : Call) → Standing b legal w → Came b w c → Standing b legal (next w c)
   next-stands w c x (refused e f g) = subst (Standing b legal) (sym e) x
@@ -220,14 +235,8 @@ module _ (b : Board) (legal : Legal b) where
   -- ---- where this stands, nothing of 2 to 9 is refused
 
   pub clock-free : checkBoard b ≡ 0 → (w : World) → Standing b legal w → clockRefusal b (w .state) (w .store) ≡ 0
-  unfolding clockRefusal
   clock-free ok w x =
-      rw (
-        eq-eqb (checkBoard b) 0 ok,
-        eq-eqb (length (w .store .memory)) (memoryLength b) (x .memory),
-        eq-eqb (length (w .store .buffer)) bufferLength (x .buffer),
-        sound-test b (w .state) legal (x .sound),
-      )
+      not-refused b (w .state) (w .store) ok (x .memory) (x .buffer) (sound-test b (w .state) legal (x .sound))
 
   -- a post is taken, or refused for its own part
   pub post-free : checkBoard b ≡ 0 → (w : World) → Standing b legal w → (q : Request)

@@ -1,32 +1,25 @@
 -- The wait of demand 3 is what the wait call answers, for every text that reads to the board.
 -- Assumes nothing.
-use mathlib.Core.Path.{_≡_, refl, sym, ap, subst, _∙_}
-use mathlib.Core.Bool.{true, cond, not}
+use mathlib.Core.Path.{_≡_, ap, _∙_}
+use mathlib.Core.Bool.{true, cond}
 use mathlib.Core.List.{List, _++_}
-use Prim.Native.Nat.{ℕ, _≤_, _<_, _^_}
-use lib.Dec.{eqb, ltb, leb}
+use Prim.Native.Nat.{ℕ, _≤_, _<_}
+use lib.Dec.{eqb, ltb}
 use lib.ListN.{length, drop}
 use borrow.Author.Tests.{eq-eqb, le-ltb, lt-leb, ltb-true}
 use Rattle.laws.proofs.Tests.{both}
 use Rattle.board.specs.declared.Board.{Board}
 use Rattle.board.specs.Records.{sharesAt, connected}
-use Rattle.board.specs.Items.{checkBoard}
-use Rattle.board.proofs.Legal.{Legal}
+use Rattle.board.specs.Legal.{Legal}
 use Rattle.board.proofs.Accepted.{accepted-legal}
-use Rattle.description.specs.declared.Parsed.{Parsed}
 use Rattle.description.specs.Reader.{readText}
 use Rattle.description.proofs.Trip.{read-accepted}
 use Rattle.fabric.specs.Calls.{reset}
-use Rattle.quote.specs.Waits.{waitOf, serveOf}
-use Rattle.quote.specs.Answers.{pairBytes, waitRefusal, waitOutput}
-use Rattle.quote.proofs.TurnLaws.{wait-fits, spelled, wait-spelled}
+use Rattle.quote.specs.Answers.{spelled, pairBytes, pairRefusal, waitRefusal, waitOutput}
+use Rattle.quote.proofs.TurnLaws.{wait-fits, serve-fits, wait-spelled, serve-spelled}
 use Rattle.history.specs.Claim.{Demand3}
+use Rattle.history.specs.WaitCall.{WaitAnswered}
 use Rattle.history.proofs.Demand.{demand3}
-
--- the call is taken, and the first eight bytes that it leaves spell the wait
-pub record Answers (text : List ℕ) (m s : ℕ) (out : List ℕ) : Type 0 where
-  pub number : waitRefusal text m s out ≡ 0
-  pub wait : spelled (waitOutput text m s out) ≡ waitOf (readText text .board) m s
 
 module _ (text : List ℕ) (accepted : readText text .number ≡ 0) where
   abbrev b : Board
@@ -45,13 +38,14 @@ module _ (text : List ℕ) (accepted : readText text .number ≡ 0) where
   within m s c = ltb-true s (b .«slave_count») (both (ltb s (b .«slave_count»)) (ltb 0 (sharesAt b m s)) c .0)
 
   pub wait-answered : (m s : ℕ) (out : List ℕ) → m < b .«master_count» → connected b m s ≡ true → 16 ≤ length out
-      → Answers text m s out
-  unfolding waitRefusal waitOutput
+      → WaitAnswered text m s out
+  unfolding waitRefusal pairRefusal waitOutput
   wait-answered m s out hm c room = record {
     number = number;
-    wait =
-        ap spelled (ap (λ (n : ℕ). cond (eqb n 0) (pairBytes b m s ++ drop 16 out) out) number)
-        ∙ wait-spelled b m s (drop 16 out) fits;
+    wait = ap spelled output ∙ wait-spelled b m s (drop 16 out) (wait-fits b legal m s hm (within m s c));
+    serve =
+        ap (λ (o : List ℕ). spelled (drop 8 o)) output
+        ∙ serve-spelled b m s (drop 16 out) (serve-fits b legal m s hm (within m s c));
   }
     where
       number : waitRefusal text m s out ≡ 0
@@ -59,5 +53,5 @@ module _ (text : List ℕ) (accepted : readText text .number ≡ 0) where
           rw
           (eq-eqb (readText text .number) 0 accepted, le-ltb (length out) 16 room, lt-leb (b .«master_count») m hm, c)
 
-      fits : waitOf b m s < 2 ^ 64
-      fits = wait-fits b legal m s hm (within m s c)
+      output : waitOutput text m s out ≡ pairBytes b m s ++ drop 16 out
+      output = ap (λ (n : ℕ). cond (eqb n 0) (pairBytes b m s ++ drop 16 out) out) number

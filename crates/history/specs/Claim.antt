@@ -4,7 +4,7 @@ use mathlib.Core.Path.{_≡_}
 use mathlib.Core.Bool.{Bool, true, false, cond, _&&_, _||_}
 use mathlib.Core.List.{List, [], _∷_}
 use mathlib.Core.Logic.{_⊎_, _≢_}
-use Prim.Native.Nat.{ℕ, zero, suc, _+_, _-_, _*_, _≤_, _<_}
+use Prim.Native.Nat.{ℕ, _+_, _*_, _≤_, _<_}
 use lib.Dec.{eqb}
 use lib.ListN.{length, getD, take, drop}
 use Rattle.laws.specs.Bits.{bit}
@@ -21,7 +21,7 @@ use Rattle.fabric.specs.declared.Clocked.{Clocked}
 use Rattle.state.specs.Records.{noLine}
 use Rattle.state.specs.Posting.{Request, transferOf}
 use Rattle.fabric.specs.Calls.{World, reset, post, bufferAfterPost, clock, storeAfterClock}
-use Rattle.quote.specs.Waits.{waitOf}
+use Rattle.quote.specs.Waits.{quotedWait}
 
 -- ---- the list
 
@@ -31,9 +31,9 @@ pub data Call : Type 0 where
   clocks : Board → State → Store → Call
 
 -- the number it answers
-unfoldable pub numberOf : Call → ℕ
-numberOf (posts b st buffer q) = post b st buffer q .number
-numberOf (clocks b st d) = clock b st d .number
+unfoldable pub numberAnswered : Call → ℕ
+numberAnswered (posts b st buffer q) = post b st buffer q .number
+numberAnswered (clocks b st d) = clock b st d .number
 
 -- it was handed the description b, and state, memory and buffer as they stood
 unfoldable pub Handed : Board → World → Call → Type 0
@@ -51,7 +51,7 @@ leaves w (clocks b st d) = record { state = clock b st d .state; store = storeAf
 
 -- what the next call gets: "a refused one may have been handed anything else, and the next gets what stood before it"
 unfoldable pub next : World → Call → World
-next w c = cond (eqb (numberOf c) 0) (leaves w c) w
+next w c = cond (eqb (numberAnswered c) 0) (leaves w c) w
 
 unfoldable pub after : World → List Call → World
 after w [] = w
@@ -60,7 +60,7 @@ after w (c ∷ cs) = after (next w c) cs
 -- "Each post or clock gets the reset's description, and state, memory and buffer as the call before left them"
 unfoldable pub History : Board → World → List Call → Type 0
 History b w [] = Unit {0}
-History b w (c ∷ cs) = ((numberOf c ≢ 0) ⊎ Handed b w c) × History b (next w c) cs
+History b w (c ∷ cs) = ((numberAnswered c ≢ 0) ⊎ Handed b w c) × History b (next w c) cs
 
 -- "A history starts at a reset not refused"; the memory and the buffer lent are of their exact lengths
 pub record Start (b : Board) (w : World) : Type 0 where
@@ -92,23 +92,23 @@ any test [] = false
 any test (a ∷ as′) = test a || any test as′
 
 -- the slave of a request
-unfoldable pub slaveOf : Board → Request → ℕ
-slaveOf b q = targetOf b (q .master) (q .address)
+unfoldable pub slaveFor : Board → Request → ℕ
+slaveFor b q = targetOf b (q .master) (q .address)
 
 -- the request is posted, and not refused, where w stands
 unfoldable pub Accepted : Board → World → Request → Type 0
 Accepted b w q = post b (w .state) (w .store .buffer) q .number ≡ 0
 
 -- where w stands behind that post
-unfoldable pub posted : Board → World → Request → World
-posted b w q = leaves w (posts b (w .state) (w .store .buffer) q)
+unfoldable pub afterPosting : Board → World → Request → World
+afterPosting b w q = leaves w (posts b (w .state) (w .store .buffer) q)
 
 -- "let w be the pair's quoted wait"
 unfoldable pub waitFor : Board → Request → ℕ
-waitFor b q = waitOf b (q .master) (slaveOf b q)
+waitFor b q = quotedWait b (q .master) (slaveFor b q)
 
 unfoldable pub lengthOf : Board → Request → ℕ
-lengthOf b q = ownLength (masterAt b (q .master)) (slaveAt b (slaveOf b q)) (transferOf q)
+lengthOf b q = ownLength (masterAt b (q .master)) (slaveAt b (slaveFor b q)) (transferOf q)
 
 -- ---- the byte memory of the read claim
 
@@ -136,19 +136,19 @@ unfoldable pub bytesIn : Board → Request → ℕ
 bytesIn b q = q .beats * masterAt b (q .master) .width
 
 -- "Byte j of beat k lies at the slave's start in memory + address − base + k × master width + j."
-unfoldable pub placeOf : Board → Request → ℕ
-placeOf b q = memoryPlace (slaveAt b (slaveOf b q)) (transferOf q) (startOf b (slaveOf b q))
+unfoldable pub placeInMemory : Board → Request → ℕ
+placeInMemory b q = memoryPlace (slaveAt b (slaveFor b q)) (transferOf q) (startOf b (slaveFor b q))
 
 -- "A write puts its posted bytes there where lane j is 1; a read .. changes nothing."
 unfoldable pub bytesAfter : Board → Request → List ℕ → List ℕ
 bytesAfter b q bytes =
     cond (q .write)
-    (move (enabled (masterAt b (q .master)) (transferOf q)) (q .words) 0 (placeOf b q) 0 (bytesIn b q) bytes)
+    (move (enabled (masterAt b (q .master)) (transferOf q)) (q .words) 0 (placeInMemory b q) 0 (bytesIn b q) bytes)
     bytes
 
 -- "a read gives all its bytes"
 unfoldable pub given : Board → Request → List ℕ → List ℕ
-given b q bytes = take (bytesIn b q) (drop (placeOf b q) bytes)
+given b q bytes = take (bytesIn b q) (drop (placeInMemory b q) bytes)
 
 -- "each transfer that has had its first cycle is one whole step": the transfer of master m
 unfoldable pub stepped : Board → ℕ → Reference → Reference
@@ -187,21 +187,21 @@ fed b r (clocks b′ st d ∷ cs) = fed b (cond (eqb (clock b′ st d .number) 0
 pub record Demand3 (b : Board) : Type 0 where
   -- "the first cycle is no later than clock w + 1 .. once the history has that clock"
   pub within : (w : World) (before : List Call) (q : Request) (calls : List Call) → Start b w → History b w before
-      → Accepted b (after w before) q → History b (posted b (after w before) q) calls
+      → Accepted b (after w before) q → History b (afterPosting b (after w before) q) calls
       → waitFor b q + 1 ≤ length (answers calls)
       → any (shows (q .master)) (take (waitFor b q + 1) (answers calls)) ≡ true
   -- "the finish no later than clock w + own length"
   pub finished : (w : World) (before : List Call) (q : Request) (calls : List Call) → Start b w → History b w before
-      → Accepted b (after w before) q → History b (posted b (after w before) q) calls
+      → Accepted b (after w before) q → History b (afterPosting b (after w before) q) calls
       → waitFor b q + lengthOf b q ≤ length (answers calls)
       → any (names (q .master)) (take (waitFor b q + lengthOf b q) (answers calls)) ≡ true
   -- tight: for each connected pair a history in which a transfer has its first cycle at clock w + 1 exactly
   pub exact : (w : World) → Start b w → (m s : ℕ) → m < b .«master_count» → connected b m s ≡ true
       → (before : List Call) × (q : Request) × (calls : List Call)
-      × History b w before × Accepted b (after w before) q × (q .master ≡ m) × (slaveOf b q ≡ s)
-      × History b (posted b (after w before) q) calls
-      × (length (answers calls) ≡ waitOf b m s + 1)
-      × (any (shows m) (take (waitOf b m s) (answers calls)) ≡ false)
+      × History b w before × Accepted b (after w before) q × (q .master ≡ m) × (slaveFor b q ≡ s)
+      × History b (afterPosting b (after w before) q) calls
+      × (length (answers calls) ≡ quotedWait b m s + 1)
+      × (any (shows m) (take (quotedWait b m s) (answers calls)) ≡ false)
       × (any (shows m) (answers calls) ≡ true)
   -- "As the finishing clock leaves it, the front of its master's part .. equals what the read's step gave."
   pub reads : (w : World) (calls : List Call) (m : ℕ) → Start b w → History b w calls

@@ -1,7 +1,7 @@
 -- A list of f 0, f 1, .. that a loop fills place by place.
 -- Assumes nothing.
 use mathlib.Core.Path.{_≡_, refl, sym, ap, _∙_}
-use mathlib.Core.Bool.{Bool, true, false, cond, _&&_, _||_, or-false}
+use mathlib.Core.Bool.{Bool, true, false, cond, _&&_, _||_}
 use mathlib.Core.List.{List}
 use Prim.Native.Nat.{ℕ, zero, suc, _+_, _≤_, _<_}
 use native.Mathlib.Decide.{ℕ-discrete}
@@ -10,7 +10,7 @@ use native.Mathlib.Omega.{arith}
 use lib.Dec.{ltb, eqb}
 use lib.ListN.{length, getD, set, length-set}
 use lib.Seq.{getD-set-same, getD-set-other, ext-getD}
-use borrow.Author.Tests.{lt-ltb, le-ltb, eq-eqb, ne-eqb, eqb-true, eqb-false, ltb-true, ltb-false}
+use borrow.Author.Tests.{lt-ltb, le-ltb, eq-eqb, ne-eqb, ltb-true, ltb-false}
 use Rattle.laws.specs.Lists.{table, sum, some}
 use Rattle.laws.proofs.TableLaws.{length-table, getD-table}
 use Rattle.laws.proofs.FrontLaws.{table-same}
@@ -45,10 +45,6 @@ unfoldable pub filled : {X : Type 0} → (ℕ → X) → (ℕ → X) → ℕ →
 filled f g n i = table (λ k. cond (ltb k i) (f k) (g k)) n
 
 module _ {X : Type 0} (f g : ℕ → X) (n : ℕ) where
-  pub length-filled : (i : ℕ) → length (filled f g n i) ≡ n
-  unfolding filled
-  length-filled i = length-table _ n
-
   pub filled-none : (d : X) (l : List X) → length l ≡ n → ((k : ℕ) → k < n → getD l k d ≡ g k) → l ≡ filled f g n 0
   unfolding filled
   filled-none d l e h = table-is _ n d l e (λ k i. h k i ∙ rw (le-ltb k 0 (omega arith)))
@@ -75,14 +71,10 @@ module _ {X : Type 0} (f g : ℕ → X) (n : ℕ) where
   unfolding filled
   filled-all i h e = e ∙ table-same _ _ n (λ k j. rw (lt-ltb k i (omega arith)))
 
-  -- what stands at a place that is still to be filled, and at one that is filled
+  -- what stands at a place that is still to be filled
   pub filled-later : (i k : ℕ) (d : X) → k < n → i ≤ k → getD (filled f g n i) k d ≡ g k
   unfolding filled
   filled-later i k d h l = getD-table _ n d k h ∙ rw (le-ltb k i l)
-
-  pub filled-there : (i k : ℕ) (d : X) → k < n → k < i → getD (filled f g n i) k d ≡ f k
-  unfolding filled
-  filled-there i k d h l = getD-table _ n d k h ∙ rw (lt-ltb k i l)
 
 last : (a b : Bool) → (a || b) ≡ (a || (b && true))
 last a true = refl

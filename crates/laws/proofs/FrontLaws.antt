@@ -13,7 +13,7 @@ use lib.ListN.{length, getD, set, replicate, length-append, length-set, length-r
 use lib.Seq.{getD-set-same, getD-set-other, set-getD, ext-getD}
 use borrow.Author.Tests.{ltb-true, ltb-false, lt-ltb, le-ltb}
 use Rattle.laws.specs.Lists.{gather, table}
-use Rattle.laws.proofs.ListLaws.{length-table, getD-table}
+use Rattle.laws.proofs.TableLaws.{length-table, getD-table, getD-replicate-all}
 
 -- what is true of the element set, and of the others, is true of each
 pub set-each : {X : Type 0} (P : ℕ → X → Type 0) (l : List X) (n : ℕ) (a d : X) → n < length l → P n a
@@ -23,12 +23,6 @@ set-each P l n a d h p i f = go (ℕ-discrete i n)
     go : Dec (i ≡ n) → P i (getD (set l n a) i d)
     go (yes e) = rw (e, getD-set-same l n a d h) p
     go (no e) = rw (getD-set-other l n i a d e) (f e)
-
--- every place of n times d, and every place behind them
-pub getD-blank : {X : Type 0} (n i : ℕ) (d : X) → getD (replicate n d) i d ≡ d
-getD-blank zero i d = refl
-getD-blank (suc n) zero d = refl
-getD-blank (suc n) (suc i) d = getD-blank n i d
 
 -- the lists are the same
 pub gather-same : {X : Type 0} (f g : ℕ → List X) (n : ℕ) → ((i : ℕ) → i < n → f i ≡ g i) → gather f n ≡ gather g n
@@ -57,11 +51,11 @@ module _ {X : Type 0} (f : ℕ → X) (d : X) (n : ℕ) where
 
   pub front-there : (i k : ℕ) → k < i → k < n → getD (front f d n i) k d ≡ f k
   unfolding front
-  front-there i k h l = rw (getD-table (λ j. cond (ltb j i) (f j) d) n k d l, lt-ltb k i h)
+  front-there i k h l = rw (getD-table (λ j. cond (ltb j i) (f j) d) n d k l, lt-ltb k i h)
 
   pub front-blank : (i k : ℕ) → i ≤ k → k < n → getD (front f d n i) k d ≡ d
   unfolding front
-  front-blank i k h l = rw (getD-table (λ j. cond (ltb j i) (f j) d) n k d l, le-ltb k i h)
+  front-blank i k h l = rw (getD-table (λ j. cond (ltb j i) (f j) d) n d k l, le-ltb k i h)
 
   -- a list with these elements
   pub front-is : (l : List X) (i : ℕ) → length l ≡ n → ((k : ℕ) → k < i → k < n → getD l k d ≡ f k)
@@ -74,7 +68,7 @@ module _ {X : Type 0} (f : ℕ → X) (d : X) (n : ℕ) where
       go k h false q = let m = ltb-false k i q in b k m h ∙ sym (front-blank i k m h)
 
   pub front-none : replicate n d ≡ front f d n 0
-  front-none = front-is (replicate n d) 0 (length-replicate n d) (λ k h l. absurd (omega arith)) (λ k h l. getD-blank n k d)
+  front-none = front-is (replicate n d) 0 (length-replicate n d) (λ k h l. absurd (omega arith)) (λ k h l. getD-replicate-all n k d)
 
   pub front-next : (i : ℕ) → i < n → set (front f d n i) i (f i) ≡ front f d n (i + 1)
   front-next i h =

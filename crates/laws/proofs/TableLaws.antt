@@ -1,7 +1,7 @@
 -- Laws of tables, of tests, also over the numbers below n, and of a mask as a sum of powers of two.
 -- Assumes nothing.
 use mathlib.Core.Path.{_≡_, refl, sym, ap, _∙_}
-use mathlib.Core.Bool.{Bool, true, false, cond, _&&_, _||_, false≢true, true≢false}
+use mathlib.Core.Bool.{Bool, true, false, cond, false≢true, true≢false}
 use mathlib.Core.List.{List, [], _∷_}
 use Prim.Native.Nat.{ℕ, zero, suc, _+_, _-_, _*_, _^_, _≤_, _<_}
 use native.Mathlib.Nat.{zero-add, add-zero, pow-suc, add-mul-div-right, add-mul-mod-self-right}
@@ -44,6 +44,7 @@ module _ {X : Type 0} (f : ℕ → X) where
   pub getD-table-past : (n : ℕ) (d : X) (i : ℕ) → n ≤ i → getD (table f n) i d ≡ d
   getD-table-past n d i h = List·getD-eq-default (table f n) d (rw (length-table n) h)
 
+-- every place of n times a, and every place behind them
 pub getD-replicate-all : {X : Type 0} (n i : ℕ) (a : X) → getD (replicate n a) i a ≡ a
 getD-replicate-all zero i a = refl
 getD-replicate-all (suc n) zero a = refl

@@ -28,7 +28,7 @@ partOf m = 512 * m
 unfoldable pub posted : ℕ → List ℕ → List ℕ → List ℕ
 posted m words buffer = move all words 0 (partOf m) 0 (length words) buffer
 
--- "lanes (bit k for byte k)": byte t of a transfer is enabled by lane t modulo the master's width
+-- "lanes (bit k for byte k)": byte i of the transfer t is enabled by lane i modulo the master's width
 unfoldable pub enabled : Master → Transfer → ℕ → Bool
 enabled ma t i = bit (t .lanes) (i % ma .width)
 

@@ -1,9 +1,9 @@
--- The wait call path by path, and what is printed.
+-- The two calls that look up a wait, path by path, and what is printed.
 -- Assumes nothing.
 use mathlib.Core.Path.{_≡_, refl, ap, sym, _∙_}
 use mathlib.Core.Bool.{Bool, true, false, cond, not}
 use mathlib.Core.List.{List, [], _∷_, _++_}
-use Prim.Native.Nat.{ℕ, _+_, _≤_, _<_}
+use Prim.Native.Nat.{ℕ, _≤_, _<_}
 use native.Mathlib.Omega.{arith}
 use lib.Dec.{ltb, eqb}
 use lib.ListN.{length, take, drop, length-append}
@@ -18,21 +18,55 @@ use Rattle.text.proofs.Decimal.{digits-most, digits-long, fields-long, line-len
 use Rattle.text.proofs.Puts.{put-front, put-length, put-then}
 use Rattle.board.specs.declared.Board.{Board}
 use Rattle.board.specs.Records.{connected}
+use Rattle.board.specs.Items.{checkBoard}
+use Rattle.board.specs.Legal.{Legal}
+use Rattle.board.proofs.Accepted.{accepted-legal}
 use Rattle.description.specs.declared.Parsed.{Parsed}
 use Rattle.description.specs.Reader.{readText}
+use Rattle.description.proofs.Trip.{read-accepted}
 use Rattle.quote.specs.declared.Quote.{Quote}
 use Rattle.quote.specs.declared.Printed.{Printed}
-use Rattle.quote.specs.Waits.{waitOf, serveOf}
-use Rattle.quote.specs.Answers.{bytes64, pairBytes, waitRefusal, waitOutput, heading, pairLine, tableText, refusedText, printed}
-use Rattle.quote.specs.Parts.{pairLines}
-use Rattle.quote.specs.Calls.{quoteOf, printAnswer, printOutput}
-use Rattle.quote.proofs.CountLaws.{Few, few-read}
+use Rattle.quote.specs.Waits.{quotedWait, serveOf}
+use Rattle.quote.specs.Answers.{bytes64, pairBytes, pairRefusal, waitRefusal, waitOutput, heading, pairLine, pairLines, tableText, refusedText, printed}
+use Rattle.quote.specs.Parts.{figuresOf}
+use Rattle.quote.specs.Calls.{quoteRefusal, quoteOf, printAnswer, printOutput}
 use Rattle.quote.proofs.SumLaws.{gather-le}
 
 -- the bytes of two numbers, one behind the other
-pub figures : (wait serve : ℕ) {w v o p q : List ℕ} {r t : ℕ} → w ≡ bytes64 wait → v ≡ bytes64 serve
+pub figures-put : (wait serve : ℕ) {w v o p q : List ℕ} {r t : ℕ} → w ≡ bytes64 wait → v ≡ bytes64 serve
     → Put o 0 w p r → Put p r v q t → Put o 0 (bytes64 wait ++ bytes64 serve) q t
-figures wait serve e f x y = put-then (rw e at x) (rw f at y)
+figures-put wait serve e f x y = put-then (rw e at x) (rw f at y)
+
+-- the pair of a look-up
+module _ (b : Board) (m s : ℕ) where
+  pub pair-past : b .«master_count» ≤ m → 11 ≡ pairRefusal b m s
+  unfolding pairRefusal
+  pair-past h = rw (le-leb (b .«master_count») m h)
+
+  module _ (known : m < b .«master_count») {g : Bool} (f : g ≡ connected b m s) where
+    pub pair-apart : not g ≡ true → 16 ≡ pairRefusal b m s
+    unfolding pairRefusal
+    pair-apart h = rw (lt-leb (b .«master_count») m known, ← f, h)
+
+    pub pair-found : not g ≡ false → 0 ≡ pairRefusal b m s
+    unfolding pairRefusal
+    pair-found h = rw (lt-leb (b .«master_count») m known, ← f, h)
+
+-- a look-up on a board
+module _ (b : Board) (m s : ℕ) {n : ℕ} (e : n ≡ checkBoard b) where
+  pub quote-board : (n ≡ 0 → ⊥) → record { number = n; wait = 0; serve = 0 } ≡ quoteOf b m s
+  unfolding quoteOf quoteRefusal
+  quote-board h = rw (← e, ne-eqb n 0 h, ne-eqb n 0 h)
+
+  module _ (none : n ≡ 0) {k : ℕ} (f : k ≡ pairRefusal b m s) where
+    pub quote-pair : (k ≡ 0 → ⊥) → record { number = k; wait = 0; serve = 0 } ≡ quoteOf b m s
+    unfolding quoteOf quoteRefusal
+    quote-pair h = rw (← e, eq-eqb n 0 none, ← f, ne-eqb k 0 h)
+
+    pub quote-taken : k ≡ 0 → {q : Quote} → q ≡ figuresOf b m s
+        → record { number = 0; wait = q .wait; serve = q .serve } ≡ quoteOf b m s
+    unfolding quoteOf quoteRefusal figuresOf
+    quote-taken z r = rw (← e, eq-eqb n 0 none, ← f, eq-eqb k 0 z, r)
 
 -- the wait call, from what the reader answers
 module _ (text : List ℕ) (m s : ℕ) (out : List ℕ) {p : Parsed} (e : p ≡ readText text) where
@@ -55,50 +89,20 @@ module _ (text : List ℕ) (m s : ℕ) (out : List ℕ) {p : Parsed} (e : p ≡ 
     wait-short h = kept (rw (← e, eq-eqb (p .number) 0 none, lt-ltb (length out) 16 h)) (λ z. omega arith)
 
     module _ (room : 16 ≤ length out) where
-      pub wait-master : p .board .«master_count» ≤ m → Answer 11 out
-      unfolding waitRefusal
-      wait-master h =
-          kept
-          (rw (
-            ← e,
-            eq-eqb (p .number) 0 none,
-            le-ltb (length out) 16 room,
-            le-leb (p .board .«master_count») m h,
-          ))
-          (λ z. omega arith)
-
-      module _ (known : m < p .board .«master_count») {g : Bool} (f : g ≡ connected (p .board) m s) where
-        pub wait-pair : not g ≡ true → Answer 16 out
+      module _ {n : ℕ} (f : n ≡ pairRefusal (p .board) m s) where
+        pub wait-pair : (n ≡ 0 → ⊥) → Answer n out
         unfolding waitRefusal
-        wait-pair h =
-            kept
-            (rw (
-              ← e,
-              eq-eqb (p .number) 0 none,
-              le-ltb (length out) 16 room,
-              lt-leb (p .board .«master_count») m known,
-              ← f,
-              h,
-            ))
-            (λ z. omega arith)
+        wait-pair h = kept (rw (← e, eq-eqb (p .number) 0 none, le-ltb (length out) 16 room) f) h
 
-        wait-zero : not g ≡ false → 0 ≡ waitRefusal text m s out
+        wait-zero : n ≡ 0 → 0 ≡ waitRefusal text m s out
         unfolding waitRefusal
-        wait-zero h =
-            rw (
-              ← e,
-              eq-eqb (p .number) 0 none,
-              le-ltb (length out) 16 room,
-              lt-leb (p .board .«master_count») m known,
-              ← f,
-              h,
-            )
+        wait-zero z = rw (← e, eq-eqb (p .number) 0 none, le-ltb (length out) 16 room, ← f, z)
 
         -- taken: the figures stand at the front
-        pub wait-taken : not g ≡ false → {q : Quote} → q ≡ quoteOf (p .board) m s → {o : List ℕ} {t : ℕ}
+        pub wait-taken : n ≡ 0 → {q : Quote} → q ≡ figuresOf (p .board) m s → {o : List ℕ} {t : ℕ}
             → Put out 0 (bytes64 (q .wait) ++ bytes64 (q .serve)) o t → Answer 0 o
-        unfolding waitOutput pairBytes quoteOf bytes64 table gather
-        wait-taken h {q} k {o} x = (wait-zero h, put-front x room ∙ rw (k, e, ← wait-zero h))
+        unfolding waitOutput pairBytes figuresOf bytes64 table gather
+        wait-taken z {q} k {o} x = (wait-zero z, put-front x room ∙ rw (k, e, ← wait-zero z))
 
 -- what is printed, from what the reader answers
 module _ (text : List ℕ) {p : Parsed} (e : p ≡ readText text) where
@@ -107,7 +111,7 @@ module _ (text : List ℕ) {p : Parsed} (e : p ≡ readText text) where
   printed-refused h = rw (← e, ne-eqb (p .number) 0 h)
 
   pub printed-table : p .number ≡ 0 → printed text ≡ heading ++ pairLines (p .board)
-  unfolding printed tableText pairLines
+  unfolding printed tableText
   printed-table h = rw (← e, eq-eqb (p .number) 0 h)
 
 -- how long it can be: a master has one digit, a slave two, a figure 20
@@ -130,25 +134,30 @@ pair-long : (b : Board) (m s : ℕ) → m < 8 → s < 16 → length (pairLine b 
 unfolding pairLine
 pair-long b m s hm hs = go (connected b m s)
   where
-    go : (t : Bool) → length (cond t (lineText (digits m) (s ∷ waitOf b m s ∷ serveOf b m s ∷ [])) []) ≤ 47
-    go true = line-long m s (waitOf b m s) (serveOf b m s) hm hs
+    go : (t : Bool) → length (cond t (lineText (digits m) (s ∷ quotedWait b m s ∷ serveOf b m s ∷ [])) []) ≤ 47
+    go true = line-long m s (quotedWait b m s) (serveOf b m s) hm hs
     go false = omega arith
 
-pairs-long : (b : Board) → Few b → length (pairLines b) ≤ 6016
+-- a text that is not refused reads to a legal board
+read-legal : (text : List ℕ) → readText text .number ≡ 0 → Legal (readText text .board)
+read-legal text e = accepted-legal (readText text .board) (read-accepted text e)
+
+pairs-long : (b : Board) → Legal b → length (pairLines b) ≤ 6016
 unfolding pairLines
-pairs-long b few =
+pairs-long b legal =
     let row : (m : ℕ) → m < b .«master_count» → length (gather (pairLine b m) (b .«slave_count»)) ≤ 752 =
     λ m h.
     omega (
       arith,
-      few .masters,
-      few .slaves,
-      gather-le (pairLine b m) 47 (b .«slave_count») (λ s l. pair-long b m s (omega (arith, few .masters)) (omega (arith, few .slaves))),
+      legal .fewMasters,
+      legal .fewSlaves,
+      gather-le (pairLine b m) 47 (b .«slave_count») (λ s l. pair-long b m s (omega (arith, legal .fewMasters)) (omega (arith, legal .fewSlaves))),
     ) in
-    omega (arith, few .masters, gather-le (λ m. gather (pairLine b m) (b .«slave_count»)) 752 (b .«master_count») row)
+    omega (arith, legal .fewMasters, gather-le (λ m. gather (pairLine b m) (b .«slave_count»)) 752 (b .«master_count») row)
 
-pub table-long : (text : List ℕ) {p : Parsed} → p ≡ readText text → length (pairLines (p .board)) ≤ 6016
-table-long text {p} e = pairs-long (p .board) (rw e (few-read text))
+pub table-long : (text : List ℕ) {p : Parsed} → p ≡ readText text → p .number ≡ 0 → length (pairLines (p .board)) ≤ 6016
+table-long text e none =
+    rw e (pairs-long (readText text .board) (read-legal text (rw e at none)))
 
 heading-length : length heading ≡ 24
 unfolding heading bytesOf
@@ -168,7 +177,7 @@ printed-long text = go (eqb (readText text .number) 0) refl
           arith,
           length-append heading (pairLines (readText text .board)),
           heading-length,
-          pairs-long (readText text .board) (few-read text),
+          pairs-long (readText text .board) (read-legal text (eqb-true _ _ e)),
         ))
     go false e =
         rw (printed-refused text refl (eqb-false _ _ e)) (omega (arith, refused-long (readText text .number)))

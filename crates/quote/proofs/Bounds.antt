@@ -1,26 +1,17 @@
 -- How large the figures of a pair can be, whatever the fields of its master and slave hold: 8 bits each.
 -- Assumes nothing.
 use mathlib.Core.Bool.{Bool, true, false, cond, not, _&&_}
-use Prim.Native.Nat.{ℕ, _-_, _*_, _/_, _^_, _≤_}
-use native.Mathlib.Nat.{div-le-self}
+use Prim.Native.Nat.{ℕ, _-_, _*_, _^_, _≤_}
 use native.Mathlib.Omega.{arith}
 use lib.Dec.{ltb}
 use Rattle.laws.proofs.Arithmetic.{product-le}
 use Rattle.board.specs.declared.Master.{Master}
 use Rattle.board.specs.declared.Slave.{Slave}
-use Rattle.geometry.specs.Accesses.{ratio}
+use Rattle.geometry.proofs.AccessLaws.{ratio-le}
 use Rattle.quote.specs.Waits.{mostBeats, single, serve, turn}
 use Rattle.quote.specs.Parts.{turnUnless}
 
 module _ (ma : Master) (sl : Slave) where
-  pub ratio-le : ma .width ≤ 255 → ratio ma sl ≤ 255
-  unfolding ratio
-  ratio-le h = go (ltb (sl .width) (ma .width))
-    where
-      go : (t : Bool) → cond t (ma .width / sl .width) 1 ≤ 255
-      go true = omega (arith, div-le-self (ma .width) (sl .width))
-      go false = omega arith
-
   pub beats-le : ma .burst ≤ 255 → mostBeats ma sl ≤ 255
   unfolding mostBeats
   beats-le h = omega arith
@@ -28,11 +19,11 @@ module _ (ma : Master) (sl : Slave) where
   module _ (v : ℕ) (w : ma .width ≤ 255) (u : ma .burst ≤ 255) (l : v ≤ 4294967296) where
     pub single-le : single ma sl v ≤ 255 * 4294967296
     unfolding single
-    single-le = product-le _ _ 255 4294967296 (ratio-le w) l
+    single-le = product-le _ _ 255 4294967296 (ratio-le ma sl w) l
 
     pub serve-le : serve ma sl v ≤ 255 * 255 * 4294967296
     unfolding serve
-    serve-le = product-le _ _ (255 * 255) 4294967296 (product-le _ _ 255 255 (beats-le u) (ratio-le w)) l
+    serve-le = product-le _ _ (255 * 255) 4294967296 (product-le _ _ 255 255 (beats-le u) (ratio-le ma sl w)) l
 
     pub turn-le : (shares : ℕ) → shares ≤ 255 → turn ma sl shares v ≤ 2 ^ 50
     unfolding turn

@@ -2,6 +2,5 @@ pub mod SumLaws
 pub mod Bounds
 pub mod PartLaws
 pub mod LineLaws
-pub mod CountLaws
 pub mod AnswerLaws
 pub mod TurnLaws

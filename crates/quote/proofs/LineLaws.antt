@@ -16,9 +16,9 @@ use Rattle.board.specs.declared.Slave.{Slave}
 use Rattle.board.specs.declared.Board.{Board}
 use Rattle.board.specs.Records.{slaveAt, connected}
 use Rattle.quote.specs.declared.Quote.{Quote}
-use Rattle.quote.specs.Waits.{longest, waitOf, serveOf}
-use Rattle.quote.specs.Answers.{pairLine}
-use Rattle.quote.specs.Parts.{quoteAmong, quoteLine, lineAmong, pairLines}
+use Rattle.quote.specs.Waits.{longestAccess, quotedWait, serveOf}
+use Rattle.quote.specs.Answers.{pairLine, pairLines}
+use Rattle.quote.specs.Parts.{quoteAmong, quoteLine, lineAmong}
 use Rattle.quote.proofs.SumLaws.{rows, gather-room}
 use Rattle.quote.proofs.PartLaws.{turns-at}
 
@@ -37,8 +37,8 @@ module _ (b : Board) where
   -- the line from the arrays
   pub line-at : (m s : ℕ) {sl : Slave} → s < b .«slave_count» → sl ≡ slaveAt b s
       → lineAmong (b .masters) (b .shares) sl m s (b .«master_count») ≡ pairLine b m s
-  unfolding lineAmong quoteLine quoteAmong pairLine connected waitOf serveOf
-  line-at m s h e = rw (e, lt-ltb s (b .«slave_count») h, turns-at b (longest (slaveAt b s)) m s h refl refl)
+  unfolding lineAmong quoteLine quoteAmong pairLine connected quotedWait serveOf
+  line-at m s h e = rw (e, lt-ltb s (b .«slave_count») h, turns-at b (longestAccess (slaveAt b s)) m s h refl refl)
 
   -- pair i of the board
   abbrev pub pairAt : ℕ → List ℕ

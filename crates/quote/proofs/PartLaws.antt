@@ -10,13 +10,14 @@ use lib.Dec.{ltb, eqb}
 use lib.ListN.{getD}
 use borrow.Author.Tests.{lt-ltb, le-ltb}
 use Rattle.laws.specs.Lists.{sum}
+use Rattle.laws.proofs.FillLaws.{sum-same}
 use Rattle.board.specs.declared.Master.{Master}
 use Rattle.board.specs.declared.Slave.{Slave}
 use Rattle.board.specs.declared.Board.{Board}
 use Rattle.board.specs.Records.{noMaster, slaveAt, connected}
 use Rattle.quote.specs.Waits.{turn, otherTurn, turnsOf}
 use Rattle.quote.specs.Parts.{turnUnless, turnAmong, turnsAmong}
-use Rattle.quote.proofs.SumLaws.{sum-same, sum-none}
+use Rattle.quote.proofs.SumLaws.{sum-none}
 
 -- one master's part
 module _ (own : Bool) (ma : Master) (sl : Slave) (shares v : ℕ) where

@@ -8,13 +8,9 @@ use native.Mathlib.Omega.{arith}
 use mathlib.Core.Logic.{⊎-elim}
 use lib.ListN.{length, length-append}
 use Rattle.laws.specs.Lists.{gather, sum}
+use Rattle.laws.proofs.FrontLaws.{gather-same}
 
 module _ {X : Type 0} where
-  gather-same : (f g : ℕ → List X) (n : ℕ) → ((k : ℕ) → k < n → f k ≡ g k) → gather f n ≡ gather g n
-  unfolding gather
-  gather-same f g zero e = refl
-  gather-same f g (suc n) e = rw (gather-same f g n (λ k h. e k (omega arith)), e n (omega arith))
-
   gather-add : (f : ℕ → List X) (a n : ℕ) → gather f (a + n) ≡ gather f a ++ gather (λ j. f (a + j)) n
   unfolding gather
   gather-add f a zero = rw (add-zero a) (sym (append-nil (gather f a)))
@@ -52,11 +48,6 @@ module _ {X : Type 0} where
       (λ e. rw e (omega (arith, length-append (gather f n) (f n))))
       (λ l. omega (arith, length-append (gather f n) (f n), gather-room f i n l))
       (eq-or-lt-of-le (le-of-suc-le-suc h))
-
-pub sum-same : (f g : ℕ → ℕ) (n : ℕ) → ((k : ℕ) → k < n → f k ≡ g k) → sum f n ≡ sum g n
-unfolding sum
-sum-same f g zero e = refl
-sum-same f g (suc n) e = rw (sum-same f g n (λ k h. e k (omega arith)), e n (omega arith))
 
 pub sum-none : (f : ℕ → ℕ) (n : ℕ) → ((k : ℕ) → f k ≡ 0) → sum f n ≡ 0
 unfolding sum

@@ -7,30 +7,31 @@ use Prim.Native.Nat.{ℕ, zero, suc, _+_, _-_, _*_, _/_, _%_, _^_, _≤_, _<_}
 use native.Mathlib.Nat.{mul-assoc, mul-comm, add-mul, pow-suc, suc-mul, div-add-mod', div-div-eq-div-mul, mod-eq-of-lt}
 use native.Mathlib.Omega.{arith}
 use lib.Dec.{eqb}
-use lib.ListN.{length, getD, drop, List·getD-append}
+use lib.ListN.{length, drop, List·getD-append}
 use lib.Seq.{drop-at}
 use borrow.Author.Tests.{eqb-true, eqb-false}
 use Rattle.laws.specs.Lists.{sum}
-use Rattle.laws.proofs.ListLaws.{length-table, getD-table, member-within}
+use Rattle.laws.proofs.FillLaws.{sum-same}
+use Rattle.laws.proofs.TableLaws.{length-table, getD-table}
 use Rattle.board.specs.declared.Master.{Master}
 use Rattle.board.specs.declared.Slave.{Slave}
 use Rattle.board.specs.declared.Board.{Board}
 use Rattle.board.specs.Records.{masterAt, slaveAt, sharesAt, connected}
-use Rattle.board.specs.Rules.{widths, bursts}
-use Rattle.board.proofs.Legal.{Legal}
+use Rattle.board.specs.Legal.{Legal}
+use Rattle.board.proofs.RuleLaws.{width-bound, burst-bound}
 use Rattle.geometry.specs.Accesses.{ratio}
-use Rattle.quote.specs.Waits.{longest, mostBeats, single, serve, turn, otherTurn, turnsOf, waitOf, serveOf}
-use Rattle.quote.specs.Answers.{bytes64, pairBytes}
+use Rattle.quote.specs.Waits.{longestAccess, mostBeats, single, serve, turn, otherTurn, turnsOf, quotedWait, serveOf}
+use Rattle.quote.specs.Answers.{bytes64, spelled, pairBytes}
 use Rattle.quote.proofs.Bounds.{serve-le, turn-le}
-use Rattle.quote.proofs.SumLaws.{sum-same, sum-le}
+use Rattle.quote.proofs.SumLaws.{sum-le}
 
 -- the wait is the sum of the turns of all other masters connected to the slave
 pub wait-turns : (b : Board) (m s : ℕ)
-    → waitOf b m s
+    → quotedWait b m s
     ≡ sum
-    (λ k. cond (connected b k s && not (eqb k m)) (turn (masterAt b k) (slaveAt b s) (sharesAt b k s) (longest (slaveAt b s))) 0)
+    (λ k. cond (connected b k s && not (eqb k m)) (turn (masterAt b k) (slaveAt b s) (sharesAt b k s) (longestAccess (slaveAt b s))) 0)
     (b .«master_count»)
-unfolding waitOf turnsOf otherTurn
+unfolding quotedWait turnsOf otherTurn
 wait-turns b m s = refl
 
 module _ (ma : Master) (sl : Slave) (v : ℕ) where
@@ -57,15 +58,15 @@ module _ (ma : Master) (sl : Slave) (v : ℕ) where
 
 -- the figures of a legal board fit 64 bits
 module _ (b : Board) (legal : Legal b) (m s : ℕ) (hm : m < b .«master_count») (hs : s < b .«slave_count») where
-  v-le : longest (slaveAt b s) ≤ 4294967296
-  unfolding longest
+  v-le : longestAccess (slaveAt b s) ≤ 4294967296
+  unfolding longestAccess
   v-le = let l = legal .slave s hs in omega (arith, l .readWait, l .writeWait)
 
   width-le : (k : ℕ) → k < b .«master_count» → masterAt b k .width ≤ 255
-  width-le k h = omega (arith, member-within 1 8 _ widths tt (legal .master k h .width) .1)
+  width-le k h = omega (arith, width-bound (masterAt b k .width) (legal .master k h .width) .1)
 
   burst-le : (k : ℕ) → k < b .«master_count» → masterAt b k .burst ≤ 255
-  burst-le k h = omega (arith, member-within 1 64 _ bursts tt (legal .master k h .burst) .1)
+  burst-le k h = omega (arith, burst-bound (masterAt b k .burst) (legal .master k h .burst) .1)
 
   shares-le : (k : ℕ) → k < b .«master_count» → sharesAt b k s ≤ 255
   shares-le k h = go (eqb (sharesAt b k s) 0) refl
@@ -76,24 +77,24 @@ module _ (b : Board) (legal : Legal b) (m s : ℕ) (hm : m < b .«master_count»
           let i : 16 * k + s < 128 = omega (arith, legal .fewMasters, legal .fewSlaves) in
           omega (arith, legal .shares (16 * k + s) i (eqb-false _ _ e) .0)
 
-  other-le : (k : ℕ) → k < b .«master_count» → otherTurn b (longest (slaveAt b s)) m s k ≤ 2 ^ 50
+  other-le : (k : ℕ) → k < b .«master_count» → otherTurn b (longestAccess (slaveAt b s)) m s k ≤ 2 ^ 50
   unfolding otherTurn
   other-le k h = go (connected b k s && not (eqb k m))
     where
       go : (t : Bool)
-          → cond t (turn (masterAt b k) (slaveAt b s) (sharesAt b k s) (longest (slaveAt b s))) 0 ≤ 2 ^ 50
+          → cond t (turn (masterAt b k) (slaveAt b s) (sharesAt b k s) (longestAccess (slaveAt b s))) 0 ≤ 2 ^ 50
       go true =
-          turn-le (masterAt b k) (slaveAt b s) (longest (slaveAt b s)) (width-le k h) (burst-le k h) v-le (sharesAt b k s)
+          turn-le (masterAt b k) (slaveAt b s) (longestAccess (slaveAt b s)) (width-le k h) (burst-le k h) v-le (sharesAt b k s)
           (shares-le k h)
       go false = omega arith
 
-  pub wait-fits : waitOf b m s < 2 ^ 64
-  unfolding waitOf turnsOf
-  wait-fits = omega (arith, sum-le (otherTurn b (longest (slaveAt b s)) m s) (2 ^ 50) (b .«master_count») other-le, legal .fewMasters)
+  pub wait-fits : quotedWait b m s < 2 ^ 64
+  unfolding quotedWait turnsOf
+  wait-fits = omega (arith, sum-le (otherTurn b (longestAccess (slaveAt b s)) m s) (2 ^ 50) (b .«master_count») other-le, legal .fewMasters)
 
   pub serve-fits : serveOf b m s < 2 ^ 64
   unfolding serveOf
-  serve-fits = omega (arith, serve-le (masterAt b m) (slaveAt b s) (longest (slaveAt b s)) (width-le m hm) (burst-le m hm) v-le)
+  serve-fits = omega (arith, serve-le (masterAt b m) (slaveAt b s) (longestAccess (slaveAt b s)) (width-le m hm) (burst-le m hm) v-le)
 
 -- one byte more of a number
 mod-more : (n b : ℕ) → n % (b * 256) ≡ n % b + n / b % 256 * b
@@ -121,17 +122,13 @@ bytes-length : (n : ℕ) → length (bytes64 n) ≡ 8
 unfolding bytes64
 bytes-length n = length-table (λ i. n / 256 ^ i % 256) 8
 
--- the number that the first 8 bytes spell, the lowest first
-abbrev pub spelled : List ℕ → ℕ
-spelled bytes = sum (λ i. getD bytes i 0 * 256 ^ i) 8
-
 -- a number's 8 bytes spell it, whatever stands behind them
 module _ (n : ℕ) (h : n < 2 ^ 64) where
   pub bytes-spell : spelled (bytes64 n) ≡ n
   unfolding bytes64
   bytes-spell =
       sum-same _ (λ i. n / 256 ^ i % 256 * 256 ^ i) 8
-      (λ i l. ap (λ (x : ℕ). x * 256 ^ i) (getD-table (λ j. n / 256 ^ j % 256) 8 i 0 l))
+      (λ i l. ap (λ (x : ℕ). x * 256 ^ i) (getD-table (λ j. n / 256 ^ j % 256) 8 0 i l))
       ∙ low-bytes n 8
       ∙ mod-eq-of-lt h
 
@@ -143,15 +140,15 @@ module _ (n : ℕ) (h : n < 2 ^ 64) where
 
 -- so the front of what a wait call wrote spells the wait, and what follows the serve
 module _ (b : Board) (m s : ℕ) (rest : List ℕ) where
-  pub wait-spelled : waitOf b m s < 2 ^ 64 → spelled (pairBytes b m s ++ rest) ≡ waitOf b m s
+  pub wait-spelled : quotedWait b m s < 2 ^ 64 → spelled (pairBytes b m s ++ rest) ≡ quotedWait b m s
   unfolding pairBytes
-  wait-spelled h = rw append-assoc (front-spells (waitOf b m s) h (bytes64 (serveOf b m s) ++ rest))
+  wait-spelled h = rw append-assoc (front-spells (quotedWait b m s) h (bytes64 (serveOf b m s) ++ rest))
 
   pub serve-spelled : serveOf b m s < 2 ^ 64 → spelled (drop 8 (pairBytes b m s ++ rest)) ≡ serveOf b m s
   unfolding pairBytes
   serve-spelled h =
-      let w = bytes64 (waitOf b m s) in
+      let w = bytes64 (quotedWait b m s) in
       let v = bytes64 (serveOf b m s) in
       let e : drop 8 ((w ++ v) ++ rest) ≡ v ++ rest =
-      rw append-assoc (drop-at w (v ++ rest) 8 (bytes-length (waitOf b m s))) in
+      rw append-assoc (drop-at w (v ++ rest) 8 (bytes-length (quotedWait b m s))) in
       ap spelled e ∙ front-spells (serveOf b m s) h rest

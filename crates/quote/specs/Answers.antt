@@ -1,36 +1,41 @@
 -- What the wait call and the table program answer.
 -- Assumes nothing.
-use mathlib.Core.Bool.{Bool, cond, not, _||_}
+use mathlib.Core.Bool.{cond, not}
 use mathlib.Core.List.{List, [], _∷_, _++_}
-use Prim.Native.Nat.{ℕ, _/_, _%_, _^_, _+_}
+use Prim.Native.Nat.{ℕ, _*_, _/_, _%_, _^_}
 use lib.Dec.{ltb, leb, eqb}
-use lib.ListN.{length, drop}
+use lib.ListN.{length, getD, drop}
 use Rattle.laws.specs.Bytes.{bytesOf}
-use Rattle.laws.specs.Lists.{gather, table}
-use Rattle.text.specs.Digits.{digits, lineText, fieldsText}
-use Rattle.text.specs.Fields.{lineFeed}
+use Rattle.laws.specs.Lists.{sum, gather, table}
+use Rattle.text.specs.Digits.{digits, lineText}
 use Rattle.board.specs.declared.Board.{Board}
 use Rattle.board.specs.Records.{connected}
 use Rattle.description.specs.Reader.{readText}
-use Rattle.quote.specs.Waits.{waitOf, serveOf}
+use Rattle.quote.specs.Waits.{quotedWait, serveOf}
 
 -- a 64-bit number, "lowest byte first"
 unfoldable pub bytes64 : ℕ → List ℕ
 bytes64 n = table (λ i. n / 256 ^ i % 256) 8
 
+-- the number that the first 8 bytes of a slice spell, the lowest first
+abbrev pub spelled : List ℕ → ℕ
+spelled bytes = sum (λ i. getD bytes i 0 * 256 ^ i) 8
+
 -- "It writes them to a lent slice as two 64-bit numbers": wait and serve
 unfoldable pub pairBytes : Board → ℕ → ℕ → List ℕ
-pairBytes b m s = bytes64 (waitOf b m s) ++ bytes64 (serveOf b m s)
+pairBytes b m s = bytes64 (quotedWait b m s) ++ bytes64 (serveOf b m s)
 
--- the refusal of a wait call, or 0: the text's, 10, 11, 16
+-- the refusal of a pair that a wait is looked up for, or 0: "11 no such master", "16 .. for a wait no such connected slave"
+unfoldable pub pairRefusal : Board → ℕ → ℕ → ℕ
+pairRefusal b m s = cond (leb (b .«master_count») m) 11 (cond (not (connected b m s)) 16 0)
+
+-- the refusal of a wait call, or 0: the text's, 10, the pair's
 unfoldable pub waitRefusal : List ℕ → ℕ → ℕ → List ℕ → ℕ
 waitRefusal text m s out =
     let r = readText text in
     cond (not (eqb (r .number) 0)) (r .number)
     (cond (ltb (length out) 16) 10
-    (cond (leb (r .board .«master_count») m) 11
-    (cond (not (connected (r .board) m s)) 16
-    0)))
+    (pairRefusal (r .board) m s))
 
 -- the lent slice after a wait call: "in a longer one the bytes behind stay unchanged"
 unfoldable pub waitOutput : List ℕ → ℕ → ℕ → List ℕ → List ℕ
@@ -44,11 +49,14 @@ heading = bytesOf "master,slave,wait,serve\n"
 -- "one line per connected pair": master, slave, wait, serve
 unfoldable pub pairLine : Board → ℕ → ℕ → List ℕ
 pairLine b m s =
-    cond (connected b m s) (lineText (digits m) (s ∷ waitOf b m s ∷ serveOf b m s ∷ [])) []
+    cond (connected b m s) (lineText (digits m) (s ∷ quotedWait b m s ∷ serveOf b m s ∷ [])) []
 
 -- "by master, then slave"
+unfoldable pub pairLines : Board → List ℕ
+pairLines b = gather (λ m. gather (pairLine b m) (b .«slave_count»)) (b .«master_count»)
+
 unfoldable pub tableText : Board → List ℕ
-tableText b = heading ++ gather (λ m. gather (pairLine b m) (b .«slave_count»)) (b .«master_count»)
+tableText b = heading ++ pairLines b
 
 -- "For a refused text it prints `refused,`, the number and a line feed."
 unfoldable pub refusedText : ℕ → List ℕ

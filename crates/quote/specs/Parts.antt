@@ -5,15 +5,14 @@ use mathlib.Core.List.{List, [], _∷_}
 use Prim.Native.Nat.{ℕ, _+_, _*_}
 use lib.Dec.{ltb, eqb}
 use lib.ListN.{getD}
-use Rattle.laws.specs.Lists.{sum, gather}
+use Rattle.laws.specs.Lists.{sum}
 use Rattle.board.specs.declared.Master.{Master}
 use Rattle.board.specs.declared.Slave.{Slave}
 use Rattle.board.specs.declared.Board.{Board}
 use Rattle.board.specs.Records.{noMaster}
 use Rattle.text.specs.Digits.{digits, lineText}
 use Rattle.quote.specs.declared.Quote.{Quote}
-use Rattle.quote.specs.Waits.{longest, serve, turn}
-use Rattle.quote.specs.Answers.{pairLine}
+use Rattle.quote.specs.Waits.{longestAccess, serve, turn, quotedWait, serveOf}
 
 -- a master's turn, where another waits for it
 unfoldable pub turnUnless : Bool → Master → Slave → ℕ → ℕ → ℕ
@@ -31,13 +30,13 @@ turnsAmong masters shares sl v m s count = sum (turnAmong masters shares sl v m 
 -- wait and serve of a pair there
 unfoldable pub quoteAmong : List Master → List ℕ → Slave → ℕ → ℕ → ℕ → Quote
 quoteAmong masters shares sl m s count = record {
-  wait = turnsAmong masters shares sl (longest sl) m s count;
-  serve = serve (getD masters m noMaster) sl (longest sl);
+  wait = turnsAmong masters shares sl (longestAccess sl) m s count;
+  serve = serve (getD masters m noMaster) sl (longestAccess sl);
 }
 
--- the lines of the table below its heading
-unfoldable pub pairLines : Board → List ℕ
-pairLines b = gather (λ m. gather (pairLine b m) (b .«slave_count»)) (b .«master_count»)
+-- wait and serve of a pair of a board
+unfoldable pub figuresOf : Board → ℕ → ℕ → Quote
+figuresOf b m s = record { wait = quotedWait b m s; serve = serveOf b m s }
 
 -- a line of the table
 unfoldable pub quoteLine : ℕ → ℕ → Quote → List ℕ

@@ -1,6 +1,6 @@
 -- The quoted wait.
 -- Assumes nothing.
-use mathlib.Core.Bool.{Bool, cond, not, _&&_}
+use mathlib.Core.Bool.{cond, not, _&&_}
 use Prim.Native.Nat.{ℕ, _+_, _-_, _*_, _/_, min, max}
 use lib.Dec.{eqb}
 use Rattle.laws.specs.Lists.{sum}
@@ -10,9 +10,9 @@ use Rattle.board.specs.declared.Board.{Board}
 use Rattle.board.specs.Records.{masterAt, slaveAt, sharesAt, connected}
 use Rattle.geometry.specs.Accesses.{ratio}
 
--- "Let v be 1 plus the longer of the slave's two waits"
-unfoldable pub longest : Slave → ℕ
-longest sl = 1 + max (sl .«read_wait») (sl .«write_wait»)
+-- "Let v be 1 plus the longer of the slave's two waits": the clocks of one access at its longest
+unfoldable pub longestAccess : Slave → ℕ
+longestAccess sl = 1 + max (sl .«read_wait») (sl .«write_wait»)
 
 -- "n the smaller of the master's burst and span divided by master width"
 unfoldable pub mostBeats : Master → Slave → ℕ
@@ -40,8 +40,8 @@ unfoldable pub turnsOf : Board → ℕ → ℕ → ℕ → ℕ
 turnsOf b v m s = sum (otherTurn b v m s) (b .«master_count»)
 
 -- "The wait of a master at a slave is the sum of the turns of all other masters connected there."
-unfoldable pub waitOf : Board → ℕ → ℕ → ℕ
-waitOf b m s = turnsOf b (longest (slaveAt b s)) m s
+unfoldable pub quotedWait : Board → ℕ → ℕ → ℕ
+quotedWait b m s = turnsOf b (longestAccess (slaveAt b s)) m s
 
 unfoldable pub serveOf : Board → ℕ → ℕ → ℕ
-serveOf b m s = serve (masterAt b m) (slaveAt b s) (longest (slaveAt b s))
+serveOf b m s = serve (masterAt b m) (slaveAt b s) (longestAccess (slaveAt b s))

@@ -8,13 +8,20 @@ ghost use Prim.Native.Nat.{_+_, _≤_};
 ghost use lib.ListN.{length, getD};
 ghost use Rattle.board.specs.Records.{noMaster, noSlave, connected};
 ghost use Rattle.text.specs.Scanning.{Put};
-ghost use Rattle.quote.specs.Waits.{longest, mostBeats, single, serve, turn, turnsOf};
-ghost use Rattle.quote.specs.Parts.{turnUnless, turnsAmong, quoteAmong, quoteLine, lineAmong, pairLines};
-ghost use Rattle.quote.specs.Answers.{bytes64, waitRefusal, waitOutput, printed};
+ghost use Rattle.quote.specs.Waits.{longestAccess, mostBeats, single, serve, turn, turnsOf};
+ghost use Rattle.quote.specs.Parts.{turnUnless, turnsAmong, quoteAmong, figuresOf, quoteLine, lineAmong};
+ghost use Rattle.quote.specs.Answers.{bytes64, pairRefusal, waitRefusal, waitOutput, pairLines, printed};
 ghost use Rattle.quote.specs.Calls.{quoteOf, printAnswer, printOutput};
 
 // Wait and serve of a pair, in clocks.
-pub struct Quote {
+struct Quote {
+    wait: u64,
+    serve: u64,
+}
+
+// A refusal's number and zeros, or 0 with wait and serve of a pair, in clocks.
+pub struct Quoted {
+    pub number: u8,
     pub wait: u64,
     pub serve: u64,
 }
@@ -26,8 +33,8 @@ pub struct Printed {
 }
 
 // The clocks of one access at most: 1 and the longer of the slave's two waits.
-pub fn longest(sl: Slave) -> u32
-    ensures { λ r. ⌜ r ≡ longest sl ⌝ }
+pub fn longest_access(sl: Slave) -> u32
+    ensures { λ r. ⌜ r ≡ longestAccess sl ⌝ }
 {
     if sl.read_wait < sl.write_wait {
         return 1 + (sl.write_wait as u32);
@@ -155,7 +162,7 @@ fn turns_among(
 fn quote_among(masters: [Master; 8], count: u8, shares: &[u8], sl: Slave, m: u32, s: u32) -> Quote
     ensures { λ q. ⌜ q ≡ quoteAmong masters (now (shares .entry)) sl m s count ⌝ }
 {
-    let v = longest(sl);
+    let v = longest_access(sl);
     let wait = turns_among(masters, count, shares, sl, v, m, s);
     let ma = master_at(masters, m);
     Quote {
@@ -165,7 +172,7 @@ fn quote_among(masters: [Master; 8], count: u8, shares: &[u8], sl: Slave, m: u32
 }
 
 // The turns of the other masters connected to slave s, for any v.
-pub fn turns(b: Board, v: u32, m: u32, s: u32) -> u64
+fn turns(b: Board, v: u32, m: u32, s: u32) -> u64
     ensures { λ r. ⌜ r ≡ turnsOf b v m s ⌝ }
 {
     if b.slave_count as u32 <= s {
@@ -185,14 +192,14 @@ pub fn turns(b: Board, v: u32, m: u32, s: u32) -> u64
     )
 }
 
-// Wait and serve of master m at slave s of a board.
-pub fn quote_of(b: Board, m: u32, s: u32) -> Quote
-    ensures { λ q. ⌜ q ≡ quoteOf b m s ⌝ }
+// Wait and serve of master m at slave s, for any board and any two numbers.
+fn figures(b: Board, m: u32, s: u32) -> Quote
+    ensures { λ q. ⌜ q ≡ figuresOf b m s ⌝ }
 {
     let masters = b.masters;
     let slaves = b.slaves;
     let sl = slave_at(slaves, s);
-    let v = longest(sl);
+    let v = longest_access(sl);
     let wait = turns(b, v, m, s);
     let ma = master_at(masters, m);
     Quote {
@@ -293,6 +300,47 @@ fn is_connected(b: Board, m: u32, s: u32) -> bool
     0 < share_at(&shares, 16 * (m as u64) + (s as u64))
 }
 
+// What a pair that a wait is looked up for is refused for, or 0.
+fn pair_refusal(b: Board, m: u32, s: u32) -> u8
+    ensures { λ r. ⌜ r ≡ pairRefusal b m s ⌝ }
+{
+    if b.master_count as u32 <= m {
+        return 11;
+    }
+    if !is_connected(b, m, s) {
+        return 16;
+    }
+    0
+}
+
+// Wait and serve of a pair of a board. The board need not come through the reader: its own lines are checked first.
+pub fn quote_of(board: Board, master: u32, slave: u32) -> Quoted
+    ensures { λ q. ⌜ q ≡ quoteOf board master slave ⌝ }
+{
+    let unfit = board::refusal(board);
+    if unfit != 0 {
+        return Quoted {
+            number: unfit,
+            wait: 0,
+            serve: 0,
+        };
+    }
+    let number = pair_refusal(board, master, slave);
+    if number != 0 {
+        return Quoted {
+            number: number,
+            wait: 0,
+            serve: 0,
+        };
+    }
+    let q = figures(board, master, slave);
+    Quoted {
+        number: 0,
+        wait: q.wait,
+        serve: q.serve,
+    }
+}
+
 // Wait and serve of master m at slave s of the board that a text describes, as 16 bytes at the front of out. The answer is 0,
 // or a refusal's number; then out is as it was.
 #[no_mangle]
@@ -308,13 +356,11 @@ pub extern "C" fn fabric_wait(text: &[u8], master: u32, slave: u32, out: &mut [u
         return 10;
     }
     let b = p.board;
-    if b.master_count as u32 <= master {
-        return 11;
+    let number = pair_refusal(b, master, slave);
+    if number != 0 {
+        return number as u32;
     }
-    if !is_connected(b, master, slave) {
-        return 16;
-    }
-    let q = quote_of(b, master, slave);
+    let q = figures(b, master, slave);
     put_figures(&mut *out, q);
     0
 }

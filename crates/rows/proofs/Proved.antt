@@ -5,7 +5,7 @@ use lib.Count.{ones, onesIn, trailingZeros}
 use Rattle.laws.specs.Bytes.{bytesOf}
 use Rattle.laws.specs.Bits.{bit}
 use Rattle.laws.specs.Lists.{member, same, gather, table, sum, every, some, firstFrom, first}
-use Rattle.text.specs.Fields.{push, split, isDigit, scan, shaped, numberOf, noNumbers, withNumber, collect, numbersOf}
+use Rattle.text.specs.Fields.{push, split, isDigit, scan, shaped, numberOf, numberRefusal, numberValue, noNumbers, withNumber, collect, numbersOf}
 use Rattle.text.specs.Digits.{digitsIn, digits, fieldsText, lineText}
 use Rattle.board.specs.Records.{noBoard, connected, totalSpan, startOf, memoryLength}
 use Rattle.board.specs.Rules.{slaveValues, meets, overlaps, masterRefusal, slaveRefusal, shareRefusal, itemRefusal, withMaster, withSlave, withShare, withItem, isShare, refused, start, taken, step, run, finish, described}
@@ -29,79 +29,73 @@ use Rattle.state.specs.Resetting.{slotAtReset, stateAtReset}
 use Rattle.state.specs.Posting.{stateWith}
 use Rattle.fabric.specs.Calls.{reset, wrongWords, postRefusal, post, bufferAfterPost, clockRefusal, clock, storeAfterClock, afterPost, afterClock}
 use Rattle.quote.specs.Waits as quoted
-use Rattle.quote.specs.Answers.{bytes64, pairBytes, waitRefusal, waitOutput, heading, pairLine, tableText, refusedText, printed}
+use Rattle.quote.specs.Calls.{quoteRefusal, quoteOf}
+use Rattle.quote.specs.Answers.{bytes64, pairBytes, pairRefusal, waitRefusal, waitOutput, heading, pairLine, pairLines, tableText, refusedText, printed}
 use Rattle.rows.specs.Runs.{runs, started, lineNow, phases, grants}
 use Rattle.rows.specs.Examples.{readAnswers, slaveAnswers, Examples}
-use Rattle.rows.specs.Rows.{boardText, sharesText, tableOutput, masterOf, slaveOf, burstOf, wordRead, Rows}
+use Rattle.rows.specs.Rows.{boardText, sharesText, tableOutput, Rows}
+
+-- one list of definitions for both tables
+proved : Rows × Examples
+unfolding
+    ones onesIn trailingZeros bytesOf bit member same gather table sum every some firstFrom first
+    push split isDigit scan shaped numberOf numberRefusal numberValue noNumbers withNumber collect numbersOf digitsIn digits fieldsText lineText
+    noBoard connected totalSpan startOf memoryLength
+    slaveValues meets overlaps masterRefusal slaveRefusal shareRefusal itemRefusal withMaster withSlave withShare withItem isShare
+    refused start taken step run finish described masterItem slaveItem shareItem items checkBoard
+    masterLine slaveLine shareLine itemOfFields itemOf unended itemsOfPieces itemsOf reading readText
+    lowest adjacent legalLanes postLanes agrees selects targetOf
+    ratio accesses accessBytes firstByte accessOffset wordOffset writeLanes slaveLanes waitOf ownLength runLimit placeOf runOf
+    above tried chosen kept grantTo granted move posted enabled memoryPlace written fetched accessed
+    noState wrongBeats unaligned wrongLanes unmapped passesEnd transferRefusal
+    requests soundTransfer soundOwner soundRemaining soundService soundRest soundSlot sound
+    grantAt slotGranted slotAfterGrant lineOf waits slotWaiting slotAccessed slotFinished served stepOf lineAfter slotAfter finishes
+    finished maskOf transferAfter stateAfter linesOf carriesOut carried carriedBy storeAfter
+    slotAtReset stateAtReset reset wrongWords postRefusal stateWith post bufferAfterPost clockRefusal clock storeAfterClock
+    quoted.longestAccess quoted.mostBeats quoted.single quoted.serve quoted.turn quoted.otherTurn quoted.turnsOf quoted.quotedWait quoted.serveOf
+    heading pairLine pairLines tableText refusedText printed runs started afterPost afterClock lineNow phases grants
+    boardText sharesText tableOutput
+    itemText itemsText writeText bytes64 pairBytes pairRefusal waitRefusal waitOutput quoteRefusal quoteOf readAnswers slaveAnswers
+proved = (
+  record {
+    sixteen = refl;
+    fourteen = refl;
+    ones = refl;
+    wider = refl;
+    upperHalf = refl;
+    middle = refl;
+    whole = refl;
+    none = refl;
+    shares = refl;
+    lines = refl;
+    alone = refl;
+  },
+  record {
+    lastWord = refl;
+    pastEnd = refl;
+    odd = refl;
+    nobody = refl;
+    tooMany = refl;
+    noBeat = refl;
+    eight = refl;
+    four = refl;
+    shifted = refl;
+    emptyText = refl;
+    emptyLine = refl;
+    unconnected = refl;
+    written = refl;
+    pair = refl;
+    short = refl;
+    noMaster = refl;
+    noSlave = refl;
+    quoted = refl;
+    quotedMaster = refl;
+    quotedSlave = refl;
+  },
+)
 
 pub rows : Rows
-unfolding
-    ones onesIn trailingZeros bytesOf bit member same gather table sum every some firstFrom first
-    push split isDigit scan shaped numberOf noNumbers withNumber collect numbersOf digitsIn digits fieldsText lineText
-    noBoard connected totalSpan startOf memoryLength
-    slaveValues meets overlaps masterRefusal slaveRefusal shareRefusal itemRefusal withMaster withSlave withShare withItem isShare
-    refused start taken step run finish described masterItem slaveItem shareItem items checkBoard
-    masterLine slaveLine shareLine itemOfFields itemOf unended itemsOfPieces itemsOf reading readText
-    lowest adjacent legalLanes postLanes agrees selects targetOf
-    ratio accesses accessBytes firstByte accessOffset wordOffset writeLanes slaveLanes waitOf ownLength runLimit placeOf runOf
-    above tried chosen kept grantTo granted move posted enabled memoryPlace written fetched accessed
-    noState wrongBeats unaligned wrongLanes unmapped passesEnd transferRefusal
-    requests soundTransfer soundOwner soundRemaining soundService soundRest soundSlot sound
-    grantAt slotGranted slotAfterGrant lineOf waits slotWaiting slotAccessed slotFinished served stepOf lineAfter slotAfter finishes
-    finished maskOf transferAfter stateAfter linesOf carriesOut carried carriedBy storeAfter
-    slotAtReset stateAtReset reset wrongWords postRefusal stateWith post bufferAfterPost clockRefusal clock storeAfterClock
-    quoted.longest quoted.mostBeats quoted.single quoted.serve quoted.turn quoted.otherTurn quoted.turnsOf quoted.waitOf quoted.serveOf
-    heading pairLine tableText refusedText printed runs started afterPost afterClock lineNow phases grants
-    boardText sharesText tableOutput
-rows = record {
-  sixteen = refl;
-  fourteen = refl;
-  ones = refl;
-  wider = refl;
-  upperHalf = refl;
-  middle = refl;
-  whole = refl;
-  none = refl;
-  shares = refl;
-  lines = refl;
-  alone = refl;
-}
+rows = proved .0
 
 pub examples : Examples
-unfolding
-    ones onesIn trailingZeros bytesOf bit member same gather table sum every some firstFrom first
-    push split isDigit scan shaped numberOf noNumbers withNumber collect numbersOf digitsIn digits fieldsText lineText
-    noBoard connected totalSpan startOf memoryLength
-    slaveValues meets overlaps masterRefusal slaveRefusal shareRefusal itemRefusal withMaster withSlave withShare withItem isShare
-    refused start taken step run finish described masterItem slaveItem shareItem items checkBoard
-    masterLine slaveLine shareLine itemOfFields itemOf unended itemsOfPieces itemsOf reading readText
-    lowest adjacent legalLanes postLanes agrees selects targetOf
-    ratio accesses accessBytes firstByte accessOffset wordOffset writeLanes slaveLanes waitOf ownLength runLimit placeOf runOf
-    above tried chosen kept grantTo granted move posted enabled memoryPlace written fetched accessed
-    noState wrongBeats unaligned wrongLanes unmapped passesEnd transferRefusal
-    requests soundTransfer soundOwner soundRemaining soundService soundRest soundSlot sound
-    grantAt slotGranted slotAfterGrant lineOf waits slotWaiting slotAccessed slotFinished served stepOf lineAfter slotAfter finishes
-    finished maskOf transferAfter stateAfter linesOf carriesOut carried carriedBy storeAfter
-    slotAtReset stateAtReset reset wrongWords postRefusal stateWith post bufferAfterPost clockRefusal clock storeAfterClock
-    quoted.longest quoted.mostBeats quoted.single quoted.serve quoted.turn quoted.otherTurn quoted.turnsOf quoted.waitOf quoted.serveOf
-    heading pairLine tableText refusedText printed runs started afterPost afterClock lineNow phases grants
-    boardText itemText itemsText writeText bytes64 pairBytes waitRefusal waitOutput readAnswers slaveAnswers
-examples = record {
-  lastWord = refl;
-  pastEnd = refl;
-  odd = refl;
-  nobody = refl;
-  tooMany = refl;
-  noBeat = refl;
-  eight = refl;
-  four = refl;
-  shifted = refl;
-  emptyText = refl;
-  emptyLine = refl;
-  unconnected = refl;
-  written = refl;
-  pair = refl;
-  short = refl;
-  noMaster = refl;
-  noSlave = refl;
-}
+examples = proved .1

@@ -1,16 +1,16 @@
 -- The other rows of document 01, and some sentences of it, at its board.
 -- Assumes nothing.
 use mathlib.Core.Path.{_≡_}
-use mathlib.Core.Bool.{true, false}
+use mathlib.Core.Bool.{false}
 use mathlib.Core.List.{List, [], _∷_, _++_}
 use Prim.Native.Nat.{ℕ}
 use lib.ListN.{replicate}
 use Rattle.laws.specs.Bytes.{bytesOf}
 use Rattle.description.specs.Reader.{readText}
 use Rattle.description.specs.Writer.{writeText}
-use Rattle.state.specs.Posting.{Request}
-use Rattle.fabric.specs.Calls.{World, post}
+use Rattle.fabric.specs.Calls.{post}
 use Rattle.quote.specs.Answers.{waitRefusal, waitOutput, printed}
+use Rattle.quote.specs.Calls.{quoteOf}
 use Rattle.rows.specs.Runs.{started}
 use Rattle.rows.specs.Rows.{boardText}
 
@@ -50,3 +50,7 @@ pub record Examples : Type 0 where
   pub short : waitRefusal boardText 0 0 (replicate 15 9) ≡ 10
   pub noMaster : waitRefusal boardText 2 0 (replicate 16 9) ≡ 11
   pub noSlave : waitRefusal boardText 0 1 (replicate 16 9) ≡ 16
+  -- the same figures from the board itself; at a refusal "all other values handed back are 0"
+  pub quoted : quoteOf (readText boardText .board) 0 0 ≡ record { number = 0; wait = 6; serve = 32 }
+  pub quotedMaster : quoteOf (readText boardText .board) 2 0 ≡ record { number = 11; wait = 0; serve = 0 }
+  pub quotedSlave : quoteOf (readText boardText .board) 0 1 ≡ record { number = 16; wait = 0; serve = 0 }

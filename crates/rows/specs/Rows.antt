@@ -1,14 +1,13 @@
 -- The rows of document 01 that are marked P, as one table.
 -- Assumes nothing.
 use mathlib.Core.Path.{_≡_}
-use mathlib.Core.Bool.{Bool, true, false}
-use mathlib.Core.List.{List, [], _∷_, _++_}
+use mathlib.Core.Bool.{true, false}
+use mathlib.Core.List.{List, [], _∷_}
 use Prim.Native.Nat.{ℕ}
 use lib.ListN.{replicate}
 use Rattle.laws.specs.Bytes.{bytesOf}
 use Rattle.board.specs.declared.Master.{Master}
 use Rattle.board.specs.declared.Slave.{Slave}
-use Rattle.board.specs.declared.Board.{Board}
 use Rattle.geometry.specs.declared.Transfer.{Transfer}
 use Rattle.geometry.specs.Lanes.{legalLanes}
 use Rattle.description.specs.Reader.{readText}
@@ -30,14 +29,14 @@ unfoldable pub tableOutput : List ℕ
 tableOutput = bytesOf "master,slave,wait,serve\n0,0,6,32\n1,0,36,2\n"
 
 -- a master and a slave of the given widths, and a burst of some beats
-abbrev pub masterOf : ℕ → Master
-masterOf w = record { width = w; burst = 16 }
+abbrev pub masterWith : ℕ → Master
+masterWith w = record { width = w; burst = 16 }
 
-abbrev pub slaveOf : ℕ → ℕ → Slave
-slaveOf w u = record { base = 0; span = 4096; width = w; burst = u; «read_wait» = 0; «write_wait» = 0 }
+abbrev pub slaveWith : ℕ → ℕ → Slave
+slaveWith w u = record { base = 0; span = 4096; width = w; burst = u; «read_wait» = 0; «write_wait» = 0 }
 
-abbrev pub burstOf : ℕ → ℕ → Transfer
-burstOf ones n = record { held = true; write = false; address = 0; lanes = ones; beats = n }
+abbrev pub burstWith : ℕ → ℕ → Transfer
+burstWith ones n = record { held = true; write = false; address = 0; lanes = ones; beats = n }
 
 -- master m reads one word from the slave's first address
 abbrev pub wordRead : ℕ → ℕ → Request
@@ -45,11 +44,11 @@ wordRead m ones = record { master = m; write = false; address = 4096; lanes = on
 
 pub record Rows : Type 0 where
   -- "16 accesses, slave burst 8: runs 8, 8; 14: 8, 6; 16 with burst 1: sixteen of 1"
-  pub sixteen : runs (masterOf 4) (slaveOf 4 8) (burstOf 15 16) ≡ 8 ∷ 8 ∷ []
-  pub fourteen : runs (masterOf 4) (slaveOf 4 8) (burstOf 15 14) ≡ 8 ∷ 6 ∷ []
-  pub ones : runs (masterOf 4) (slaveOf 4 1) (burstOf 15 16) ≡ replicate 16 1
+  pub sixteen : runs (masterWith 4) (slaveWith 4 8) (burstWith 15 16) ≡ 8 ∷ 8 ∷ []
+  pub fourteen : runs (masterWith 4) (slaveWith 4 8) (burstWith 15 14) ≡ 8 ∷ 6 ∷ []
+  pub ones : runs (masterWith 4) (slaveWith 4 1) (burstWith 15 16) ≡ replicate 16 1
   -- "width 4 master, 3 beats, width 2 slave, burst 4: runs 4, 2"
-  pub wider : runs (masterOf 4) (slaveOf 2 4) (burstOf 15 3) ≡ 4 ∷ 2 ∷ []
+  pub wider : runs (masterWith 4) (slaveWith 2 4) (burstWith 15 3) ≡ 4 ∷ 2 ∷ []
   -- "lanes at width 4: binary 1100 legal, 0110 not, 1111 legal, 0000 not"
   pub upperHalf : legalLanes 4 0b1100 ≡ true
   pub middle : legalLanes 4 0b0110 ≡ false

@@ -1,6 +1,6 @@
 -- The calls of a row, one after another, by the definitions that the contracts cite.
 -- Assumes nothing.
-use mathlib.Core.Bool.{Bool, true, false, cond, not, _&&_}
+use mathlib.Core.Bool.{cond, not, _&&_}
 use mathlib.Core.List.{List, [], _∷_}
 use Prim.Native.Nat.{ℕ, zero, suc}
 use lib.Dec.{ltb, eqb}
@@ -13,7 +13,7 @@ use Rattle.board.specs.Records.{memoryLength}
 use Rattle.geometry.specs.declared.Transfer.{Transfer}
 use Rattle.geometry.specs.Accesses.{accesses}
 use Rattle.geometry.specs.Runs.{placeOf, runOf}
-use Rattle.moves.specs.Bytes.{Store, bufferLength}
+use Rattle.moves.specs.Bytes.{bufferLength}
 use Rattle.state.specs.declared.Line.{Line}
 use Rattle.state.specs.Records.{noLine, slotAt}
 use Rattle.state.specs.Posting.{Request}

@@ -4,11 +4,11 @@ ghost use lib.ListN.{length};
 ghost use Rattle.io.specs.Counts.{Counts};
 use crate::answers;
 use crate::answers::ROOM;
+use crate::explain;
 use crate::run;
 use crate::world;
 use crate::world::World;
 use board::Board;
-use libc::STDERR_FILENO;
 use libc::STDIN_FILENO;
 
 // Where the bytes end after a read, and whether it failed.
@@ -173,9 +173,7 @@ fn finish(w: World, out: &mut [u8; ROOM]) {
     }
     answers::flush(&*out, output);
     if w.malformed {
-        io::write_all(STDERR_FILENO, b"line ");
-        io::print_decimal(STDERR_FILENO, w.line);
-        io::write_all(STDERR_FILENO, b" is not a line of a script\n");
+        explain::malformed(w.line);
     }
 }
 

@@ -1,6 +1,7 @@
 // Runs a bus fabric clock by clock: `simulate BOARD < SCRIPT`. BOARD names a description's file, the script's lines say
 // what to do. `simulate --help` lists what the refusals' numbers mean.
 mod answers;
+mod explain;
 mod input;
 mod lending;
 mod overwrite;

@@ -1,8 +1,10 @@
 // What each line of a script does.
 ghost use Prim.Native.Nat.{_<_};
+ghost use lib.ListN.{length};
 use crate::answers;
 use crate::answers::Output;
 use crate::answers::ROOM;
+use crate::explain;
 use crate::lending;
 use crate::overwrite;
 use crate::world;
@@ -12,13 +14,21 @@ use script::Command;
 use script::Count;
 use script::Store;
 
+// Prints what a reset or a post answered, and explains a refusal.
+fn answered(w: World, out: &mut [u8; ROOM], word: &[u8], number: u8) -> World
+    requires { ⌜ length (now word) < 900 ⌝ }
+{
+    let before = w.output;
+    let printed = answers::put_line(&mut *out, before, word, &[number as u64]);
+    let output = explain::call(&*out, printed, w.line, number);
+    world::printed(w, output)
+}
+
 fn run_reset(w: World, out: &mut [u8; ROOM]) -> World {
     let board = w.board;
-    let before = w.output;
     let started = fabric::reset(board);
     let state = started.state;
-    let output = answers::put_line(out, before, b"reset", &[started.number as u64]);
-    world::printed(world::with_state(w, state), output)
+    answered(world::with_state(w, state), out, b"reset", started.number)
 }
 
 fn post_bytes(
@@ -31,7 +41,6 @@ fn post_bytes(
 ) -> World {
     let board = w.board;
     let state = w.state;
-    let before = w.output;
     let posted = fabric::post(
         board,
         state,
@@ -44,8 +53,7 @@ fn post_bytes(
         bytes,
     );
     let after = posted.state;
-    let output = answers::put_line(out, before, b"post", &[posted.number as u64]);
-    world::printed(world::with_state(w, after), output)
+    answered(world::with_state(w, after), out, b"post", posted.number)
 }
 
 fn run_post(
@@ -81,7 +89,8 @@ fn left_after(left: u32, output: Output) -> u32
     left - 1
 }
 
-// `count` clocks, each with its answer.
+// `count` clocks, each with its answer. A refused clock changes nothing, so that those behind it are refused alike: the last
+// one's number explains them all.
 fn run_clock(
     w: World,
     memory: &mut [u8],
@@ -93,14 +102,17 @@ fn run_clock(
     let slave_count = board.slave_count;
     let mut state = w.state;
     let mut output = w.output;
+    let mut number: u8 = 0;
     let mut left = count;
     while 0 < left {
         let c = fabric::clock(board, state, &mut *memory, &mut *buffer);
         let after = c.state;
         state = after;
+        number = c.number;
         output = answers::put_clock(&mut *out, output, c, slave_count);
         left = left_after(left, output);
     }
+    output = explain::call(&*out, output, w.line, number);
     world::printed(world::with_state(w, state), output)
 }
 
@@ -119,6 +131,14 @@ fn low_first(bytes: &[u8]) -> u64 {
     value
 }
 
+// A number of the wait call as the other calls answer theirs. None is above 18.
+fn narrow(number: u32) -> u8 {
+    if number < 256 {
+        return number as u8;
+    }
+    255
+}
+
 // The wait is that of the board as it was read. A refused call leaves the answer's zeros.
 fn run_wait(w: World, text: &[u8], out: &mut [u8; ROOM], master: u32, slave: u32) -> World {
     let mut answer = [0u8; 16];
@@ -127,7 +147,8 @@ fn run_wait(w: World, text: &[u8], out: &mut [u8; ROOM], master: u32, slave: u32
     let wait = low_first(&whole[0..8]);
     let serve = low_first(&whole[8..16]);
     let before = w.output;
-    let output = answers::put_line(out, before, b"wait", &[number as u64, wait, serve]);
+    let printed = answers::put_line(&mut *out, before, b"wait", &[number as u64, wait, serve]);
+    let output = explain::call(&*out, printed, w.line, narrow(number));
     world::printed(w, output)
 }
 

@@ -1,24 +1,25 @@
 -- Which slave a transfer is for: on an accepted board at most one, and what is true there of a transfer that post takes.
 -- Assumes nothing.
-use mathlib.Core.Path.{_≡_, refl, ap}
-use mathlib.Core.Bool.{Bool, true, false, cond, true≢false}
-use Prim.Native.Nat.{ℕ, _+_, _*_, _/_, _%_, _≤_, _<_}
-use native.Mathlib.Nat.{div-add-mod', mod-lt, div-eq-of-lt-le, le-div-iff-mul-le, mul-le-mul}
+use mathlib.Core.Path.{_≡_, refl}
+use mathlib.Core.Bool.{Bool, true, false, true≢false}
+use Prim.Native.Nat.{ℕ, _+_, _*_, _%_, _≤_, _<_}
 use native.Mathlib.Omega.{arith}
 use lib.Dec.{ltb, eqb}
-use borrow.Author.Tests.{lt-ltb, ltb-true, ltb-false, eq-eqb, eqb-true, eqb-false, not-false}
+use borrow.Author.Tests.{lt-ltb, ltb-true, ltb-false, eqb-true, eqb-false, not-false}
 use Rattle.laws.proofs.Tests.{both, neither, passed}
-use Rattle.laws.proofs.TableLaws.{member-each, First, first-is, first-only}
-use Rattle.board.specs.declared.Master.{Master}
+use Rattle.laws.proofs.TableLaws.{First, first-is, first-only}
 use Rattle.board.specs.declared.Slave.{Slave}
 use Rattle.board.specs.declared.Board.{Board}
 use Rattle.board.specs.Records.{masterAt, slaveAt, sharesAt, connected}
-use Rattle.board.specs.Rules.{widths, spans, meets}
-use Rattle.board.proofs.Legal.{LegalSlave, Legal}
+use Rattle.board.specs.Rules.{meets}
+use Rattle.board.specs.Legal.{LegalSlave, Legal}
+use Rattle.board.proofs.RuleLaws.{span-bound}
 use Rattle.geometry.specs.declared.Transfer.{Transfer}
 use Rattle.geometry.specs.Lanes.{postLanes}
 use Rattle.geometry.specs.Decoding.{agrees, selects, targetOf}
-use Rattle.geometry.specs.Accesses.{ratio, accesses}
+use Rattle.geometry.specs.Accesses.{accesses}
+use Rattle.geometry.proofs.DecodeLaws.{agrees-within, within-agrees, span-of}
+use Rattle.geometry.proofs.AccessLaws.{width-pos, accesses-pos}
 use Rattle.state.specs.declared.State.{State}
 use Rattle.state.specs.Records.{transferAt}
 use Rattle.state.specs.Posting.{wrongBeats, unaligned, wrongLanes, unmapped, passesEnd, transferRefusal}
@@ -31,46 +32,21 @@ pub record Inside (sl : Slave) (address : ℕ) : Type 0 where
 
 module _ (sl : Slave) (address : ℕ) (legal : LegalSlave sl) where
   pub span-pos : 0 < sl .span
-  span-pos = member-each (λ x. 0 < x) (sl .span) spans (omega arith) (legal .span)
+  span-pos = omega (arith, span-bound (sl .span) (legal .span) .0)
 
   pub agrees-inside : agrees sl address ≡ true → Inside sl address
-  unfolding agrees
   agrees-inside e =
-      let same : address / sl .span * sl .span ≡ sl .base / sl .span * sl .span
-      = ap (λ (x : ℕ). x * sl .span) (eqb-true (address / sl .span) (sl .base / sl .span) e) in
-      let whole = div-add-mod' (sl .base) (sl .span) in
-      let parts = div-add-mod' address (sl .span) in
-      let rest = mod-lt address span-pos in
-      let exact = legal .aligned in
-      record { low = omega arith; high = omega arith }
+      let p = agrees-within sl address (span-of (sl .span) (legal .span)) (legal .aligned) e in
+      record { low = p .0; high = p .1 }
 
   pub inside-agrees : Inside sl address → agrees sl address ≡ true
-  unfolding agrees
-  inside-agrees i =
-      let whole = div-add-mod' (sl .base) (sl .span) in
-      let exact = legal .aligned in
-      eq-eqb (address / sl .span) (sl .base / sl .span) (div-eq-of-lt-le (sl .span) (omega arith) (omega arith))
+  inside-agrees i = within-agrees sl address (span-of (sl .span) (legal .span)) (legal .aligned) (i .low) (i .high)
 
 -- master m is connected to slave s, and the address is one of that slave
 pub record Selected (b : Board) (m address s : ℕ) : Type 0 where
   pub within : s < b .«slave_count»
   pub shares : 0 < sharesAt b m s
   pub inside : Inside (slaveAt b s) address
-
--- the accesses of a transfer with beats are some
-pub ratio-pos : (ma : Master) (sl : Slave) → LegalSlave sl → 1 ≤ ratio ma sl
-unfolding ratio
-ratio-pos ma sl legal = go (ltb (sl .width) (ma .width)) refl
-  where
-    go : (c : Bool) → ltb (sl .width) (ma .width) ≡ c → 1 ≤ cond c (ma .width / sl .width) 1
-    go true e =
-        let wider = ltb-true (sl .width) (ma .width) e in
-        le-div-iff-mul-le (member-each (λ x. 0 < x) (sl .width) widths (omega arith) (legal .width)) .1 (omega arith)
-    go false e = omega arith
-
-pub accesses-pos : (ma : Master) (sl : Slave) (t : Transfer) → LegalSlave sl → 1 ≤ t .beats → 1 ≤ accesses ma sl t
-unfolding accesses
-accesses-pos ma sl t legal h = mul-le-mul h (ratio-pos ma sl legal)
 
 pub target-first : (b : Board) (m address : ℕ)
     → First (selects b m address) (b .«slave_count») (targetOf b m address)
@@ -196,7 +172,7 @@ module _ (b : Board) (legal : Legal b) (m : ℕ) (t : Transfer) (ok : transferRe
         shares = x .shares;
         low = x .inside .low;
         end = ltb-false (slaveAt b s .base + slaveAt b s .span) (t .address + t .beats * masterAt b m .width) (v .0);
-        accesses = accesses-pos (masterAt b m) (slaveAt b s) t (legal .slave s within) some;
+        accesses = accesses-pos (masterAt b m) (slaveAt b s) t (width-pos _ (legal .slave s within .width)) some;
       }
 
   -- and for each that it selects

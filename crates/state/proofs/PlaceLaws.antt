@@ -1,23 +1,21 @@
 -- Where the accesses of a sound state lie: in the slave's words, in the lent memory, in the master's part and words.
 -- Assumes nothing.
-use mathlib.Core.Path.{_≡_, refl, sym, _∙_, ap}
+use mathlib.Core.Path.{_≡_}
 use mathlib.Core.Bool.{true}
-use Prim.Native.Nat.{ℕ, suc, _+_, _-_, _*_, _%_, _≤_, _<_}
-use native.Mathlib.Nat.{mul-mod-left}
+use Prim.Native.Nat.{ℕ, _+_, _-_, _*_, _≤_, _<_}
 use native.Mathlib.Numerals.{add-one}
 use native.Mathlib.Omega.{arith}
 use lib.ListN.{length}
-use Rattle.laws.proofs.Arithmetic.{product-le, multiple-room}
-use Rattle.laws.proofs.TableLaws.{member-each}
+use Rattle.laws.proofs.Arithmetic.{product-le}
 use Rattle.board.specs.declared.Board.{Board}
 use Rattle.board.specs.Records.{masterAt, slaveAt, startOf, memoryLength}
-use Rattle.board.specs.Rules.{bursts, spans}
-use Rattle.board.proofs.Legal.{Legal}
-use Rattle.board.proofs.SpanLaws.{total-suc, total-fewer}
+use Rattle.board.specs.Legal.{Legal}
+use Rattle.board.proofs.RuleLaws.{burst-bound, span-bound}
+use Rattle.board.proofs.StartLaws as board
 use Rattle.geometry.specs.declared.Transfer.{Transfer}
-use Rattle.geometry.specs.Accesses.{accesses, accessBytes, firstByte, accessOffset, wordOffset, InWord}
+use Rattle.geometry.specs.Accesses.{accesses}
 use Rattle.geometry.proofs.DecodeLaws.{span-of}
-use Rattle.geometry.proofs.AccessLaws.{width-pos, width-le, base-aligned, bytes-divide-master, first-byte-within, offset-within}
+use Rattle.geometry.proofs.AccessLaws.{width-pos, width-le, base-aligned, first-in-word, first-byte-within}
 use Rattle.geometry.proofs.AccessLaws.{word-within, in-word}
 use Rattle.moves.specs.Bytes.{Store, bufferLength, memoryPlace}
 use Rattle.moves.specs.Reaching.{Reached}
@@ -29,14 +27,9 @@ use Rattle.state.proofs.Sound.{Sound}
 use Rattle.state.proofs.DecodeLaws.{Accepted}
 use Rattle.state.proofs.SoundLaws.{requester, grant-sound}
 
--- the span of a slave lies in the lent memory
+-- the spans one after another, as a loop counts the slaves
 pub start-next : (b : Board) (s : ℕ) → startOf b (s + 1) ≡ startOf b s + slaveAt b s .span
-unfolding startOf
-start-next b s = ap (λ (n : ℕ). startOf b n) (add-one s) ∙ total-suc (b .slaves) s
-
-pub start-within : (b : Board) (s : ℕ) → s < b .«slave_count» → startOf b s + slaveAt b s .span ≤ memoryLength b
-unfolding startOf memoryLength
-start-within b s h = omega (arith, total-suc (b .slaves) s, total-fewer (b .slaves) (b .«slave_count») (suc s) h)
+start-next b s = rw (add-one s) (board.start-next b s)
 
 -- access a of a transfer of master m that is not refused, at the slave s that it is for
 module _ (b : Board) (legal : Legal b) (m s : ℕ) (t : Transfer) (known : m < b .«master_count») (ok : Accepted b m t s)
@@ -49,11 +42,11 @@ module _ (b : Board) (legal : Legal b) (m s : ℕ) (t : Transfer) (known : m < b
       let wm = legal .master m known .width in
       let sl = legal .slave s (ok .within) in
       let span = span-of (slaveAt b s .span) (sl .span) in
-      let far : slaveAt b s .span ≤ 65536 = member-each (λ x. x ≤ 65536) (slaveAt b s .span) spans (omega arith) (sl .span) in
+      let far : slaveAt b s .span ≤ 65536 = span-bound (slaveAt b s .span) (sl .span) .1 in
       record {
         left = more;
         word = in-word (masterAt b m) (slaveAt b s) wm (sl .width) t a (ok .aligned)
-            (base-aligned (slaveAt b s) (sl .width) span (sl .aligned));
+            (base-aligned (slaveAt b s .base) (slaveAt b s .span) (slaveAt b s .width) (sl .aligned) (sl .span) (sl .width));
         offset = omega (
           arith,
           word-within (masterAt b m) (slaveAt b s) wm (sl .width) t a more ends span,
@@ -63,12 +56,11 @@ module _ (b : Board) (legal : Legal b) (m s : ℕ) (t : Transfer) (known : m < b
 
   pub accepted-reached : (d : Store) → b .«master_count» ≤ 8 → length (d .memory) ≡ memoryLength b → length (d .buffer) ≡ bufferLength
       → Reached (masterAt b m) (slaveAt b s) t m (startOf b s) a d
-  unfolding memoryPlace firstByte
+  unfolding memoryPlace
   accepted-reached d few p q =
       let wm = legal .master m known .width in
       let ws = legal .slave s (ok .within) .width in
-      let burst : masterAt b m .burst ≤ 64
-      = member-each (λ x. x ≤ 64) (masterAt b m .burst) bursts (omega arith) (legal .master m known .burst) in
+      let burst : masterAt b m .burst ≤ 64 = burst-bound (masterAt b m .burst) (legal .master m known .burst) .1 in
       let words : t .beats * masterAt b m .width ≤ 64 * 8
       = product-le (t .beats) (masterAt b m .width) 64 8 (omega (arith, ok .few)) (width-le (masterAt b m .width) wm) in
       let inside = first-byte-within (masterAt b m) (slaveAt b s) wm ws t a more in
@@ -77,12 +69,10 @@ module _ (b : Board) (legal : Legal b) (m s : ℕ) (t : Transfer) (known : m < b
         buffer = q;
         part = omega arith;
         address = ok .low;
-        memory = omega (arith, ends, start-within b s (ok .within));
+        memory = omega (arith, ends, board.end-inside b s (ok .within));
         some = width-pos (masterAt b m .width) wm;
         few = width-le (masterAt b m .width) wm;
-        word = multiple-room (a * accessBytes (masterAt b m) (slaveAt b s)) (accessBytes (masterAt b m) (slaveAt b s))
-            (masterAt b m .width) (width-pos (masterAt b m .width) wm) (mul-mod-left a (accessBytes (masterAt b m) (slaveAt b s)))
-            (bytes-divide-master (masterAt b m) (slaveAt b s) wm ws);
+        word = first-in-word (masterAt b m) (slaveAt b s) wm ws a;
       }
 
 -- so is the access of a slave that serves after rule 1

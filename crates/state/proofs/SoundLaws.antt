@@ -14,7 +14,7 @@ use Rattle.laws.proofs.Tests.{both}
 use Rattle.laws.proofs.TableLaws.{length-table, every-at, every-all}
 use Rattle.board.specs.declared.Board.{Board}
 use Rattle.board.specs.Records.{masterAt, slaveAt, sharesAt}
-use Rattle.board.proofs.Legal.{Legal}
+use Rattle.board.specs.Legal.{Legal}
 use Rattle.geometry.specs.declared.Transfer.{Transfer}
 use Rattle.geometry.specs.Accesses.{noTransfer, accesses, waitOf}
 use Rattle.arbiter.specs.declared.Grant.{Grant}
@@ -295,11 +295,6 @@ module _ (b : Board) (st : State) (legal : Legal b) (x : Sound b st) where
       let asks = rw (r .3) at (finished-asks (r .0) (r .1) (r .2)) in
       let same = requests-one b st m (r .0) s legal asks e in
       rw (← same) (r .2, r .3)
-
-  pub finished-held : (m : ℕ) → finished b st m ≡ true → transferAt st m .held ≡ true
-  finished-held m f =
-      let r = finished-by b st m f in
-      requests-held b st (r .0) m (rw (r .3) at (finished-asks (r .0) (r .1) (r .2)))
 
   -- a slave that goes on serving leaves its owner the transfer
   pub served-kept : (s : ℕ) → s < b .«slave_count» → slotAfterGrant b st s .serving ≡ true → stepOf b st s .finished ≡ false

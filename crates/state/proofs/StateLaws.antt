@@ -36,11 +36,6 @@ module _ (b : Board) (st : State) where
   unfolding stateAfter slotAfter
   slot-after s h l = getD-table (slotAfter b st) 16 noSlot s (omega arith) ∙ rw (lt-ltb s (b .«slave_count») h)
 
-  -- what is no slave of the board stays
-  pub slot-after-past : (s : ℕ) → b .«slave_count» ≤ s → s < 16 → slotAt (stateAfter b st) s ≡ slotAt st s
-  unfolding stateAfter slotAfter
-  slot-after-past s h l = getD-table (slotAfter b st) 16 noSlot s l ∙ rw (le-ltb s (b .«slave_count») h)
-
   pub line-after : (s : ℕ) → s < b .«slave_count» → b .«slave_count» ≤ 16 → getD (linesOf b st) s noLine ≡ stepOf b st s .line
   unfolding linesOf lineAfter
   line-after s h l = getD-table (lineAfter b st) 16 noLine s (omega arith) ∙ rw (lt-ltb s (b .«slave_count») h)

@@ -96,20 +96,6 @@ module _ (b : Board) (st : State) (s : ℕ) where
       go true e false h true l = let w = ltb-false _ _ h in let a = ltb-true _ _ l in works e w a (step-works e w a)
       go true e false h false l = let w = ltb-false _ _ h in let a = ltb-false _ _ l in ends e w a (step-ends e w a)
 
-  -- rules 2 and 3 leave owner and remaining grants
-  pub step-keeps : (stepOf b st s .slot .owner ≡ slotAfterGrant b st s .owner)
-      × (stepOf b st s .slot .remaining ≡ slotAfterGrant b st s .remaining)
-  unfolding slotWaiting slotAccessed slotFinished
-  step-keeps = go turn
-    where
-      go : Turn b st s
-          → (stepOf b st s .slot .owner ≡ slotAfterGrant b st s .owner)
-          × (stepOf b st s .slot .remaining ≡ slotAfterGrant b st s .remaining)
-      go (rests e q) = (rw q, rw q)
-      go (waiting e h q) = (rw q, rw q)
-      go (works e h l q) = (rw q, rw q)
-      go (ends e h l q) = (rw q, rw q)
-
   -- the line of a slave that serves names its owner
   pub line-owner : slotAfterGrant b st s .serving ≡ true → stepOf b st s .line .owner ≡ slotAfterGrant b st s .owner
   unfolding lineOf

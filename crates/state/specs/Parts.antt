@@ -10,12 +10,16 @@ use Rattle.board.specs.declared.Master.{Master}
 use Rattle.board.specs.declared.Slave.{Slave}
 use Rattle.board.specs.declared.Board.{Board}
 use Rattle.board.specs.Records.{noSlave}
+use Rattle.board.specs.Items.{checkBoard}
 use Rattle.geometry.specs.declared.Transfer.{Transfer}
 use Rattle.geometry.specs.Decoding.{Span}
 use Rattle.geometry.specs.Accesses.{accesses, waitOf}
 use Rattle.state.specs.declared.Slot.{Slot}
+use Rattle.state.specs.declared.State.{State}
+use Rattle.state.specs.declared.checks.Checked.{Checked}
 use Rattle.state.specs.Posting.{wrongBeats, unaligned, wrongLanes, passesEnd}
-use Rattle.state.specs.Soundness.{soundRest}
+use Rattle.state.specs.Soundness.{soundRest, sound}
+use Rattle.state.specs.Targets.{targetsIn}
 
 -- a board of these slaves and shares: what decoding looks at
 abbrev pub boardOf : List Slave → List ℕ → ℕ → Board
@@ -54,3 +58,10 @@ slotSound slot share here ma sl t =
     && cond (slot .serving)
     (here && (ltb (slot .done) (accesses ma sl t) && leb (slot .waited) (waitOf sl t)))
     (soundRest slot)
+
+-- what is checked of a board and a state before a call acts: the board's refusal and, of an accepted board, whether the state
+-- breaks no rule and which slave each held transfer is for
+pub record Preconditions (b : Board) (st : State) (r : Checked) : Type 0 where
+  pub number : r .number ≡ checkBoard b
+  pub sound : checkBoard b ≡ 0 → r .sound ≡ sound b st
+  pub targets : checkBoard b ≡ 0 → r .targets ≡ targetsIn b (st .transfers)

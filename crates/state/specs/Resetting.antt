@@ -20,3 +20,13 @@ slotAtReset b s =
 
 unfoldable pub stateAtReset : Board → State
 stateAtReset b = record { transfers = replicate 8 noTransfer; slots = table (slotAtReset b) 16 }
+
+-- the code's form of it, and of all zeros where count is 0: the owner was the last at the first count slaves, all else is 0
+unfoldable pub ownedBy : ℕ → ℕ → State
+ownedBy owner count = record {
+  transfers = replicate 8 noTransfer;
+  slots =
+      table
+      (λ s. cond (ltb s count) (record { owner = owner; remaining = 0; serving = Bool.false; done = 0; waited = 0 }) noSlot)
+      16;
+}

@@ -17,7 +17,7 @@ ghost use Rattle.geometry.specs.Decoding.{targetOf};
 ghost use Rattle.state.specs.Posting.{transferRefusal};
 ghost use Rattle.state.specs.Soundness.{soundTransfer, soundSlot, sound};
 ghost use Rattle.state.specs.Targets.{targetsIn, requestMask};
-ghost use Rattle.state.specs.Parts.{boardOf, Decodes, Asks, refusalAt, heldSound, slotSound};
+ghost use Rattle.state.specs.Parts.{boardOf, Decodes, Asks, refusalAt, heldSound, slotSound, Preconditions};
 
 // The first slave that an address selects for master m, or the count of slaves.
 pub fn target(slaves: [Slave; 16], shares: &[u8; 128], count: u8, m: usize, address: u32) -> u8
@@ -203,4 +203,35 @@ pub fn state_sound(b: Board, st: State, targets: [u8; 8]) -> bool
         return slots_sound(b, st, targets);
     }
     false
+}
+
+// What a call knows of a board and a state before it acts: the board's refusal, or 0; where it is 0, whether the state breaks
+// no rule, and the slave of each master's transfer. Where the board is refused, false and zeros.
+pub struct Checked {
+    pub number: u8,
+    pub sound: bool,
+    pub targets: [u8; 8],
+}
+
+// The board and the state checked once a call. In one function, not in each of its callers: a board and a state are copied at
+// each call that is not inlined, and the tests are inlined where they have one caller.
+pub fn ready(b: Board, st: State) -> Checked
+    ensures { λ r. ⌜ Preconditions b st r ⌝ }
+{
+    let number = board::refusal(b);
+    if number != 0 {
+        return Checked {
+            number: number,
+            sound: false,
+            targets: [0; 8],
+        };
+    }
+    let transfers = st.transfers;
+    let targets = targets(b, transfers);
+    let sound = state_sound(b, st, targets);
+    Checked {
+        number: 0,
+        sound: sound,
+        targets: targets,
+    }
 }

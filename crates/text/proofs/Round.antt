@@ -7,7 +7,7 @@ use Prim.Native.Nat.{ℕ, zero, suc, _+_, _-_, _*_, _/_, _%_, _^_, _≤_, _<_}
 use native.Mathlib.Nat.{pow-suc}
 use native.Mathlib.Numerals.{add-one}
 use native.Mathlib.Omega.{arith}
-use lib.Dec.{ltb, eqb, lit<, lit≤}
+use lib.Dec.{ltb, eqb, lit<}
 use lib.ListN.{length, getD, replicate, length-append, List·getD-append}
 use lib.Seq.{sets}
 use borrow.Author.Tests.{eq-eqb, eqb-true, eqb-false, ltb-true, ltb-false}
@@ -17,7 +17,7 @@ use Rattle.text.specs.Digits.{digitsIn, digits, fieldsText, lineText}
 use Rattle.text.specs.Fields.{comma, lineFeed, push, split, isDigit, scan, numberOf, noNumbers, withNumber, collect, numbersOf}
 use Rattle.text.specs.declared.Number.the-variants.{Malformed, Value}
 use Rattle.text.specs.declared.Numbers.{Numbers}
-use Rattle.text.proofs.Decimal.{digitsIn-small, digitsIn-large, digits-short, member-digits, line-length}
+use Rattle.text.proofs.Decimal.{digitsIn-small, digitsIn-large, digits-short, member-digits}
 use Rattle.text.proofs.Values.{digit-yes, number-one, number-more, collect-value, collect-end}
 
 -- one digit behind a number
@@ -176,13 +176,3 @@ unfolding numbersOf noNumbers
 numbers-digits ns h s =
     collect-digits noNumbers ns (omega arith) s
     ∙ ap (λ (k : ℕ). record { count = k; values = sets (replicate 6 0) 0 ns }) (omega arith)
-
--- at most 11 bytes to a field
-pub fields-short : (ns : List ℕ) → Short ns → length (fieldsText ns) ≤ 11 * length ns
-unfolding fieldsText
-fields-short [] s = lit≤ tt
-fields-short (n ∷ ns) s =
-    omega (arith, length-append (digits n) (fieldsText ns), digits-short n (s .0), fields-short ns (s .1))
-
-pub line-short : (word ns : List ℕ) → Short ns → length (lineText word ns) ≤ length word + 11 * length ns + 1
-line-short word ns s = omega (arith, line-length word ns, fields-short ns s)

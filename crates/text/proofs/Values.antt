@@ -11,7 +11,7 @@ use lib.Dec.{leb, eqb, lit<}
 use lib.ListN.{length, getD, take, drop, drop-of-length-le}
 use lib.Seq.{drop-cons}
 use borrow.Author.Tests.{lt-ltb, le-leb, lt-leb, eq-eqb, ne-eqb}
-use Rattle.text.specs.Fields.{comma, split, isDigit, scan, shaped, numberOf, noNumbers, withNumber, collect, numbersOf}
+use Rattle.text.specs.Fields.{comma, split, isDigit, scan, shaped, numberOf, numberRefusal, numberValue, noNumbers, withNumber, collect, numbersOf}
 use Rattle.text.specs.Scanning.{Cut}
 use Rattle.text.specs.declared.Number.the-variants.{Malformed, Value}
 use Rattle.text.specs.declared.Numbers.{Numbers}
@@ -97,13 +97,13 @@ module _ (ns : Numbers) (f : List ℕ) (fs : List (List ℕ)) where
   collect-full h = simp (eq-eqb _ _ h)
 
   pub collect-malformed : (ns .count ≡ 6 → ⊥) → numberOf f ≡ Malformed → collect ns (f ∷ fs) ≡ noNumbers
-  unfolding collect
+  unfolding collect numberRefusal
   collect-malformed h e = simp (ne-eqb _ _ h, e)
 
   pub collect-value :
       (v : ℕ) → (ns .count ≡ 6 → ⊥) → numberOf f ≡ Value v
       → collect ns (f ∷ fs) ≡ collect (withNumber ns v) fs
-  unfolding collect
+  unfolding collect numberRefusal numberValue
   collect-value v h e = simp (ne-eqb _ _ h, e)
 
 pub collect-end : (ns : Numbers) → collect ns [] ≡ ns

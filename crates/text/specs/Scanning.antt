@@ -9,7 +9,8 @@ use lib.ListN.{length, take, drop}
 use lib.Seq.{sets}
 use Rattle.text.specs.Fields.{split}
 
--- the pieces of s behind the separator at `place`; none where s ends there
+-- the pieces of s behind the separator at `place`; none where s ends there. `take` and `drop` of more than there is are all
+-- of the list and none of it.
 unfoldable pub behind : ℕ → List ℕ → ℕ → List (List ℕ)
 behind separator s place = cond (ltb place (length s)) (split separator (drop (place + 1) s)) []
 
@@ -18,7 +19,8 @@ pub record Cut (separator : ℕ) (s : List ℕ) (place : ℕ) : Type 0 where
   pub within : place ≤ length s
   pub pieces : split separator s ≡ take place s ∷ behind separator s place
 
--- `before` with the text stored from `at` on is `after`, and `next` is the place behind the text
+-- `before` with the text stored from `at` on is `after`, and `next` is the place behind the text. `sets` stores byte after byte
+-- and leaves out those past the end, so that the length stays.
 pub record Put (before : List ℕ) (at : ℕ) (text : List ℕ) (after : List ℕ) (next : ℕ) : Type 0 where
   pub end : next ≡ at + length text
   pub bytes : after ≡ sets before at text

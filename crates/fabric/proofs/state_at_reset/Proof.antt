@@ -1,28 +1,25 @@
--- `fabric::state_at_reset` meets its contract. The loop's invariant: the first s slots are those of a reset.
+-- `fabric::state_at_reset` meets its contract. The loop's invariant: the first s slots have their owner.
 -- Assumes nothing.
 use mathlib.Core.Path.{_≡_, _∙_}
 use Prim.Native.Nat.{_≤_, _-_}
 use native.Mathlib.Omega.{arith}
 use borrow.Author.Needs.{needs}
-use Rattle.board.proofs.Accepted.{accepted-legal}
-use Rattle.fabric.proofs.ResetLaws.{resetTo, reset-none, reset-next, reset-all}
+use Rattle.state.specs.Resetting.{ownedBy}
+use Rattle.fabric.proofs.ResetLaws.{owned-none, owned-next}
 use Rattle.fabric.proofs.state_at_reset.Statement.{statement}
 use Rattle.fabric.proofs.state_at_reset.Tie as tie
 
 abbrev Inv-loop : tie.InvT-loop
-Inv-loop b st₀ highest s₀ st s = (s ≤ b .«slave_count») × (st ≡ resetTo b s)
+Inv-loop owner count st₀ s₀ st s = (s ≤ count) × (st ≡ ownedBy owner s)
 
 abbrev μ-loop : tie.MeasureT-loop
-μ-loop b st₀ highest s₀ st s = b .«slave_count» - s
+μ-loop owner count st₀ s₀ st s = count - s
 
 no-state-requires : tie.Need-no-state-requires Inv-loop μ-loop
 no-state-requires c κs = search needs
 
-sub-highest : tie.Need-sub-highest Inv-loop μ-loop
-sub-highest c = accepted-legal _ (c .before .before .pre) .someMaster
-
 loop-holds : tie.Need-loop-holds Inv-loop μ-loop
-loop-holds c = (omega arith, c .before .no-state .ensures ∙ reset-none _)
+loop-holds c = (omega arith, c .no-state .ensures ∙ owned-none _)
 
 cast-t8 : tie.Need-cast-t8 Inv-loop μ-loop
 cast-t8 c = search needs
@@ -31,7 +28,7 @@ mul-t9 : tie.Need-mul-t9 Inv-loop μ-loop
 mul-t9 c = search needs
 
 element-set-from-st : tie.Need-element-set-from-st Inv-loop μ-loop
-element-set-from-st c = omega (arith, accepted-legal _ (c .before .before .before .before .before .pre) .fewSlaves)
+element-set-from-st c = search needs
 
 add-s : tie.Need-add-s Inv-loop μ-loop
 add-s c = search needs
@@ -40,13 +37,13 @@ loop-less : tie.Need-loop-less Inv-loop μ-loop
 loop-less c = search needs
 
 loop-again : tie.Need-loop-again Inv-loop μ-loop
-loop-again c = let l = c .before .before .loop in
-    (omega arith, reset-next (c .before .before .before .before .before .args .b) (l .st) (l .s) (l .inv .1) (omega (arith, accepted-legal _ (c .before .before .before .before .before .pre) .fewSlaves)))
+loop-again c = let l = c .before .loop in
+    (omega arith, owned-next (c .before .before .before .args .owner) (l .st) (l .s) (l .inv .1) (omega arith))
 
 returns : tie.Need-returns Inv-loop μ-loop
-returns c = let l = c .before .before .loop in
-    let e : l .s ≡ c .before .before .before .before .before .args .b .«slave_count» = omega arith in
-    l .inv .1 ∙ rw e (reset-all _)
+returns c = let l = c .before .loop in
+    let e : l .s ≡ c .before .before .before .args .count = omega arith in
+    l .inv .1 ∙ rw e
 
 pub state-at-reset-spec : {M : Type 1} → statement M
 state-at-reset-spec =
@@ -55,7 +52,6 @@ state-at-reset-spec =
     Inv-loop
     μ-loop
     no-state-requires
-    sub-highest
     loop-holds
     cast-t8
     mul-t9

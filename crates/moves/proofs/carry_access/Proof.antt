@@ -1,73 +1,55 @@
+-- `moves::carry_access` meets its contract. The first byte and the count of the access are those of the definitions, so each
+-- branch ends in what its callee ensures.
+-- Assumes nothing.
 use mathlib.Core.Path.{refl}
 use native.Mathlib.Omega.{arith}
 use Rattle.moves.proofs.AccessLaws.{place-fits, reads, writes, read-done, write-done}
 use borrow.Author.Needs.{needs}
 use Rattle.moves.proofs.carry_access.Statement.{statement}
 use Rattle.moves.proofs.carry_access.Tie as tie
-use Rattle.moves.proofs.carry_access.Reads as reads
-use Rattle.moves.proofs.carry_access.Lts as lts
-use Rattle.geometry.proofs.access_width.Reads as access-width-reads
-use Rattle.geometry.proofs.first_byte.Reads as first-byte-reads
-use Rattle.moves.proofs.read_access.Reads as read-access-reads
-use Rattle.moves.proofs.write_access.Reads as write-access-reads
 
--- src/lib.rt:138:27
 sub-place : tie.Need-sub-place
 sub-place c = search needs
 
--- src/lib.rt:138:26
 cast-place : tie.Need-cast-place
 cast-place c = search needs
 
--- src/lib.rt:138:17
 add-place : tie.Need-add-place
 add-place c = omega (arith, place-fits _ _ _ _ _ _ _ refl refl (c .before .before .before .before .pre))
 
--- src/lib.rt:139:17
 first-byte-requires : tie.Need-first-byte-requires
 first-byte-requires c κs = search needs
 
--- src/lib.rt:139:17
 cast-first : tie.Need-cast-first
 cast-first c = search needs
 
--- src/lib.rt:140:17
 access-width-requires : tie.Need-access-width-requires
 access-width-requires c κs = search needs
 
--- src/lib.rt:140:17
 cast-count : tie.Need-cast-count
 cast-count c = search needs
 
--- src/lib.rt:142:9
 write-access-requires : tie.Need-write-access-requires
 write-access-requires c κs = writes _ _ _ _ _ _ _ (c .before .before .before .before .first-byte .ensures) (c .before .before .before .access-width .ensures) (c .before .before .before .before .before .before .before .before .before .pre)
 
--- src/lib.rt:143:9
 same-length : tie.Need-same-length
 same-length c = search needs
 
--- src/lib.rt:143:9
 same-length-2 : tie.Need-same-length-2
 same-length-2 c = search needs
 
--- src/lib.rt:143:9
 returns : tie.Need-returns
 returns c = write-done _ _ _ _ _ _ _ (c .before .before .before .before .before .before .before .first-byte .ensures) (c .before .before .before .before .before .before .access-width .ensures) (c .before .before .before .before .before .if1 .taken) (c .before .before .write-access .ensures)
 
--- src/lib.rt:145:5
 read-access-requires : tie.Need-read-access-requires
 read-access-requires c κs = reads _ _ _ _ _ _ _ (c .before .before .before .before .first-byte .ensures) (c .before .before .before .access-width .ensures) (c .before .before .before .before .before .before .before .before .before .pre)
 
--- src/lib.rt:124:1
 same-length-3 : tie.Need-same-length-3
 same-length-3 c = search needs
 
--- src/lib.rt:124:1
 same-length-4 : tie.Need-same-length-4
 same-length-4 c = search needs
 
--- src/lib.rt:124:1
 returns-2 : tie.Need-returns-2
 returns-2 c = read-done _ _ _ _ _ _ _ (c .before .before .before .before .before .before .before .first-byte .ensures) (c .before .before .before .before .before .before .access-width .ensures) (c .before .before .before .before .before .if1 .left) (c .before .before .read-access .ensures)
 

@@ -1,7 +1,7 @@
 -- `quote::fabric_wait` meets its contract: each way out is a law of `AnswerLaws`.
 -- Assumes nothing.
 use borrow.Author.Needs.{needs}
-use Rattle.quote.proofs.AnswerLaws.{wait-text, wait-short, wait-master, wait-pair, wait-taken}
+use Rattle.quote.proofs.AnswerLaws.{wait-text, wait-short, wait-pair, wait-taken}
 use Rattle.quote.proofs.fabric_wait.Statement.{statement}
 use Rattle.quote.proofs.fabric_wait.Tie as tie
 
@@ -17,26 +17,20 @@ returns c = wait-text _ _ _ _ (c .before .before .before .read .ensures) (c .bef
 returns-2 : tie.Need-returns-2
 returns-2 c = wait-short _ _ _ _ (c .before .before .before .read .ensures) (c .before .if1 .left) (c .if2 .taken)
 
-cast-if3 : tie.Need-cast-if3
-cast-if3 c = search needs
+pair-refusal-requires : tie.Need-pair-refusal-requires
+pair-refusal-requires c κs = search needs
+
+cast-result-2 : tie.Need-cast-result-2
+cast-result-2 c = search needs
 
 returns-3 : tie.Need-returns-3
-returns-3 c = let o = c .before .before .before in
+returns-3 c = let k = c .before in
+    let o = k .before .before in
     let n = o .before in
-    wait-master _ _ _ _ (n .before .before .read .ensures) (n .if1 .left) (o .if2 .left) (c .if3 .taken)
+    wait-pair _ _ _ _ (n .before .before .read .ensures) (n .if1 .left) (o .if2 .left) (k .pair-refusal .ensures) (c .if3 .taken)
 
-is-connected-requires : tie.Need-is-connected-requires
-is-connected-requires c κs = search needs
-
-returns-4 : tie.Need-returns-4
-returns-4 c = let k = c .before .before in
-    let o = k .before .before .before in
-    let n = o .before in
-    wait-pair _ _ _ _ (n .before .before .read .ensures) (n .if1 .left) (o .if2 .left) (k .if3 .left)
-    (c .before .is-connected .ensures) (c .if4 .taken)
-
-quote-of-requires : tie.Need-quote-of-requires
-quote-of-requires c κs = search needs
+figures-requires : tie.Need-figures-requires
+figures-requires c κs = search needs
 
 put-figures-requires : tie.Need-put-figures-requires
 put-figures-requires c κs = search needs
@@ -44,14 +38,13 @@ put-figures-requires c κs = search needs
 same-length : tie.Need-same-length
 same-length c = search needs
 
-returns-5 : tie.Need-returns-5
-returns-5 c = let q = c .before .before .before .before in
-    let i = q .before .before in
-    let k = i .before in
-    let o = k .before .before .before in
+returns-4 : tie.Need-returns-4
+returns-4 c = let q = c .before .before .before .before in
+    let k = q .before .before in
+    let o = k .before .before in
     let n = o .before in
-    wait-taken _ _ _ _ (n .before .before .read .ensures) (n .if1 .left) (o .if2 .left) (k .if3 .left)
-    (i .is-connected .ensures) (q .before .if4 .left) (q .quote-of .ensures) (c .before .before .put-figures .ensures)
+    wait-taken _ _ _ _ (n .before .before .read .ensures) (n .if1 .left) (o .if2 .left) (k .pair-refusal .ensures)
+    (q .before .if3 .left) (q .figures .ensures) (c .before .before .put-figures .ensures)
 
 pub fabric-wait-spec : {M : Type 1} → statement M
 fabric-wait-spec =
@@ -61,11 +54,10 @@ fabric-wait-spec =
     cast-result
     returns
     returns-2
-    cast-if3
+    pair-refusal-requires
+    cast-result-2
     returns-3
-    is-connected-requires
-    returns-4
-    quote-of-requires
+    figures-requires
     put-figures-requires
     same-length
-    returns-5)
+    returns-4)

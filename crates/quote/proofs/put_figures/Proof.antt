@@ -1,7 +1,7 @@
 -- `quote::put_figures` meets its contract: two numbers, one behind the other.
 -- Assumes nothing.
 use borrow.Author.Needs.{needs}
-use Rattle.quote.proofs.AnswerLaws.{figures}
+use Rattle.quote.proofs.AnswerLaws.{figures-put}
 use Rattle.quote.proofs.put_figures.Statement.{statement}
 use Rattle.quote.proofs.put_figures.Tie as tie
 
@@ -31,7 +31,7 @@ returns c =
     let b = c .before .before in
     let a = b .before .before .before .before .before in
     let n = a .before .before .before in
-    figures _ _ (n .before .low-first .ensures) (n .low-first2 .ensures) (a .put-bytes .ensures) (b .put-bytes2 .ensures)
+    figures-put _ _ (n .before .low-first .ensures) (n .low-first2 .ensures) (a .put-bytes .ensures) (b .put-bytes2 .ensures)
 
 pub put-figures-spec : {M : Type 1} → statement M
 put-figures-spec =

@@ -46,8 +46,9 @@ put-bytes-requires c κs = search needs
 put-pairs-requires : tie.Need-put-pairs-requires
 put-pairs-requires c κs =
     let h = c .before .before .before in
-    let p = h .before .before .before .before .before .before .read in
-    omega (arith, h .put-bytes .ensures .end, put-length (h .put-bytes .ensures), table-long _ (p .ensures))
+    let t = h .before .before .before .before in
+    let p = t .before .before .read in
+    omega (arith, h .put-bytes .ensures .end, put-length (h .put-bytes .ensures), table-long _ (p .ensures) (t .if1 .left))
 
 same-length-2 : tie.Need-same-length-2
 same-length-2 c = search needs

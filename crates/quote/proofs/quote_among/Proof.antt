@@ -5,8 +5,8 @@ use Rattle.quote.specs.Parts.{quoteAmong}
 use Rattle.quote.proofs.quote_among.Statement.{statement}
 use Rattle.quote.proofs.quote_among.Tie as tie
 
-longest-requires : tie.Need-longest-requires
-longest-requires c κs = search needs
+longest-access-requires : tie.Need-longest-access-requires
+longest-access-requires c κs = search needs
 
 turns-among-requires : tie.Need-turns-among-requires
 turns-among-requires c κs = search needs
@@ -22,9 +22,9 @@ unfolding quoteAmong
 returns c =
     let ma = c .before in
     let wait = ma .before in
-    rw (c .serve .ensures, wait .turns-among .ensures, ma .master-at .ensures, wait .before .longest .ensures)
+    rw (c .serve .ensures, wait .turns-among .ensures, ma .master-at .ensures, wait .before .longest-access .ensures)
 
 pub quote-among-spec : {M : Type 1} → statement M
 quote-among-spec =
     tie.close
-    (tie.spec longest-requires turns-among-requires master-at-requires serve-requires returns)
+    (tie.spec longest-access-requires turns-among-requires master-at-requires serve-requires returns)

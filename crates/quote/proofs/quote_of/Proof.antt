@@ -1,41 +1,33 @@
--- `quote::quote_of` meets its contract: what its calls give.
+-- `quote::quote_of` meets its contract: each way out is a law of `AnswerLaws`.
 -- Assumes nothing.
 use borrow.Author.Needs.{needs}
-use Rattle.quote.specs.Waits.{waitOf, serveOf}
-use Rattle.quote.specs.Calls.{quoteOf}
+use Rattle.quote.proofs.AnswerLaws.{quote-board, quote-pair, quote-taken}
 use Rattle.quote.proofs.quote_of.Statement.{statement}
 use Rattle.quote.proofs.quote_of.Tie as tie
 
-slave-at-requires : tie.Need-slave-at-requires
-slave-at-requires c κs = search needs
-
-longest-requires : tie.Need-longest-requires
-longest-requires c κs = search needs
-
-turns-requires : tie.Need-turns-requires
-turns-requires c κs = search needs
-
-master-at-requires : tie.Need-master-at-requires
-master-at-requires c κs = search needs
-
-serve-requires : tie.Need-serve-requires
-serve-requires c κs = search needs
+refusal-requires : tie.Need-refusal-requires
+refusal-requires c κs = search needs
 
 returns : tie.Need-returns
-unfolding quoteOf waitOf serveOf
-returns c =
-    let ma = c .before in
-    let wait = ma .before in
-    let v = wait .before in
-    rw (c .serve .ensures, wait .turns .ensures, ma .master-at .ensures, v .longest .ensures, v .before .slave-at .ensures)
+returns c = quote-board _ _ _ (c .before .refusal .ensures) (c .if1 .taken)
+
+pair-refusal-requires : tie.Need-pair-refusal-requires
+pair-refusal-requires c κs = search needs
+
+returns-2 : tie.Need-returns-2
+returns-2 c = let f = c .before .before in
+    quote-pair _ _ _ (f .before .refusal .ensures) (f .if1 .left) (c .before .pair-refusal .ensures) (c .if2 .taken)
+
+figures-requires : tie.Need-figures-requires
+figures-requires c κs = search needs
+
+returns-3 : tie.Need-returns-3
+returns-3 c = let p = c .before in
+    let f = p .before .before in
+    quote-taken _ _ _ (f .before .refusal .ensures) (f .if1 .left) (p .before .pair-refusal .ensures) (p .if2 .left)
+    (c .figures .ensures)
 
 pub quote-of-spec : {M : Type 1} → statement M
 quote-of-spec =
     tie.close
-    (tie.spec
-    slave-at-requires
-    longest-requires
-    turns-requires
-    master-at-requires
-    serve-requires
-    returns)
+    (tie.spec refusal-requires returns pair-refusal-requires returns-2 figures-requires returns-3)

@@ -4,7 +4,6 @@
 use mathlib.Core.Path.{_≡_}
 use Prim.Native.Nat.{_-_, _*_, _^_, _≤_}
 use native.Mathlib.Omega.{arith}
-use lib.Dec.{eqb}
 use borrow.Author.Needs.{needs}
 use Rattle.quote.specs.Parts.{turnsAmong}
 use Rattle.quote.proofs.PartLaws.{among-none, among-more}

@@ -1,16 +1,14 @@
+-- `fabric::cycles::mask_of` meets its contract. The loop's invariant: the mask is the sum of the first m masters' bits.
 use Rattle.fabric.proofs.RoundLaws.{mask-next, mask-fits}
 use Rattle.laws.specs.Lists.{sum}
 use lib.ListN.{getD}
 use native.Mathlib.Omega.{arith}
-use Prim.Native.Nat.{ℕ, _≤_, _-_, _^_}
+use Prim.Native.Nat.{_≤_, _-_, _^_}
 use mathlib.Core.Bool.{false, cond}
 use mathlib.Core.Path.{_≡_, refl, _∙_, ap}
 use borrow.Author.Needs.{needs}
 use Rattle.fabric.proofs.cycles.mask_of.Statement.{statement}
 use Rattle.fabric.proofs.cycles.mask_of.Tie as tie
-use Rattle.fabric.proofs.cycles.mask_of.Reads as reads
-use Rattle.fabric.proofs.cycles.mask_of.Lts as lts
-use Rattle.fabric.proofs.cycles.weight_of.Reads as weight-of-reads
 
 abbrev Inv-loop : tie.InvT-loop
 Inv-loop finished mask₀ m₀ mask m = (m ≤ 8) × (mask ≡ sum (λ k. cond (getD finished k false) (2 ^ k) 0) m)
@@ -18,42 +16,33 @@ Inv-loop finished mask₀ m₀ mask m = (m ≤ 8) × (mask ≡ sum (λ k. cond (
 abbrev μ-loop : tie.MeasureT-loop
 μ-loop finished mask₀ m₀ mask m = 8 - m
 
--- src/cycles.rt:191:5
 loop-holds : tie.Need-loop-holds Inv-loop μ-loop
 unfolding sum
 loop-holds c = (omega arith, refl)
 
--- src/cycles.rt:192:36
 cast-weight-of : tie.Need-cast-weight-of Inv-loop μ-loop
 cast-weight-of c = search needs
 
--- src/cycles.rt:192:27
 array-read-weight-of : tie.Need-array-read-weight-of Inv-loop μ-loop
 array-read-weight-of c = search needs
 
--- src/cycles.rt:192:17
 weight-of-requires : tie.Need-weight-of-requires Inv-loop μ-loop
 weight-of-requires c κs = search needs
 
--- src/cycles.rt:192:9
 add-mask : tie.Need-add-mask Inv-loop μ-loop
 add-mask c = let l = c .before .before .loop in
     let f = mask-fits (λ k. getD (c .before .before .before .args .t1) k false) (l .m) (c .before .loop-test .taken) (l .inv .1) (c .weight-of .ensures) in
     omega (arith, f)
 
--- src/cycles.rt:193:9
 add-m : tie.Need-add-m Inv-loop μ-loop
 add-m c = search needs
 
--- src/cycles.rt:191:5
 loop-less : tie.Need-loop-less Inv-loop μ-loop
 loop-less c = search needs
 
--- src/cycles.rt:191:5
 loop-again : tie.Need-loop-again Inv-loop μ-loop
 loop-again c = (omega arith, mask-next (λ k. getD (c .before .before .before .args .t1) k false) _ (c .before .before .loop .inv .1) (c .weight-of .ensures))
 
--- src/cycles.rt:186:1
 returns : tie.Need-returns Inv-loop μ-loop
 returns c = c .before .loop .inv .1 ∙ ap (sum (λ k. cond (getD (c .before .before .args .t1) k false) (2 ^ k) 0)) (omega arith)
 

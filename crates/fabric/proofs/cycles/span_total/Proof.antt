@@ -1,15 +1,15 @@
+-- `fabric::cycles::span_total` meets its contract. The loop's invariant: the total is the spans of the first i slaves, and no span
+-- is above 2³² - 1, so that it does not wrap.
 use Rattle.board.proofs.SpanLaws.{total-suc}
 use Rattle.board.specs.Records.{totalSpan}
 use lib.ListN.{take}
 use native.Mathlib.Omega.{arith}
 use native.Mathlib.Numerals.{add-one}
-use Prim.Native.Nat.{ℕ, _≤_, _-_, _+_, _*_}
+use Prim.Native.Nat.{ℕ, _≤_, _-_, _*_}
 use mathlib.Core.Path.{_≡_, refl, _∙_, ap}
 use borrow.Author.Needs.{needs}
 use Rattle.fabric.proofs.cycles.span_total.Statement.{statement}
 use Rattle.fabric.proofs.cycles.span_total.Tie as tie
-use Rattle.fabric.proofs.cycles.span_total.Reads as reads
-use Rattle.fabric.proofs.cycles.span_total.Lts as lts
 
 abbrev Inv-loop : tie.InvT-loop
 Inv-loop n slaves total₀ i₀ total i = (i ≤ n) × (total ≤ 4294967295 * i) × (total ≡ totalSpan (take i slaves))
@@ -17,43 +17,34 @@ Inv-loop n slaves total₀ i₀ total i = (i ≤ n) × (total ≤ 4294967295 * i
 abbrev μ-loop : tie.MeasureT-loop
 μ-loop n slaves total₀ i₀ total i = n - i
 
--- src/cycles.rt:36:5
 loop-holds : tie.Need-loop-holds Inv-loop μ-loop
 unfolding totalSpan
 loop-holds c = (omega arith, omega arith, refl)
 
--- src/cycles.rt:37:18
 mul-sl : tie.Need-mul-sl Inv-loop μ-loop
 mul-sl c = search needs
 
--- src/cycles.rt:37:18
 array-copy-out-sl : tie.Need-array-copy-out-sl Inv-loop μ-loop
 array-copy-out-sl c = search needs
 
--- src/cycles.rt:38:18
 cast-total : tie.Need-cast-total Inv-loop μ-loop
 cast-total c = search needs
 
--- src/cycles.rt:38:9
 add-total : tie.Need-add-total Inv-loop μ-loop
 add-total c = search needs
 
--- src/cycles.rt:39:9
 add-i : tie.Need-add-i Inv-loop μ-loop
 add-i c = search needs
 
--- src/cycles.rt:36:5
 loop-less : tie.Need-loop-less Inv-loop μ-loop
 loop-less c = search needs
 
--- src/cycles.rt:36:5
 loop-again : tie.Need-loop-again Inv-loop μ-loop
 loop-again c = let l = c .before .before .before .loop in
     let a = c .before .before .before .before .args in
     let t = ap (λ (k : ℕ). totalSpan (take k (a .t1))) (add-one (l .i)) ∙ total-suc (a .t1) (l .i) in
     (omega arith, omega arith, omega (arith, l .inv .2, t))
 
--- src/cycles.rt:30:1
 returns : tie.Need-returns Inv-loop μ-loop
 returns c = let a = c .before .before .args in
     let e : c .before .loop .i ≡ a .n = omega arith in

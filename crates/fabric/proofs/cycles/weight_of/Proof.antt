@@ -1,13 +1,12 @@
+-- `fabric::cycles::weight_of` meets its contract: the bit of a master below 8 fits a byte.
 use lib.Pow.{pow-mono}
 use native.Mathlib.Omega.{arith}
 use native.Mathlib.Nat.{one-mul, mod-eq-of-lt}
 use Prim.Native.Nat.{ℕ, _*_, _%_, _^_, _≤_, _<_}
-use mathlib.Core.Path.{_≡_, _∙_}
+use mathlib.Core.Path.{_≡_}
 use borrow.Author.Needs.{needs}
 use Rattle.fabric.proofs.cycles.weight_of.Statement.{statement}
 use Rattle.fabric.proofs.cycles.weight_of.Tie as tie
-use Rattle.fabric.proofs.cycles.weight_of.Reads as reads
-use Rattle.fabric.proofs.cycles.weight_of.Lts as lts
 
 fits : (m : ℕ) → m < 8 → 1 * 2 ^ m % 256 ≡ 2 ^ m
 fits m h =
@@ -15,15 +14,12 @@ fits m h =
     let p : 2 ^ m ≤ 2 ^ 7 = pow-mono l in
     rw one-mul (mod-eq-of-lt (omega arith))
 
--- src/cycles.rt:182:19
 shl-result : tie.Need-shl-result
 shl-result c = search needs
 
--- src/cycles.rt:178:1
 returns : tie.Need-returns
 returns c = rw (c .if1 .taken) (fits (c .before .args .m) (c .before .pre))
 
--- src/cycles.rt:178:1
 returns-2 : tie.Need-returns-2
 returns-2 c = search needs
 

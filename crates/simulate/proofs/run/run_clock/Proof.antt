@@ -7,10 +7,10 @@ use Rattle.simulate.proofs.run.run_clock.Statement.{statement}
 use Rattle.simulate.proofs.run.run_clock.Tie as tie
 
 abbrev Inv-loop : tie.InvT-loop
-Inv-loop w memory₀ buffer₀ out₀ count board slave-count state₀ output₀ left₀ memory buffer out state output left = (length memory ≡ length memory₀) × (length buffer ≡ length buffer₀)
+Inv-loop w memory₀ buffer₀ out₀ count board slave-count state₀ output₀ number₀ left₀ memory buffer out state output number left = (length memory ≡ length memory₀) × (length buffer ≡ length buffer₀)
 
 abbrev μ-loop : tie.MeasureT-loop
-μ-loop w memory₀ buffer₀ out₀ count board slave-count state₀ output₀ left₀ memory buffer out state output left = left
+μ-loop w memory₀ buffer₀ out₀ count board slave-count state₀ output₀ number₀ left₀ memory buffer out state output number left = left
 
 loop-holds : tie.Need-loop-holds Inv-loop μ-loop
 loop-holds c = search needs
@@ -29,6 +29,9 @@ loop-less c = search needs
 
 loop-again : tie.Need-loop-again Inv-loop μ-loop
 loop-again c = search needs
+
+call-requires : tie.Need-call-requires Inv-loop μ-loop
+call-requires c κs = search needs
 
 with-state-requires : tie.Need-with-state-requires Inv-loop μ-loop
 with-state-requires c κs = search needs
@@ -57,6 +60,7 @@ run-clock-spec =
     left-after-requires
     loop-less
     loop-again
+    call-requires
     with-state-requires
     printed-requires
     same-length

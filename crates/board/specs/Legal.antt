@@ -1,4 +1,5 @@
--- What is true of a board whose description is not refused.
+-- The legal boards: those whose description is not refused. `accepted-legal` and `legal-accepted` prove that the check accepts
+-- exactly these.
 -- Assumes nothing.
 use mathlib.Core.Path.{_≡_}
 use mathlib.Core.Bool.{true, false}

@@ -1,10 +1,10 @@
--- `quote::longest` meets its contract: the two waits compared.
+-- `quote::longest_access` meets its contract: the two waits compared.
 -- Assumes nothing.
 use native.Mathlib.Omega.{arith}
 use borrow.Author.Needs.{needs}
-use Rattle.quote.specs.Waits.{longest}
-use Rattle.quote.proofs.longest.Statement.{statement}
-use Rattle.quote.proofs.longest.Tie as tie
+use Rattle.quote.specs.Waits.{longestAccess}
+use Rattle.quote.proofs.longest_access.Statement.{statement}
+use Rattle.quote.proofs.longest_access.Tie as tie
 
 cast-result : tie.Need-cast-result
 cast-result c = search needs
@@ -13,7 +13,7 @@ add-result : tie.Need-add-result
 add-result c = search needs
 
 returns : tie.Need-returns
-unfolding longest
+unfolding longestAccess
 returns c = omega arith
 
 cast-result-2 : tie.Need-cast-result-2
@@ -23,9 +23,9 @@ add-result-2 : tie.Need-add-result-2
 add-result-2 c = search needs
 
 returns-2 : tie.Need-returns-2
-unfolding longest
+unfolding longestAccess
 returns-2 c = omega arith
 
-pub longest-spec : {M : Type 1} → statement M
-longest-spec =
+pub longest-access-spec : {M : Type 1} → statement M
+longest-access-spec =
     tie.close (tie.spec cast-result add-result returns cast-result-2 add-result-2 returns-2)
