@@ -1,6 +1,9 @@
 // What the benchmark calls of the library, by C's conventions.
 use board::Board;
+use board::Master;
+use board::Slave;
 use state::State;
+ghost use Prim.Native.Nat.{_<_};
 
 // Reads a text and answers its number with one entry of each part of the board: which entries is known only at the call, so
 // that no part of the reading can be left out.
@@ -16,12 +19,6 @@ pub extern "C" fn bench_read(text: &[u8], place: u32) -> u32 {
     number ^ of_pair
 }
 
-// The state, and how many transfers each master has posted.
-pub struct Traffic {
-    pub state: State,
-    pub posted: [u32; 8],
-}
-
 // All lanes of a legal width.
 fn all_lanes(width: u8) -> u8 {
     match width {
@@ -32,83 +29,84 @@ fn all_lanes(width: u8) -> u8 {
     }
 }
 
-// Master m posts its transfer number `index`: one beat with all lanes at the front of the slaves in turn, reads and writes by
-// turns. A write's words are zeros.
-fn post_next(board: Board, state: State, buffer: &mut [u8], m: u8, index: u32) -> State {
-    let count = board.slave_count as u64;
+// The slave that transfer number `index` of master m is for: the slaves in turn.
+fn slave_in_turn(count: u8, m: u8, index: u32) -> usize
+    ensures { λ r. ⌜ r < 16 ⌝ }
+{
     if count == 0 {
-        return state;
+        return 0;
     }
-    let s = ((m as u64 + index as u64) % count % 16) as usize;
-    let i = (m % 8) as usize;
-    let master = board.masters[i];
-    let slave = board.slaves[s];
-    let lanes = all_lanes(master.width);
-    let words = [0u8; 8];
+    ((m as u64 + index as u64) % count as u64 % 16) as usize
+}
+
+// A transfer to post: all but its master, its one beat, and its words, which are zeros.
+pub struct Next {
+    pub write: bool,
+    pub address: u32,
+    pub lanes: u8,
+    pub length: usize,
+}
+
+// A master's transfer number `index`: all lanes at the front of the slave, reads and writes by turns.
+fn next_transfer(ma: Master, sl: Slave, index: u32) -> Next
+    ensures { λ r. ⌜ r .length < 9 ⌝ }
+{
+    let mut length = 0;
     if index % 2 == 1 {
-        let n = (master.width % 9) as usize;
-        let written = fabric::post(
-            board,
-            state,
-            buffer,
-            m as u32,
-            true,
-            slave.base,
-            lanes,
-            1,
-            &words[..n],
-        );
-        return written.state;
+        length = (ma.width % 9) as usize;
     }
-    let answer = fabric::post(
-        board,
-        state,
-        buffer,
-        m as u32,
-        false,
-        slave.base,
-        lanes,
-        1,
-        b"",
-    );
-    answer.state
-}
-
-// Master m posts, where it is idle.
-fn post_at(board: Board, before: Traffic, buffer: &mut [u8], m: u8, idle: u8) -> Traffic {
-    if 8 <= m {
-        return before;
-    }
-    if board.master_count <= m {
-        return before;
-    }
-    if (idle >> m) % 2 == 0 {
-        return before;
-    }
-    let mut posted = before.posted;
-    let i = m as usize;
-    let index = posted[i];
-    let now = before.state;
-    let next = post_next(board, now, buffer, m, index);
-    posted[i] = std::num::wrapping_add_u32(index, 1);
-    Traffic {
-        state: next,
-        posted: posted,
+    Next {
+        write: index % 2 == 1,
+        address: sl.base,
+        lanes: all_lanes(ma.width),
+        length: length,
     }
 }
 
-// Every idle master posts.
-fn post_idle(board: Board, before: Traffic, buffer: &mut [u8], idle: u8) -> Traffic {
-    let mut traffic = before;
+// Runs clocks, every master posting again as soon as it is idle; the sum of the masks. One loop over the masters and then the
+// clock: post and clock stand at one place each, where the compiler puts their code, and no other function is handed the board
+// or the state, so that the traffic costs little beside them.
+fn run(b: Board, mut state: State, memory: &mut [u8], buffer: &mut [u8], mut clocks: u32) -> u32 {
+    let words = [0u8; 8];
+    let mut posted = [0u32; 8];
+    let mut idle: u8 = 255;
+    let mut sum: u32 = 0;
     let mut m: u8 = 0;
-    while m < 8 {
-        traffic = post_at(board, traffic, buffer, m, idle);
-        m += 1;
+    while 0 < clocks {
+        if m < b.master_count % 9 {
+            if (idle >> m) % 2 == 1 {
+                let index = posted[m as usize];
+                let sl = b.slaves[slave_in_turn(b.slave_count, m, index)];
+                let next = next_transfer(b.masters[m as usize], sl, index);
+                let n = next.length;
+                let answer = fabric::post(
+                    b,
+                    state,
+                    buffer,
+                    m as u32,
+                    next.write,
+                    next.address,
+                    next.lanes,
+                    1,
+                    &words[..n],
+                );
+                state = answer.state;
+                posted[m as usize] = std::num::wrapping_add_u32(index, 1);
+            }
+            m += 1;
+        } else {
+            let answer = fabric::clock(b, state, memory, buffer);
+            state = answer.state;
+            idle = answer.mask;
+            sum = std::num::wrapping_add_u32(sum, idle as u32);
+            clocks -= 1;
+            m = 0;
+        }
     }
-    traffic
+    sum
 }
 
-// Reads the text, resets and runs clocks, every master posting again as soon as it is idle; the sum of the masks.
+// Reads the text, resets and runs the traffic.
 #[no_mangle]
 pub extern "C" fn bench_clocks(
     text: &[u8],
@@ -120,22 +118,5 @@ pub extern "C" fn bench_clocks(
     let board = parsed.board;
     let started = fabric::reset(board);
     let state = started.state;
-    let mut traffic = Traffic {
-        state: state,
-        posted: [0; 8],
-    };
-    let mut idle: u8 = 255;
-    let mut sum: u32 = 0;
-    let mut i: u32 = 0;
-    while i < clocks {
-        traffic = post_idle(board, traffic, buffer, idle);
-        let now = traffic.state;
-        let answer = fabric::clock(board, now, memory, buffer);
-        let next = answer.state;
-        traffic.state = next;
-        idle = answer.mask;
-        sum = std::num::wrapping_add_u32(sum, idle as u32);
-        i += 1;
-    }
-    sum
+    run(board, state, memory, buffer, clocks)
 }
