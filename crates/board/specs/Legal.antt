@@ -13,10 +13,12 @@ use Rattle.board.specs.declared.Board.{Board}
 use Rattle.board.specs.Records.{masterAt, slaveAt, memoryLength}
 use Rattle.board.specs.Rules.{widths, bursts, spans, meets}
 
+-- a master whose values are in their lists
 pub record LegalMaster (m : Master) : Type 0 where
   pub width : member (m .width) widths ≡ true
   pub burst : member (m .burst) bursts ≡ true
 
+-- a slave whose values are in their lists and ranges, with its base on a multiple of its span
 pub record LegalSlave (s : Slave) : Type 0 where
   pub base : s .base ≤ 4294967295
   pub span : member (s .span) spans ≡ true
@@ -26,6 +28,8 @@ pub record LegalSlave (s : Slave) : Type 0 where
   pub writeWait : s .«write_wait» ≤ 255
   pub aligned : s .base % s .span ≡ 0
 
+-- 1 to 8 masters and 1 to 16 slaves, each legal; no address in two spans; spans of at most 65,536 together; no share over 100,
+-- and none outside the counts
 pub record Legal (b : Board) : Type 0 where
   pub someMaster : 0 < b .«master_count»
   pub fewMasters : b .«master_count» ≤ 8

@@ -55,7 +55,8 @@ ratio-le ma sl h = go (ltb (sl .width) (ma .width))
     go true = omega (arith, div-le-self (ma .width) (sl .width))
     go false = omega arith
 
--- the accesses of a transfer: some, at most those of its beats, and exactly those where every lane is enabled
+-- the accesses of a transfer: some, and at most those of its beats; where every lane is enabled exactly those, and its users
+-- post full lanes
 pub accesses-pos : (ma : Master) (sl : Slave) (t : Transfer) → 0 < sl .width → 1 ≤ t .beats → 1 ≤ accesses ma sl t
 unfolding accesses
 accesses-pos ma sl t w h = mul-le-mul h (ratio-pos ma sl w)
