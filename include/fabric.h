@@ -34,7 +34,7 @@ extern "C" {
  * Answers FABRIC_TAKEN, and then wait and serve stand in the first 16 bytes of out, as two 64-bit numbers, lowest byte
  * first; or the number of a refusal, and then no byte of out is changed. Checked in this order:
  *
- *   1 to 7   the description is refused: see document 01, "Who causes a refusal"
+ *   1 to 7   the description is refused: see README.md, "Refusals"
  *   10       out_length is below FABRIC_WAIT_BYTES
  *   11       the board has no such master
  *   16       the board has no such slave, or the master is not connected to it

@@ -45,7 +45,7 @@ refused() {
     run simulate script.txt "refused,$2" "simulate: board.txt: $3" board.txt
 }
 
-line='no final line feed, unknown first word, wrong count of fields, bad number'
+line='no final line feed, unknown first word, wrong count of fields, or bad number'
 slave='slave,0,8,1,1,0,0'
 refused 'boss,4,8\n' 1 "line 1: refusal 1: $line"
 refused 'master,4,8\n\n' 1 "line 2: refusal 1: $line"

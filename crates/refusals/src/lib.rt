@@ -17,7 +17,7 @@ fn say_of_text(number: u8) {
 // 1 to 7 where a line is to blame.
 fn say_of_line(number: u8) {
     match number {
-        1 => say(b"no final line feed, unknown first word, wrong count of fields, bad number"),
+        1 => say(b"no final line feed, unknown first word, wrong count of fields, or bad number"),
         2 => say(b"line kind out of order or over the count"),
         3 => say(b"value outside its list or range"),
         4 => say(b"base no multiple of span"),
