@@ -4,6 +4,7 @@ pub mod SpanLaws
 pub mod StartLaws
 pub mod Sound
 pub mod OwnLines
+pub mod ShareOrder
 pub mod Accepted
 pub mod Rebuilt
 pub mod AcceptLaws

@@ -1,25 +1,19 @@
 -- A clock's refusals in their order, and what it answers and leaves then.
 -- Assumes nothing.
-use mathlib.Core.Path.{_≡_, refl, sym, ap, _∙_}
-use mathlib.Core.Bool.{Bool, true, false, cond, or-true}
-use mathlib.Core.List.{List}
+use mathlib.Core.Path.{_≡_, sym, _∙_}
+use mathlib.Core.Bool.{true, false}
 use Prim.Native.Nat.{ℕ}
-use lib.Dec.{eqb}
 use lib.ListN.{length}
 use borrow.Author.Tests.{eq-eqb, ne-eqb}
-use Rattle.laws.specs.Lists.{table, sum}
-use Rattle.laws.proofs.TableLaws.{getD-table}
-use Rattle.laws.proofs.FrontLaws.{table-same}
 use Rattle.board.specs.declared.Board.{Board}
 use Rattle.board.specs.Records.{memoryLength}
 use Rattle.board.specs.Items.{checkBoard}
 use Rattle.moves.specs.Bytes.{Store, bufferLength}
 use Rattle.state.specs.declared.State.{State}
 use Rattle.state.specs.Soundness.{sound}
-use Rattle.state.specs.Carrying.{storeAfter}
-use Rattle.fabric.specs.declared.Clocked.{Clocked}
+use Rattle.state.specs.declared.Clocked.{Clocked}
 use Rattle.fabric.specs.Calls.{clockRefusal, clock, storeAfterClock}
-use Rattle.fabric.specs.Rounds.{refusedClock, Turned}
+use Rattle.cycles.specs.Cycles.{refusedClock, Cycled}
 
 module _ (b : Board) (st : State) (d : Store) where
   pub refused-board : {n : ℕ} → n ≡ checkBoard b → (n ≡ 0 → ⊥) → clockRefusal b st d ≡ n
@@ -68,10 +62,10 @@ module _ (b : Board) (st : State) (d : Store) where
   store-refused {n} e h = rw (e, ne-eqb n 0 h)
 
   -- and of a clock that is not refused
-  pub answer-turned : {e : Store} {r : Clocked} → clockRefusal b st d ≡ 0 → Turned b st d e r → r ≡ clock b st d
+  pub answer-turned : {e : Store} {r : Clocked} → clockRefusal b st d ≡ 0 → Cycled b st d e r → r ≡ clock b st d
   unfolding clock
   answer-turned z t = t .answer ∙ rw z
 
-  pub store-turned : {e : Store} {r : Clocked} → clockRefusal b st d ≡ 0 → Turned b st d e r → e ≡ storeAfterClock b st d
+  pub store-turned : {e : Store} {r : Clocked} → clockRefusal b st d ≡ 0 → Cycled b st d e r → e ≡ storeAfterClock b st d
   unfolding storeAfterClock
   store-turned z t = t .store ∙ rw z

@@ -1,4 +1,3 @@
 pub mod ResetLaws
 pub mod PostLaws
-pub mod RoundLaws
 pub mod ClockLaws

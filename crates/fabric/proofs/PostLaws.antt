@@ -1,31 +1,31 @@
--- The refusal of a post in its two parts, what is true of a post that is not refused, and what a post answers.
+-- The refusal of a post: what is true where there is none, when there is none, and what the post answers. No other file opens it.
 -- Assumes nothing.
 use mathlib.Core.Path.{_≡_, refl, sym, ap, _∙_}
 use mathlib.Core.Bool.{Bool, true, false, cond, not}
 use mathlib.Core.List.{List}
+use mathlib.Core.Logic.{_⊎_, inl, inr}
 use Prim.Native.Nat.{ℕ, _*_, _≤_, _<_}
 use native.Mathlib.Omega.{arith}
 use lib.Dec.{leb, eqb}
-use lib.ListN.{length}
-use borrow.Author.Tests.{leb-false, eq-eqb, ne-eqb, eqb-true, eqb-false, not-false}
+use borrow.Author.Tests.{leb-false, lt-leb, eq-eqb, ne-eqb, eqb-true, eqb-false, not-false}
 use Rattle.laws.proofs.Arithmetic.{product-le}
 use Rattle.laws.proofs.ListLaws.{member-within}
 use Rattle.laws.proofs.Tests.{passed}
 use Rattle.board.specs.declared.Board.{Board}
-use Rattle.board.specs.Records.{masterAt}
+use Rattle.board.specs.Records.{masterAt, slaveAt}
 use Rattle.board.specs.Rules.{widths, bursts}
 use Rattle.board.specs.Items.{checkBoard}
 use Rattle.board.proofs.Accepted.{accepted-legal}
 use Rattle.geometry.specs.declared.Transfer.{Transfer}
+use Rattle.geometry.specs.Decoding.{targetOf}
 use Rattle.moves.specs.Bytes.{bufferLength, posted}
 use Rattle.state.specs.declared.State.{State}
 use Rattle.state.specs.Records.{transferAt}
-use Rattle.state.specs.Posting.{Request, transferOf, transferRefusal, stateWith}
+use Rattle.state.specs.Posting.{Request, transferOf, wrongBeats, unaligned, wrongLanes, unmapped, passesEnd, refusalAt, transferRefusal, stateWith}
 use Rattle.state.specs.Soundness.{sound}
 use Rattle.state.proofs.DecodeLaws.{accepted}
 use Rattle.fabric.specs.declared.Posted.{Posted}
-use Rattle.fabric.specs.Calls.{wrongWords, postRefusal, post, bufferAfterPost}
-use Rattle.fabric.specs.Requests.{refusalBy}
+use Rattle.fabric.specs.Calls.{wrongWords, requestRefusal, refusalBy, postRefusal, post, bufferAfterPost}
 
 -- a refusal's number that stands where it is not 0
 passed-number : (r x : ℕ) → cond (not (eqb r 0)) r x ≡ 0 → (r ≡ 0) × (x ≡ 0)
@@ -35,68 +35,97 @@ passed-number r x e = go (eqb r 0) refl e
     go true p f = (eqb-true r 0 p, f)
     go false p f = absurd (eqb-false r 0 p f)
 
--- what is true of a post that is not refused
-pub record Taken (b : Board) (st : State) (room m : ℕ) (t : Transfer) (n : ℕ) : Type 0 where
-  pub board : checkBoard b ≡ 0
-  pub buffer : room ≡ bufferLength
-  pub master : m < 8
-  pub words : n ≤ 512
+-- what is true of a post that is taken, of its own part
+pub record Taken (b : Board) (st : State) (m : ℕ) (t : Transfer) (bytes : ℕ) : Type 0 where
+  pub master : m < b .«master_count»
+  pub free : transferAt st m .held ≡ false
+  pub fits : transferRefusal b m t ≡ 0
+  pub words : bytes ≡ cond (t .write) (t .beats * masterAt b m .width) 0
+
+-- taken, or refused with 11 or more
+abbrev pub Late : ℕ → Type 0
+Late n = (n ≡ 0) ⊎ (11 ≤ n)
+
+late : (c : Bool) (n x : ℕ) → Late n → Late x → Late (cond c n x)
+late true n x p q = p
+late false n x p q = q
 
 module _ (b : Board) (m : ℕ) (t : Transfer) where
-  -- its words fit its master's part of the buffer
-  words-fit : checkBoard b ≡ 0 → m < b .«master_count» → transferRefusal b m t ≡ 0
-      → (n : ℕ) → n ≡ cond (t .write) (t .beats * masterAt b m .width) 0 → n ≤ 512
-  words-fit ok h e n f = go (t .write) f
-    where
-      go : (c : Bool) → n ≡ cond c (t .beats * masterAt b m .width) 0 → n ≤ 512
-      go true f =
-          let legal = accepted-legal b ok in
-          let ma = legal .master m h in
-          let few = accepted b legal m t e .few in
-          let burst = member-within 1 64 (masterAt b m .burst) bursts tt (ma .burst) .1 in
-          let beats : t .beats ≤ 64 = omega arith in
-          let width = member-within 1 8 (masterAt b m .width) widths tt (ma .width) .1 in
-          omega (arith, product-le (t .beats) (masterAt b m .width) 64 8 beats width)
-      go false f = omega arith
+  late-transfer : Late (transferRefusal b m t)
+  unfolding transferRefusal refusalAt
+  late-transfer =
+      let s = targetOf b m (t .address) in
+      late (wrongBeats (masterAt b m) t) 13 _ (inr (omega arith))
+      (late (unaligned (masterAt b m) t) 14 _ (inr (omega arith))
+      (late (wrongLanes (masterAt b m) t) 15 _ (inr (omega arith))
+      (late (unmapped s (b .«slave_count»)) 16 _ (inr (omega arith))
+      (late (passesEnd (masterAt b m) (slaveAt b s) t) 17 0 (inr (omega arith)) (inl refl)))))
 
-  pub taken : (st : State) (room n : ℕ) → refusalBy b st room m t n ≡ 0 → Taken b st room m t n
-  unfolding refusalBy
-  taken st room n e =
-      let bytes = cond (t .write) (t .beats * masterAt b m .width) 0 in
-      let p = passed-number (checkBoard b) _ e in
-      let q = passed (not (eqb room bufferLength)) 7 _ (p .1) in
-      let r = passed (not (sound b st)) 8 _ (q .1) in
-      let u = passed (leb (b .«master_count») m) 10 _ (r .1) in
-      let v = passed (transferAt st m .held) 11 _ (u .1) in
-      let w = passed-number (transferRefusal b m t) _ (v .1) in
-      let x = passed (not (eqb n bytes)) 17 0 (w .1) in
-      let h = leb-false (b .«master_count») m (u .0) in
-      record {
-        board = p .0;
-        buffer = eqb-true room bufferLength (not-false (eqb room bufferLength) (q .0));
-        master = omega (arith, accepted-legal b (p .0) .fewMasters);
-        words = words-fit (p .0) h (w .0) n (eqb-true n bytes (not-false (eqb n bytes) (x .0)));
-      }
+  module _ (st : State) (room bytes : ℕ) where
+    pub taken : refusalBy b st room m t bytes ≡ 0
+        → (checkBoard b ≡ 0) × (room ≡ bufferLength) × Taken b st m t bytes
+    unfolding refusalBy requestRefusal wrongWords
+    taken e =
+        let right = cond (t .write) (t .beats * masterAt b m .width) 0 in
+        let p = passed-number (checkBoard b) _ e in
+        let q = passed (not (eqb room bufferLength)) 7 _ (p .1) in
+        let r = passed (not (sound b st)) 8 _ (q .1) in
+        let u = passed (leb (b .«master_count») m) 10 _ (r .1) in
+        let v = passed (transferAt st m .held) 11 _ (u .1) in
+        let w = passed-number (transferRefusal b m t) _ (v .1) in
+        let x = passed (not (eqb bytes right)) 17 0 (w .1) in (
+          p .0,
+          eqb-true room bufferLength (not-false (eqb room bufferLength) (q .0)),
+          record {
+            master = leb-false (b .«master_count») m (u .0);
+            free = v .0;
+            fits = w .0;
+            words = eqb-true bytes right (not-false (eqb bytes right) (x .0));
+          },
+        )
 
--- what is left of the refusal behind 9, and behind 12
-abbrev pub wordsRefusal : Board → ℕ → Transfer → ℕ → ℕ
-wordsRefusal b m t n =
-    cond (not (eqb (transferRefusal b m t) 0)) (transferRefusal b m t)
-    (cond (not (eqb n (cond (t .write) (t .beats * masterAt b m .width) 0))) 18 0)
+    -- nothing of 2 to 9 is refused: what is left
+    module _ (ok : checkBoard b ≡ 0) (full : room ≡ bufferLength) (keeps : sound b st ≡ true) where
+      pub refusal-asked : refusalBy b st room m t bytes
+          ≡ cond (leb (b .«master_count») m) 11 (cond (transferAt st m .held) 12 (requestRefusal b m t bytes))
+      unfolding refusalBy
+      refusal-asked = rw (ok, eq-eqb room bufferLength full, keeps)
 
-abbrev pub askedRefusal : Board → State → ℕ → Transfer → ℕ → ℕ
-askedRefusal b st m t n = cond (leb (b .«master_count») m) 11 (cond (transferAt st m .held) 12 (wordsRefusal b m t n))
+      pub not-refused : Taken b st m t bytes → refusalBy b st room m t bytes ≡ 0
+      unfolding requestRefusal wrongWords
+      not-refused x =
+          refusal-asked
+          ∙ rw (lt-leb (b .«master_count») m (x .master), x .free, eq-eqb (transferRefusal b m t) 0 (x .fits), eq-eqb bytes _ (x .words))
 
-pub refusal-asked : (b : Board) (st : State) (room m : ℕ) (t : Transfer) (n : ℕ) → checkBoard b ≡ 0 → room ≡ bufferLength
-    → sound b st ≡ true → refusalBy b st room m t n ≡ askedRefusal b st m t n
-unfolding refusalBy
-refusal-asked b st room m t n e f g = rw (e, eq-eqb room bufferLength f, g)
+      pub refused-late : Late (refusalBy b st room m t bytes)
+      unfolding requestRefusal
+      refused-late =
+          rw refusal-asked
+          (late (leb (b .«master_count») m) 11 _ (inr (omega arith))
+          (late (transferAt st m .held) 12 _ (inr (omega arith))
+          (late (not (eqb (transferRefusal b m t) 0)) _ _ late-transfer
+          (late (wrongWords (masterAt b m) t bytes) 18 0 (inr (omega arith)) (inl refl)))))
+
+  -- on an accepted board the master has a part of the buffer, and the words fit it
+  module _ (ok : checkBoard b ≡ 0) {st : State} {bytes : ℕ} (x : Taken b st m t bytes) where
+    pub some-part : m < 8
+    some-part = omega (arith, x .master, accepted-legal b ok .fewMasters)
+
+    pub words-fit : bytes ≤ 512
+    words-fit = go (t .write) (x .words)
+      where
+        go : (c : Bool) → bytes ≡ cond c (t .beats * masterAt b m .width) 0 → bytes ≤ 512
+        go true f =
+            let legal = accepted-legal b ok in
+            let ma = legal .master m (x .master) in
+            let few = accepted b legal m t (x .fits) .few in
+            let burst = member-within 1 64 (masterAt b m .burst) bursts tt (ma .burst) .1 in
+            let beats : t .beats ≤ 64 = omega arith in
+            let width = member-within 1 8 (masterAt b m .width) widths tt (ma .width) .1 in
+            omega (arith, product-le (t .beats) (masterAt b m .width) 64 8 beats width)
+        go false f = omega arith
 
 module _ (b : Board) (st : State) (buffer : List ℕ) (q : Request) where
-  pub refusal-by : refusalBy b st (length buffer) (q .master) (transferOf q) (length (q .words)) ≡ postRefusal b st buffer q
-  unfolding refusalBy postRefusal wrongWords
-  refusal-by = refl
-
   -- what a post answers and leaves in the buffer: "the state stay[s] unchanged" on a refusal, "every lent byte" too
   pub post-refused : (n : ℕ) → n ≡ postRefusal b st buffer q → (n ≡ 0 → ⊥)
       → (_≡_ {A = Posted} (record { number = n; state = st }) (post b st buffer q)) × (buffer ≡ bufferAfterPost b st buffer q)

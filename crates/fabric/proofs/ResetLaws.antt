@@ -13,7 +13,7 @@ use Rattle.geometry.specs.Accesses.{noTransfer}
 use Rattle.state.specs.declared.Slot.{Slot}
 use Rattle.state.specs.declared.State.{State}
 use Rattle.state.specs.Records.{noSlot, noState}
-use Rattle.state.specs.Resetting.{slotAtReset, stateAtReset, ownedBy}
+use Rattle.state.specs.Resetting.{stateAtReset, ownedBy}
 use Rattle.fabric.specs.declared.Started.{Started}
 use Rattle.fabric.specs.Calls.{reset}
 
@@ -39,7 +39,7 @@ module _ (owner : ℕ) where
 module _ (b : Board) (n : ℕ) (st : State) (e : n ≡ checkBoard b) where
   pub reset-taken : n ≡ 0 → st ≡ ownedBy (b .«master_count» - 1) (b .«slave_count»)
       → _≡_ {A = Started} (record { number = n; state = st }) (reset b)
-  unfolding reset ownedBy stateAtReset slotAtReset
+  unfolding reset stateAtReset
   reset-taken z f = rw (← e, z) (rw f)
 
   pub reset-refused : (n ≡ 0 → ⊥) → st ≡ ownedBy 0 0 → _≡_ {A = Started} (record { number = n; state = st }) (reset b)

@@ -1,23 +1,21 @@
 -- What reset, post and clock answer, and what they leave in the lent bytes.
 -- Assumes nothing.
-use mathlib.Core.Bool.{Bool, true, cond, not, _||_}
+use mathlib.Core.Bool.{Bool, cond, not, _||_}
 use mathlib.Core.List.{List}
-use Prim.Native.Nat.{ℕ, _-_, _*_}
-use lib.Dec.{ltb, leb, eqb}
-use lib.ListN.{length, set, replicate}
-use Rattle.laws.specs.Lists.{table}
+use Prim.Native.Nat.{ℕ, _*_}
+use lib.Dec.{leb, eqb}
+use lib.ListN.{length, replicate}
+use Rattle.board.specs.declared.Master.{Master}
 use Rattle.board.specs.declared.Board.{Board}
 use Rattle.board.specs.Records.{masterAt, memoryLength}
 use Rattle.board.specs.Items.{checkBoard}
 use Rattle.geometry.specs.declared.Transfer.{Transfer}
-use Rattle.geometry.specs.Accesses.{noTransfer}
 use Rattle.moves.specs.Bytes.{Store, bufferLength, posted}
-use Rattle.state.specs.declared.Slot.{Slot}
 use Rattle.state.specs.declared.State.{State}
 use Rattle.fabric.specs.declared.Started.{Started}
 use Rattle.fabric.specs.declared.Posted.{Posted}
-use Rattle.fabric.specs.declared.Clocked.{Clocked}
-use Rattle.state.specs.Records.{noSlot, noLine, noState, transferAt}
+use Rattle.state.specs.declared.Clocked.{Clocked}
+use Rattle.state.specs.Records.{noLine, noState, transferAt}
 use Rattle.state.specs.Posting.{Request, transferOf, transferRefusal, stateWith}
 use Rattle.state.specs.Resetting.{stateAtReset}
 use Rattle.state.specs.Soundness.{sound}
@@ -29,20 +27,27 @@ unfoldable pub reset : Board → Started
 reset b = record { number = checkBoard b; state = cond (eqb (checkBoard b) 0) (stateAtReset b) noState }
 
 -- 18: "data not beats × width bytes (0 for a read)"
-unfoldable pub wrongWords : Board → Request → Bool
-wrongWords b q = not (eqb (length (q .words)) (cond (q .write) (q .beats * masterAt b (q .master) .width) 0))
+unfoldable pub wrongWords : Master → Transfer → ℕ → Bool
+wrongWords ma t bytes = not (eqb bytes (cond (t .write) (t .beats * ma .width) 0))
 
--- the refusal of a post, or 0: "A call checks in rising order"
-unfoldable pub postRefusal : Board → State → List ℕ → Request → ℕ
-postRefusal b st buffer q =
+-- what a transfer of master m with so many bytes of words is refused for, or 0: 13 to 18
+unfoldable pub requestRefusal : Board → ℕ → Transfer → ℕ → ℕ
+requestRefusal b m t bytes =
+    cond (not (eqb (transferRefusal b m t) 0)) (transferRefusal b m t) (cond (wrongWords (masterAt b m) t bytes) 18 0)
+
+-- the refusal of its post, or 0, with a buffer of `room` bytes: "A call checks in rising order"
+unfoldable pub refusalBy : Board → State → ℕ → ℕ → Transfer → ℕ → ℕ
+refusalBy b st room m t bytes =
     cond (not (eqb (checkBoard b) 0)) (checkBoard b)
-    (cond (not (eqb (length buffer) bufferLength)) 8
+    (cond (not (eqb room bufferLength)) 8
     (cond (not (sound b st)) 9
-    (cond (leb (b .«master_count») (q .master)) 11
-    (cond (transferAt st (q .master) .held) 12
-    (cond (not (eqb (transferRefusal b (q .master) (transferOf q)) 0)) (transferRefusal b (q .master) (transferOf q))
-    (cond (wrongWords b q) 18
-    0))))))
+    (cond (leb (b .«master_count») m) 11
+    (cond (transferAt st m .held) 12
+    (requestRefusal b m t bytes)))))
+
+-- the refusal of a post, or 0
+unfoldable pub postRefusal : Board → State → List ℕ → Request → ℕ
+postRefusal b st buffer q = refusalBy b st (length buffer) (q .master) (transferOf q) (length (q .words))
 
 -- what `post` answers: "the state stay[s] unchanged" on a refusal
 unfoldable pub post : Board → State → List ℕ → Request → Posted

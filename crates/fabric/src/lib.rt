@@ -1,19 +1,18 @@
 // The public calls on a board's fabric: reset, post and clock.
-mod cycles;
-
 use board::Board;
 use board::Master;
 use geometry::Transfer;
-use state::Line;
+use state::Clocked;
 use state::Slot;
 use state::State;
 ghost use mathlib.Core.Path.{_≡_};
 ghost use mathlib.Core.Bool.{cond};
-ghost use Prim.Native.Nat.{_*_, _≤_};
+ghost use Prim.Native.Nat.{_*_, _≤_, _<_};
+ghost use Rattle.board.specs.Items.{checkBoard};
 ghost use Rattle.state.specs.Records.{noState};
 ghost use Rattle.state.specs.Resetting.{ownedBy};
-ghost use Rattle.fabric.specs.Calls.{bufferAfterPost, storeAfterClock};
-ghost use Rattle.fabric.specs.Requests.{request, refusalBy};
+ghost use Rattle.fabric.specs.Calls.{requestRefusal, refusalBy, bufferAfterPost, storeAfterClock};
+ghost use Rattle.fabric.specs.Requests.{request};
 ghost use Rattle.fabric.specs.Calls as calls;
 
 // The answer of reset.
@@ -26,14 +25,6 @@ pub struct Started {
 pub struct Posted {
     pub number: u8,
     pub state: State,
-}
-
-// The answer of clock: bit m of the mask is 1 where master m is finished.
-pub struct Clocked {
-    pub number: u8,
-    pub state: State,
-    pub mask: u8,
-    pub lines: [Line; 16],
 }
 
 // No transfers, and every slot 0.
@@ -113,11 +104,27 @@ fn words_length(ma: Master, t: Transfer) -> usize
     0
 }
 
+// What the transfer t of master m, with `length` bytes of words, is refused for, or 0: whoever holds what.
+fn request_refusal(board: Board, m: usize, t: Transfer, length: usize) -> u8
+    requires { ⌜ (checkBoard board ≡ 0) × (m < board .«master_count») ⌝ }
+    ensures { λ r. ⌜ r ≡ requestRefusal board m t length ⌝ }
+{
+    let number = state_check::refusal_of(board, m, t);
+    if number != 0 {
+        return number;
+    }
+    let ma = board.masters[m];
+    if length != words_length(ma, t) {
+        return 18;
+    }
+    0
+}
+
 // What a post is refused for, or 0: of the transfer t by master m, with a buffer of `room` bytes and `length` bytes of words.
 fn post_refusal(board: Board, state: State, room: usize, m: u32, t: Transfer, length: usize) -> u8
     ensures { λ r. ⌜ r ≡ refusalBy board state room m t length ⌝ }
 {
-    let checked = state::checks::ready(board, state);
+    let checked = state_check::ready(board, state);
     if checked.number != 0 {
         return checked.number;
     }
@@ -135,15 +142,7 @@ fn post_refusal(board: Board, state: State, room: usize, m: u32, t: Transfer, le
     if before.held {
         return 12;
     }
-    let number = state::checks::refusal_of(board, m as usize, t);
-    if number != 0 {
-        return number;
-    }
-    let ma = board.masters[m as usize];
-    if length != words_length(ma, t) {
-        return 18;
-    }
-    0
+    request_refusal(board, m as usize, t, length)
 }
 
 // Post: a master hands in one transfer. A write's words are copied to the front of the master's part of the buffer.
@@ -190,7 +189,7 @@ pub fn clock(board: Board, state: State, memory: &mut [u8], buffer: &mut [u8]) -
     ensures stored { λ r. ⌜ record { memory = now (memory .exit); buffer = now (buffer .exit) }
         ≡ storeAfterClock board state (record { memory = now (memory .entry); buffer = now (buffer .entry) }) ⌝ }
 {
-    let checked = state::checks::ready(board, state);
+    let checked = state_check::ready(board, state);
     if checked.number != 0 {
         return cycles::refuse(checked.number, state);
     }
@@ -204,7 +203,7 @@ pub fn clock(board: Board, state: State, memory: &mut [u8], buffer: &mut [u8]) -
     }
     if checked.sound {
         let targets = checked.targets;
-        return cycles::turn(board, state, targets, memory, buffer);
+        return cycles::run(board, state, targets, memory, buffer);
     }
     cycles::refuse(9, state)
 }

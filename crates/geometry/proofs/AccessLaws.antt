@@ -16,7 +16,7 @@ use Rattle.board.specs.declared.Slave.{Slave}
 use Rattle.board.specs.Rules.{widths, spans}
 use Rattle.board.proofs.RuleLaws.{width-bound}
 use Rattle.geometry.specs.declared.Transfer.{Transfer}
-use Rattle.geometry.specs.Lanes.{allLanes}
+use Rattle.lanes.specs.Lanes.{allLanes}
 use Rattle.geometry.specs.Decoding.{Span}
 use Rattle.geometry.specs.Accesses.{ratio, accesses, accessBytes, firstByte, accessOffset, wordOffset}
 use Rattle.geometry.specs.Accesses.{writeLanes, slaveLanes, InWord}

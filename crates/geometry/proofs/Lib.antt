@@ -1,4 +1,2 @@
 pub mod AccessLaws
 pub mod DecodeLaws
-pub mod LaneLaws
-pub mod LaneMeaning

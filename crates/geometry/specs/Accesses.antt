@@ -8,7 +8,7 @@ use lib.Dec.{ltb}
 use Rattle.board.specs.declared.Master.{Master}
 use Rattle.board.specs.declared.Slave.{Slave}
 use Rattle.geometry.specs.declared.Transfer.{Transfer}
-use Rattle.geometry.specs.Lanes.{allLanes}
+use Rattle.lanes.specs.Lanes.{allLanes}
 
 abbrev pub noTransfer : Transfer
 noTransfer = record { held = Bool.false; write = Bool.false; address = 0; lanes = 0; beats = 0 }

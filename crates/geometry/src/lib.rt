@@ -1,11 +1,8 @@
-// One pair of master and slave: accesses, lanes, runs; lane legality; address decoding.
+// One pair of master and slave: accesses, lanes, runs; address decoding.
 use board::Master;
 use board::Slave;
 ghost use mathlib.Core.Path.{_≡_};
-ghost use mathlib.Core.List.{[], _∷_};
 ghost use Prim.Native.Nat.{_-_, _*_, _/_, _%_, _^_, _≤_};
-ghost use Rattle.laws.specs.Lists.{member};
-ghost use Rattle.geometry.specs.Lanes.{allLanes, legalLanes, postLanes};
 ghost use Rattle.geometry.specs.Decoding.{agrees, Span};
 ghost use Rattle.geometry.specs.Accesses.{ratio, accesses, accessBytes, firstByte, accessOffset, wordOffset};
 ghost use Rattle.geometry.specs.Accesses.{writeLanes, slaveLanes, InWord, waitOf, ownLength};
@@ -41,61 +38,6 @@ fn rounded_down(a: u64, b: u64) -> u64
 {
     let over = remainder(a, b);
     a - over
-}
-
-// The mask of the lowest lanes. In 32 bits, since a byte cannot be shifted by 8.
-fn all_lanes(width: u32) -> u32
-    requires { ⌜ width ≤ 8 ⌝ }
-    ensures { λ r. ⌜ r ≡ allLanes width ⌝ }
-{
-    let lowest: u32 = 1;
-    (lowest << width) - 1
-}
-
-// Whether a mask may have so many lanes.
-fn is_lane_count(count: u32) -> bool
-    ensures { λ r. ⌜ r ≡ member count (1 ∷ 2 ∷ 4 ∷ 8 ∷ []) ⌝ }
-{
-    match count {
-        1 => true,
-        2 => true,
-        4 => true,
-        8 => true,
-        _ => false,
-    }
-}
-
-// Whether a master of this width may enable these lanes.
-pub fn lanes_legal(width: u8, lanes: u8) -> bool
-    ensures { λ r. ⌜ r ≡ legalLanes width lanes ⌝ }
-{
-    let count = u8::count_ones(lanes);
-    let low = u8::trailing_zeros(lanes);
-    if !is_lane_count(count) {
-        return false;
-    }
-    // adjacent ones, moved down to lane 0, are the lowest lanes
-    if (lanes as u32) >> low != all_lanes(count) {
-        return false;
-    }
-    if low % count != 0 {
-        return false;
-    }
-    low + count <= width as u32
-}
-
-// Whether a master of this width may post these lanes with so many beats.
-pub fn lanes_postable(width: u8, lanes: u8, beats: u8) -> bool
-    ensures { λ r. ⌜ r ≡ postLanes width lanes beats ⌝ }
-{
-    if !lanes_legal(width, lanes) {
-        return false;
-    }
-    if beats <= 1 {
-        return true;
-    }
-    // legal lanes lie below the width: as many as the width are all of them
-    u8::count_ones(lanes) == width as u32
 }
 
 // Whether an address agrees with the slave's base above the span. The span is a power of two, so that a shift drops the
@@ -186,7 +128,7 @@ fn write_lanes(ma: Master, sl: Slave, t: Transfer, a: u16) -> u8
     let from = remainder(first as u64, ma.width as u64);
     let to = remainder(at, sl.width as u64);
     let above = lanes_from(t.lanes, from);
-    let mask = all_lanes(bytes as u32);
+    let mask = lanes::all_lanes(bytes as u32);
     ((above & mask) << to) as u8
 }
 
@@ -198,7 +140,7 @@ pub fn lanes_of(ma: Master, sl: Slave, t: Transfer, a: u16) -> u8
     if t.write {
         return write_lanes(ma, sl, t, a);
     }
-    all_lanes(sl.width as u32) as u8
+    lanes::all_lanes(sl.width as u32) as u8
 }
 
 // The wait of the transfer's direction.

@@ -14,7 +14,7 @@ use Rattle.geometry.specs.declared.Transfer.{Transfer}
 use Rattle.geometry.specs.Accesses.{ownLength}
 use Rattle.state.specs.declared.Slot.{Slot}
 use Rattle.state.specs.declared.State.{State}
-use Rattle.fabric.specs.declared.Clocked.{Clocked}
+use Rattle.state.specs.declared.Clocked.{Clocked}
 use Rattle.state.specs.Records.{transferAt, slotAt}
 use Rattle.state.specs.Posting.{Request, transferOf}
 use Rattle.state.specs.Soundness.{requests}

@@ -6,17 +6,18 @@ use mathlib.Core.List.{List, _∷_}
 use mathlib.Core.Logic.{_⊎_, ⊎-elim, _≢_}
 use Prim.Native.Nat.{ℕ}
 use lib.Dec.{eqb}
+use lib.ListN.{length}
 use borrow.Author.Tests.{eqb-true, eqb-false, eq-eqb, ne-eqb}
 use Rattle.board.specs.declared.Board.{Board}
 use Rattle.moves.specs.Bytes.{Store, posted}
 use Rattle.state.specs.declared.State.{State}
-use Rattle.fabric.specs.declared.Clocked.{Clocked}
+use Rattle.state.specs.declared.Clocked.{Clocked}
 use Rattle.state.specs.Posting.{Request, transferOf}
 use Rattle.state.specs.Control.{stateAfter, maskOf, linesOf}
 use Rattle.state.specs.Carrying.{storeAfter}
 use Rattle.state.specs.Posting.{stateWith}
 use Rattle.fabric.specs.Calls.{World, postRefusal, post, bufferAfterPost, clockRefusal, clock, storeAfterClock}
-use Rattle.history.specs.Claim.{Call, posts, clocks, numberAnswered, Handed, leaves, next, answers, Reference, fed, fedPost, seenAll}
+use Rattle.history.specs.Claim.{Call, posts, clocks, numberAnswered, Handed, leaves, next, answers, Reference, Order, seenAll, fedPost, fed}
 
 -- what a post that is taken leaves
 abbrev pub withPost : World → Request → World
@@ -67,13 +68,15 @@ clock-number b st d = go (eqb (clockRefusal b st d) 0) refl
 -- how a call of a history came: f is what follows it
 pub data Came (b : Board) (w : World) (c : Call) : Type 0 where
   refused : next w c ≡ w → ((cs : List Call) → answers (c ∷ cs) ≡ answers cs)
-      → ((r : Reference) (cs : List Call) → fed b r (c ∷ cs) ≡ fed b r cs) → Came b w c
+      → ((orders : ℕ → Order) (r : Reference) (cs : List Call) → fed b orders r (c ∷ cs) ≡ fed b orders r cs) → Came b w c
   postTaken : (q : Request) → postRefusal b (w .state) (w .store .buffer) q ≡ 0 → next w c ≡ withPost w q
       → ((cs : List Call) → answers (c ∷ cs) ≡ answers cs)
-      → ((r : Reference) (cs : List Call) → fed b r (c ∷ cs) ≡ fed b (fedPost q r) cs) → Came b w c
+      → ((orders : ℕ → Order) (r : Reference) (cs : List Call) → fed b orders r (c ∷ cs) ≡ fed b orders (fedPost q r) cs) → Came b w c
   clockTaken : clockRefusal b (w .state) (w .store) ≡ 0 → next w c ≡ withClock b w
       → ((cs : List Call) → answers (c ∷ cs) ≡ answerOf b w ∷ answers cs)
-      → ((r : Reference) (cs : List Call) → fed b r (c ∷ cs) ≡ fed b (seenAll b (linesOf b (w .state)) r) cs) → Came b w c
+      → ((orders : ℕ → Order) (r : Reference) (cs : List Call)
+      → fed b orders r (c ∷ cs) ≡ fed b orders (seenAll b (orders (length cs) .slaves) (linesOf b (w .state)) r) cs)
+      → Came b w c
 
 refused-next : (w : World) (c : Call) → numberAnswered c ≢ 0 → next w c ≡ w
 unfolding next
@@ -86,17 +89,17 @@ taken-next w c e = rw (eq-eqb (numberAnswered c) 0 e)
 refused-call : (b : Board) (w : World) (c : Call) → numberAnswered c ≢ 0 → Came b w c
 unfolding numberAnswered answers fed
 refused-call b w (posts b′ st buffer q) h =
-    refused (refused-next w (posts b′ st buffer q) h) (λ cs. refl) (λ r cs. rw (ne-eqb (post b′ st buffer q .number) 0 h))
+    refused (refused-next w (posts b′ st buffer q) h) (λ cs. refl) (λ orders r cs. rw (ne-eqb (post b′ st buffer q .number) 0 h))
 refused-call b w (clocks b′ st d) h =
     refused (refused-next w (clocks b′ st d) h) (λ cs. rw (ne-eqb (clock b′ st d .number) 0 h))
-    (λ r cs. rw (ne-eqb (clock b′ st d .number) 0 h))
+    (λ orders r cs. rw (ne-eqb (clock b′ st d .number) 0 h))
 
 post-came : (b : Board) (w : World) (q : Request) → numberAnswered (posts b (w .state) (w .store .buffer) q) ≡ 0
     → Came b w (posts b (w .state) (w .store .buffer) q)
 unfolding numberAnswered answers fed post
 post-came b w q e =
     postTaken q e (taken-next w (posts b (w .state) (w .store .buffer) q) e ∙ post-leaves b w q e) (λ cs. refl)
-    (λ r cs. rw (eq-eqb (postRefusal b (w .state) (w .store .buffer) q) 0 e))
+    (λ orders r cs. rw (eq-eqb (postRefusal b (w .state) (w .store .buffer) q) 0 e))
 
 clock-came : (b : Board) (w : World) → numberAnswered (clocks b (w .state) (w .store)) ≡ 0 → Came b w (clocks b (w .state) (w .store))
 unfolding numberAnswered answers fed
@@ -104,7 +107,7 @@ clock-came b w e =
     let z = sym (clock-number b (w .state) (w .store)) ∙ e in
     let a = clock-answers b w z in
     clockTaken z (taken-next w (clocks b (w .state) (w .store)) e ∙ clock-leaves b w z)
-    (λ cs. rw a) (λ r cs. rw a)
+    (λ cs. rw a) (λ orders r cs. rw a)
 
 taken-call : (b : Board) (w : World) (c : Call) → Handed b w c → numberAnswered c ≡ 0 → Came b w c
 unfolding Handed

@@ -6,9 +6,10 @@ use Rattle.board.specs.Items.{checkBoard}
 use Rattle.board.specs.Legal.{Legal}
 use Rattle.board.proofs.Accepted.{accepted-legal}
 use Rattle.fabric.specs.Calls.{reset}
-use Rattle.history.specs.Claim.{Demand3}
+use Rattle.history.specs.Claim.{Order, Demand3}
 use Rattle.history.proofs.Safe.{within, finished, served}
 use Rattle.history.proofs.Exact.{exact-history}
+use Rattle.history.proofs.Orders.{numbers, times-numbers}
 use Rattle.history.proofs.ReadsHistory.{reads-right}
 
 reset-checks : (b : Board) → reset b .number ≡ checkBoard b
@@ -26,3 +27,7 @@ demand3 b ok = record {
   where
     legal : Legal b
     legal = accepted-legal b (sym (reset-checks b) ∙ ok)
+
+-- the order by slave number is one of the orders of the read claim
+pub byNumber : Order
+byNumber = record { slaves = numbers 16; once = times-numbers 16 }

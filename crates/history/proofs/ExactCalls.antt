@@ -14,6 +14,7 @@ use Rattle.board.specs.Legal.{Legal}
 use Rattle.moves.specs.Bytes.{bufferLength}
 use Rattle.state.specs.Posting.{Request, transferOf, transferRefusal}
 use Rattle.fabric.specs.Calls.{World, postRefusal, post, clock}
+use Rattle.fabric.proofs.PostLaws.{not-refused}
 use Rattle.state.proofs.SoundLaws.{sound-test}
 use Rattle.history.specs.Claim.{Call, posts, clocks, numberAnswered, Handed, next, after, History, answers, shows, any}
 use Rattle.history.proofs.Calls.{withPost, withClock, answerOf, post-leaves, clock-leaves, clock-answers}
@@ -25,15 +26,8 @@ module _ (b : Board) (legal : Legal b) (ok : checkBoard b ≡ 0) where
       → postRefusal b (w .state) (w .store .buffer) q ≡ 0
   unfolding postRefusal
   post-accepted w q x t =
-      rw (
-        eq-eqb (checkBoard b) 0 ok,
-        eq-eqb (length (w .store .buffer)) bufferLength (x .buffer),
-        sound-test b (w .state) legal (x .sound),
-        lt-leb (b .«master_count») (q .master) (t .master),
-        t .free,
-        eq-eqb (transferRefusal b (q .master) (transferOf q)) 0 (t .fits),
-        t .words,
-      )
+      not-refused b (q .master) (transferOf q) (w .state) _ (length (q .words)) ok (x .buffer)
+      (sound-test b (w .state) legal (x .sound)) t
 
   post-next : (w : World) (q : Request) → Standing b legal w → Taken b (w .state) q
       → next w (posts b (w .state) (w .store .buffer) q) ≡ withPost w q

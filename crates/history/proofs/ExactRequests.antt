@@ -20,20 +20,19 @@ use Rattle.board.specs.Rules.{widths}
 use Rattle.board.specs.Legal.{Legal}
 use Rattle.board.proofs.RuleLaws.{width-bound, burst-bound, span-bound}
 use Rattle.geometry.specs.declared.Transfer.{Transfer}
-use Rattle.geometry.specs.Lanes.{allLanes, lowest, adjacent, legalLanes, postLanes}
+use Rattle.lanes.specs.Lanes.{allLanes, lowest, adjacent, legalLanes, postLanes}
 use Rattle.geometry.specs.Decoding.{selects, targetOf}
 use Rattle.geometry.specs.Accesses.{ratio, waitOf, ownLength}
 use Rattle.geometry.proofs.AccessLaws.{base-aligned, accesses-full}
 use Rattle.state.specs.Posting.{Request, transferOf, wrongBeats, unaligned, wrongLanes, unmapped, passesEnd}
-use Rattle.state.specs.Posting.{transferRefusal}
-use Rattle.fabric.specs.Calls.{wrongWords}
+use Rattle.state.specs.Posting.{refusalAt, transferRefusal}
 use Rattle.state.proofs.DecodeLaws.{span-pos, selects-of, selects-target}
-use Rattle.quote.specs.Waits as quote
+use Rattle.waits.specs.Waits as waits
 use Rattle.history.proofs.Pairs.{sharesOf, singleOf, serveOf, most-some}
 
 -- the beats of the transfer with a grants to come after it
 unfoldable pub beatsFor : Board → ℕ → ℕ → ℕ → ℕ
-beatsFor b s j zero = quote.mostBeats (masterAt b j) (slaveAt b s)
+beatsFor b s j zero = waits.mostBeats (masterAt b j) (slaveAt b s)
 beatsFor b s j (suc a) = 1
 
 -- in the direction of the longer wait
@@ -54,11 +53,10 @@ requestFor b s j a = record {
 unfoldable pub transferFor : Board → ℕ → ℕ → ℕ → Transfer
 transferFor b s j a = transferOf (requestFor b s j a)
 
-pub words-right : (b : Board) (s j a : ℕ) → wrongWords b (requestFor b s j a) ≡ false
-unfolding requestFor wrongWords
-words-right b s j a =
-    let n = cond (writes (slaveAt b s)) (beatsFor b s j a * masterAt b j .width) 0 in
-    rw (eq-eqb (length {A = ℕ} (replicate n 0)) n (length-replicate n 0))
+pub words-right : (b : Board) (s j a : ℕ) → length (requestFor b s j a .words)
+    ≡ cond (requestFor b s j a .write) (requestFor b s j a .beats * masterAt b j .width) 0
+unfolding requestFor
+words-right b s j a = length-replicate (cond (writes (slaveAt b s)) (beatsFor b s j a * masterAt b j .width) 0) 0
 
 -- a full word is a legal one
 full-lanes : (w : ℕ) → member w widths ≡ true → legalLanes w (allLanes w) ≡ true
@@ -78,7 +76,7 @@ not-refused : (b : Board) (j s : ℕ) (t : Transfer) → 1 ≤ t .beats → t .b
     → t .address % masterAt b j .width ≡ 0 → postLanes (masterAt b j .width) (t .lanes) (t .beats) ≡ true
     → targetOf b j (t .address) ≡ s → s < b .«slave_count»
     → t .address + t .beats * masterAt b j .width ≤ slaveAt b s .base + slaveAt b s .span → transferRefusal b j t ≡ 0
-unfolding transferRefusal wrongBeats unaligned wrongLanes unmapped passesEnd
+unfolding transferRefusal refusalAt wrongBeats unaligned wrongLanes unmapped passesEnd
 not-refused b j s t some few aligned lanes target within end =
     rw (
       ne-eqb (t .beats) 0 (λ q. omega arith),
@@ -92,8 +90,8 @@ not-refused b j s t some few aligned lanes target within end =
 
 -- ---- its length
 
-wait-is : (sl : Slave) (t : Transfer) → t .write ≡ writes sl → 1 + waitOf sl t ≡ quote.longestAccess sl
-unfolding waitOf quote.longestAccess writes
+wait-is : (sl : Slave) (t : Transfer) → t .write ≡ writes sl → 1 + waitOf sl t ≡ waits.longestAccess sl
+unfolding waitOf waits.longestAccess writes
 wait-is sl t e = rw e (go (leb (sl .«read_wait») (sl .«write_wait»)) refl)
   where
     go : (c : Bool) → leb (sl .«read_wait») (sl .«write_wait») ≡ c
@@ -103,7 +101,7 @@ wait-is sl t e = rw e (go (leb (sl .«read_wait») (sl .«write_wait»)) refl)
 
 module _ (b : Board) (legal : Legal b) (s : ℕ) (hs : s < b .«slave_count») (j : ℕ) where
   long-is : (a : ℕ) → ownLength (masterAt b j) (slaveAt b s) (transferFor b s j a)
-      ≡ beatsFor b s j a * ratio (masterAt b j) (slaveAt b s) * quote.longestAccess (slaveAt b s)
+      ≡ beatsFor b s j a * ratio (masterAt b j) (slaveAt b s) * waits.longestAccess (slaveAt b s)
   unfolding ownLength transferFor requestFor
   long-is a =
       ap (λ (x : ℕ). x * (1 + waitOf (slaveAt b s) (transferFor b s j a)))
@@ -112,18 +110,18 @@ module _ (b : Board) (legal : Legal b) (s : ℕ) (hs : s < b .«slave_count») (
 
   pub last-serve : (a : ℕ) → a ≡ 0
       → ownLength (masterAt b j) (slaveAt b s) (transferFor b s j a) ≡ serveOf b legal s hs j
-  unfolding quote.serve beatsFor
+  unfolding waits.serve beatsFor
   last-serve zero e = long-is zero
   last-serve (suc a) e = absurd (omega arith)
 
   pub first-single : (a : ℕ) → 1 ≤ a
       → (ownLength (masterAt b j) (slaveAt b s) (transferFor b s j a) ≡ singleOf b legal s hs j)
       × (transferFor b s j a .beats ≤ 1)
-  unfolding quote.single beatsFor transferFor requestFor
+  unfolding waits.single beatsFor transferFor requestFor
   first-single zero h = absurd (omega arith)
   first-single (suc a) h = (
     long-is (suc a)
-        ∙ ap (λ (x : ℕ). x * quote.longestAccess (slaveAt b s)) (one-mul (ratio (masterAt b j) (slaveAt b s))),
+        ∙ ap (λ (x : ℕ). x * waits.longestAccess (slaveAt b s)) (one-mul (ratio (masterAt b j) (slaveAt b s))),
     le-refl 1,
   )
 
@@ -138,7 +136,7 @@ module _ (b : Board) (legal : Legal b) (s : ℕ) (hs : s < b .«slave_count») (
 
     beats-fit : (a : ℕ) → (1 ≤ beatsFor b s j a) × (beatsFor b s j a ≤ masterAt b j .burst)
         × (beatsFor b s j a * masterAt b j .width ≤ slaveAt b s .span)
-    unfolding beatsFor quote.mostBeats
+    unfolding beatsFor waits.mostBeats
     beats-fit zero =
         let ma = masterAt b j in
         let sl = slaveAt b s in (

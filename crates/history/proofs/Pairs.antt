@@ -17,13 +17,13 @@ use Rattle.board.proofs.RuleLaws.{width-bound, burst-bound, span-bound}
 use Rattle.geometry.specs.declared.Transfer.{Transfer}
 use Rattle.geometry.specs.Accesses.{ratio, waitOf, ownLength}
 use Rattle.geometry.proofs.AccessLaws.{accesses-le}
-use Rattle.quote.specs.Waits as quote
+use Rattle.waits.specs.Waits as waits
 use Rattle.bounds.proofs.Credit.{credit, credit-zero, credit-suc}
 use Rattle.bounds.proofs.Potential.{quoted}
 
 -- the wait of a direction is no longer than the longer one
-pub wait-longest : (sl : Slave) (t : Transfer) → 1 + waitOf sl t ≤ quote.longestAccess sl
-unfolding waitOf quote.longestAccess
+pub wait-longest : (sl : Slave) (t : Transfer) → 1 + waitOf sl t ≤ waits.longestAccess sl
+unfolding waitOf waits.longestAccess
 wait-longest sl t = go (t .write)
   where
     go : (c : Bool) → 1 + cond c (sl .«write_wait») (sl .«read_wait») ≤ 1 + max (sl .«read_wait») (sl .«write_wait»)
@@ -32,19 +32,19 @@ wait-longest sl t = go (t .write)
 
 -- a burst that fits the slave has no more beats than n
 pub beats-most : (ma : Master) (sl : Slave) (k : ℕ) → 1 ≤ ma .width → k ≤ ma .burst → k * ma .width ≤ sl .span
-    → k ≤ quote.mostBeats ma sl
-unfolding quote.mostBeats
+    → k ≤ waits.mostBeats ma sl
+unfolding waits.mostBeats
 beats-most ma sl k h l f = let d : k ≤ sl .span / ma .width = le-div-iff-mul-le h .1 f in omega arith
 
 -- the own length of a transfer of k beats
-pub long-serve : (ma : Master) (sl : Slave) (t : Transfer) → t .beats ≤ quote.mostBeats ma sl
-    → ownLength ma sl t ≤ quote.serve ma sl (quote.longestAccess sl)
-unfolding ownLength quote.serve
-long-serve ma sl t h = mul-le-mul (accesses-le ma sl t (quote.mostBeats ma sl) h) (wait-longest sl t)
+pub long-serve : (ma : Master) (sl : Slave) (t : Transfer) → t .beats ≤ waits.mostBeats ma sl
+    → ownLength ma sl t ≤ waits.serve ma sl (waits.longestAccess sl)
+unfolding ownLength waits.serve
+long-serve ma sl t h = mul-le-mul (accesses-le ma sl t (waits.mostBeats ma sl) h) (wait-longest sl t)
 
 pub long-single : (ma : Master) (sl : Slave) (t : Transfer) → t .beats ≤ 1
-    → ownLength ma sl t ≤ quote.single ma sl (quote.longestAccess sl)
-unfolding ownLength quote.single
+    → ownLength ma sl t ≤ waits.single ma sl (waits.longestAccess sl)
+unfolding ownLength waits.single
 long-single ma sl t h =
     mul-le-mul (omega (arith, accesses-le ma sl t 1 h, one-mul (ratio ma sl))) (wait-longest sl t)
 
@@ -53,13 +53,13 @@ module _ (b : Board) (legal : Legal b) (s : ℕ) (hs : s < b .«slave_count») w
   sharesOf j = sharesAt b j s
 
   abbrev pub singleOf : ℕ → ℕ
-  singleOf j = quote.single (masterAt b j) (slaveAt b s) (quote.longestAccess (slaveAt b s))
+  singleOf j = waits.single (masterAt b j) (slaveAt b s) (waits.longestAccess (slaveAt b s))
 
   abbrev pub serveOf : ℕ → ℕ
-  serveOf j = quote.serve (masterAt b j) (slaveAt b s) (quote.longestAccess (slaveAt b s))
+  serveOf j = waits.serve (masterAt b j) (slaveAt b s) (waits.longestAccess (slaveAt b s))
 
   -- the longest transfer has a beat at least
-  pub most-some : (j : ℕ) → j < b .«master_count» → 1 ≤ quote.mostBeats (masterAt b j) (slaveAt b s)
+  pub most-some : (j : ℕ) → j < b .«master_count» → 1 ≤ waits.mostBeats (masterAt b j) (slaveAt b s)
   most-some j hj =
       let w = width-bound (masterAt b j .width) (legal .master j hj .width) in
       let u = burst-bound (masterAt b j .burst) (legal .master j hj .burst) in
@@ -67,9 +67,9 @@ module _ (b : Board) (legal : Legal b) (s : ℕ) (hs : s < b .«slave_count») w
       beats-most (masterAt b j) (slaveAt b s) 1 (w .0) (u .0) (omega (arith, one-mul (masterAt b j .width)))
 
   -- a turn is the credit of all shares
-  other-turn : (m j : ℕ) → quote.otherTurn b (quote.longestAccess (slaveAt b s)) m s j
+  other-turn : (m j : ℕ) → waits.otherTurn b (waits.longestAccess (slaveAt b s)) m s j
       ≡ cond (eqb j m) 0 (credit (singleOf j) (serveOf j) (sharesOf j))
-  unfolding quote.otherTurn connected quote.turn
+  unfolding waits.otherTurn connected waits.turn
   other-turn m j = rw (lt-ltb s (b .«slave_count») hs) (go (sharesAt b j s) (eqb j m))
     where
       go : (a : ℕ) (c : Bool)
@@ -82,6 +82,6 @@ module _ (b : Board) (legal : Legal b) (s : ℕ) (hs : s < b .«slave_count») w
           rw (lt-ltb 0 (suc a) (omega arith), e, credit-suc)
 
   -- the quoted wait is the sum of the turns of all others
-  pub wait-quoted : (m : ℕ) → quote.quotedWait b m s ≡ quoted (b .«master_count») sharesOf singleOf serveOf m
-  unfolding quote.quotedWait quote.turnsOf
+  pub wait-quoted : (m : ℕ) → waits.quotedWait b m s ≡ quoted (b .«master_count») sharesOf singleOf serveOf m
+  unfolding waits.quotedWait waits.turnsOf
   wait-quoted m = sum-same _ _ (b .«master_count») (λ j h. other-turn m j)

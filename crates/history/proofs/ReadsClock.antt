@@ -2,15 +2,14 @@
 -- Assumes nothing.
 use mathlib.Core.Path.{_≡_, refl, ap, _∙_, sym, subst}
 use mathlib.Core.Bool.{Bool, true, false, cond, _&&_, true≢false, false≢true}
-use mathlib.Core.List.{List, [], _∷_, _++_}
+use mathlib.Core.List.{List, [], _∷_}
 use mathlib.Core.Logic.{⊎-elim, _≢_}
-use Prim.Native.Nat.{ℕ, zero, suc, _+_, _-_, _≤_, _<_}
-use native.Mathlib.Nat.{add-zero, add-suc, mul-le-mul, eq-or-lt-of-le, le-of-suc-le-suc}
+use Prim.Native.Nat.{ℕ, zero, suc, _+_, _≤_, _<_}
+use native.Mathlib.Nat.{mul-le-mul}
 use native.Mathlib.Omega.{arith}
 use lib.Dec.{eqb}
-use lib.ListN.{take, drop}
+use lib.ListN.{getD, take, drop}
 use borrow.Author.Tests.{eq-eqb, ne-eqb, lt-ltb, le-ltb}
-use Rattle.laws.specs.Lists.{table, gather}
 use Rattle.laws.proofs.Tests.{both}
 use Rattle.board.specs.declared.Board.{Board}
 use Rattle.board.specs.Records.{masterAt, slaveAt, startOf}
@@ -22,72 +21,44 @@ use Rattle.geometry.proofs.AccessLaws.{first-all}
 use Rattle.arbiter.specs.declared.Grant.{Grant}
 use Rattle.arbiter.specs.declared.Grant.the-variants.{Granted, Silent}
 use Rattle.moves.specs.Bytes.{Store, partOf, memoryPlace}
+use Rattle.moves.proofs.MoveLaws.{less-or}
 use Rattle.moves.proofs.Ranges.{Agree}
 use Rattle.state.specs.declared.Slot.{Slot}
 use Rattle.state.specs.declared.State.{State}
 use Rattle.state.specs.declared.Line.{Line}
-use Rattle.state.specs.Records.{transferAt, slotAt}
+use Rattle.state.specs.Records.{transferAt, slotAt, noLine}
 use Rattle.state.specs.Soundness.{requests}
 use Rattle.state.specs.Control.{grantAt, slotGranted, slotAfterGrant, lineOf, waits, slotWaiting, slotAccessed}
-use Rattle.state.specs.Control.{slotFinished, stepOf, lineAfter, finished, stateAfter, linesOf}
+use Rattle.state.specs.Control.{slotFinished, stepOf, finished, stateAfter, linesOf}
 use Rattle.state.specs.Carrying.{carriesOut, carried, carriedBy, storeAfter}
 use Rattle.state.proofs.Sound.{Sound}
 use Rattle.state.proofs.DecodeLaws.{Accepted, accepted, requests-held, requests-target}
-use Rattle.state.proofs.StateLaws.{slot-after, held-after, unfinished-at, finished-by}
-use Rattle.state.proofs.StepLaws.{Turn, rests, waiting, works, ends, turn, waitNow, accessesNow}
+use Rattle.state.proofs.StateLaws.{slot-after, line-after, line-after-past, held-after, unfinished-at, finished-by}
+use Rattle.state.proofs.StepLaws.{Outcome, rests, waiting, works, ends, outcome, waitNow, accessesNow}
 use Rattle.state.proofs.StepLaws.{grant-serving, grant-given, line-owner, finished-serving}
 use Rattle.state.proofs.SoundLaws.{grant-sound, served-kept}
-use Rattle.history.specs.Claim.{Reference, bytesIn, seen, seenAll, stepped}
+use Rattle.history.specs.Claim.{Reference, bytesIn, stepped, seen, Order, seenAll}
+use Rattle.history.proofs.Orders.{run, sweep, numbers, run-none, run-next, times-numbers}
 use Rattle.history.proofs.ReadsServing.{endOf, Lies, Done, served-ends, bytes-in}
 use Rattle.history.proofs.ReadsSlave.{Wants, Right, GoesOn, right-begins, right-accesses, right-idle, right-passes}
 use Rattle.history.proofs.ReadsSlave.{right-other-begins, right-other-accesses}
 
 -- ---- slave after slave
 
--- f 0, f 1, .. f (n − 1), one after another
-unfoldable pub run : {X : Type 0} → (ℕ → X → X) → ℕ → X → X
-run f zero x = x
-run f (suc n) x = f n (run f n x)
+seen-run : (b : Board) (ss : List ℕ) (lines : List Line) (r : Reference)
+    → seenAll b ss lines r ≡ run (λ s. seen b (getD lines s noLine)) ss r
+unfolding seenAll run
+seen-run b [] lines r = refl
+seen-run b (s ∷ ss) lines r = seen-run b ss lines (seen b (getD lines s noLine) r)
 
--- P k becomes Q k by the step of k, and the steps of the others keep it
-pub sweep : {X : Type 0} (P Q : ℕ → X → Type 0) (f : ℕ → X → X) (n : ℕ)
-    → ((k : ℕ) → k < n → (x : X) → P k x → Q k (f k x))
-    → ((i k : ℕ) → i < n → k < n → i ≢ k → (x : X) → P i x → (P k x → P k (f i x)) × (Q k x → Q k (f i x)))
-    → (x : X) → ((k : ℕ) → k < n → P k x) → (i : ℕ) → i ≤ n
-    → ((k : ℕ) → i ≤ k → k < n → P k (run f i x)) × ((k : ℕ) → k < i → Q k (run f i x))
-unfolding run
-sweep P Q f n own keep x p zero h = (λ k a b. p k b, λ k a. absurd (omega arith))
-sweep P Q f n own keep x p (suc i) h =
-    let s = sweep P Q f n own keep x p i (omega arith) in
-    let here = s .0 i (omega arith) h in (
-      λ k a b. keep i k h b (λ e. omega arith) (run f i x) here .0 (s .0 k (omega arith) b),
-      λ k a.
-          ⊎-elim (λ (e : k ≡ i). rw e (own i h (run f i x) here))
-          (λ (l : k < i). keep i k h (omega arith) (λ e. omega arith) (run f i x) here .1 (s .1 k l))
-          (eq-or-lt-of-le (le-of-suc-le-suc a)),
-    )
+carried-run : (b : Board) (st : State) (n : ℕ) (d : Store) → carriedBy b st n d ≡ run (carried b st) (numbers n) d
+unfolding carriedBy
+carried-run b st zero d = sym (run-none (carried b st) d)
+carried-run b st (suc n) d = ap (carried b st n) (carried-run b st n d) ∙ sym (run-next (carried b st) n d)
 
-pub run-still : {X : Type 0} (f : ℕ → X → X) (n j : ℕ) (x : X) → ((i : ℕ) → n ≤ i → (y : X) → f i y ≡ y)
-    → run f (n + j) x ≡ run f n x
-unfolding run
-run-still f n zero x h = rw add-zero
-run-still f n (suc j) x h = rw add-suc (h (n + j) (omega arith) (run f (n + j) x) ∙ run-still f n j x h)
-
-seen-append : (b : Board) (ls : List Line) (l : Line) (r : Reference)
-    → seenAll b (ls ++ (l ∷ [])) r ≡ seen b l (seenAll b ls r)
-unfolding seenAll
-seen-append b [] l r = refl
-seen-append b (x ∷ ls) l r = seen-append b ls l (seen b x r)
-
-pub seen-run : (b : Board) (f : ℕ → Line) (n : ℕ) (r : Reference) → seenAll b (table f n) r ≡ run (λ k. seen b (f k)) n r
-unfolding table gather run seenAll
-seen-run b f zero r = refl
-seen-run b f (suc n) r = seen-append b (table f n) (f n) r ∙ ap (seen b (f n)) (seen-run b f n r)
-
-pub carried-run : (b : Board) (st : State) (n : ℕ) (d : Store) → carriedBy b st n d ≡ run (carried b st) n d
-unfolding carriedBy run
-carried-run b st zero d = refl
-carried-run b st (suc n) d = ap (carried b st n) (carried-run b st n d)
+-- the line of slave k
+abbrev lineAt : Board → State → ℕ → Line
+lineAt b st k = getD (linesOf b st) k noLine
 
 -- slave k, where its access of this clock is carried out and not yet looked at for the last
 unfoldable pub slotCarried : Board → State → ℕ → Slot
@@ -129,27 +100,26 @@ module _ (b : Board) (legal : Legal b) (st : State) (sound : Sound b st) where
   -- ---- the first cycles of a clock
 
   module _ (k : ℕ) (below : k < b .«slave_count») where
-    line-is : lineAfter b st k ≡ stepOf b st k .line
-    unfolding lineAfter
-    line-is = rw (lt-ltb k (b .«slave_count») below)
+    line-is : lineAt b st k ≡ stepOf b st k .line
+    line-is = line-after b st k below (legal .fewSlaves)
 
-    seen-silent : (r : Reference) → slotAfterGrant b st k .serving ≡ false → seen b (lineAfter b st k) r ≡ r
+    seen-silent : (r : Reference) → slotAfterGrant b st k .serving ≡ false → seen b (lineAt b st k) r ≡ r
     unfolding seen
-    seen-silent r off = rw line-is (go (turn b st k))
+    seen-silent r off = rw line-is (go (outcome b st k))
       where
-        go : Turn b st k → seen b (stepOf b st k .line) r ≡ r
+        go : Outcome b st k → seen b (stepOf b st k .line) r ≡ r
         go (rests e q) = rw q
         go (waiting e h q) = absurd (true≢false (sym e ∙ off))
         go (works e h l q) = absurd (true≢false (sym e ∙ off))
         go (ends e h l q) = absurd (true≢false (sym e ∙ off))
 
     seen-serving : (r : Reference) → slotAfterGrant b st k .serving ≡ true
-        → seen b (lineAfter b st k) r
+        → seen b (lineAt b st k) r
         ≡ cond (r .waiting (slotAfterGrant b st k .owner)) (stepped b (slotAfterGrant b st k .owner) r) r
     unfolding seen lineOf
-    seen-serving r on = rw line-is (go (turn b st k))
+    seen-serving r on = rw line-is (go (outcome b st k))
       where
-        go : Turn b st k
+        go : Outcome b st k
             → seen b (stepOf b st k .line) r
             ≡ cond (r .waiting (slotAfterGrant b st k .owner)) (stepped b (slotAfterGrant b st k .owner) r) r
         go (rests e q) = absurd (true≢false (sym on ∙ e))
@@ -172,11 +142,11 @@ module _ (b : Board) (legal : Legal b) (st : State) (sound : Sound b st) where
     owner-wants on = wants-of k (slotAfterGrant b st k .owner) (grant-sound b st legal sound k below .serving on .asks)
 
     first-cycle : (d : Store) (r : Reference) → Right b (transferAt st) d r k (slotAt st k)
-        → Right b (transferAt st) d (seen b (lineAfter b st k) r) k (slotAfterGrant b st k)
+        → Right b (transferAt st) d (seen b (lineAt b st k) r) k (slotAfterGrant b st k)
     first-cycle d r c = go (slotAt st k .serving) refl (slotAfterGrant b st k .serving) refl
       where
         go : (p : Bool) → slotAt st k .serving ≡ p → (q : Bool) → slotAfterGrant b st k .serving ≡ q
-            → Right b (transferAt st) d (seen b (lineAfter b st k) r) k (slotAfterGrant b st k)
+            → Right b (transferAt st) d (seen b (lineAt b st k) r) k (slotAfterGrant b st k)
         go true on q e =
             let o = slotAt st k .owner in
             let same = grant-serving b st k on in
@@ -195,11 +165,11 @@ module _ (b : Board) (legal : Legal b) (st : State) (sound : Sound b st) where
 
     -- and those of the other slaves
     other-cycle : (d : Store) (r : Reference) → Right b (transferAt st) d r k (slotAt st k) → (j : ℕ) → k ≢ j → (x : Slot)
-        → Right b (transferAt st) d r j x → Right b (transferAt st) d (seen b (lineAfter b st k) r) j x
+        → Right b (transferAt st) d r j x → Right b (transferAt st) d (seen b (lineAt b st k) r) j x
     other-cycle d r c j h x f = go (slotAfterGrant b st k .serving) refl (r .waiting (slotAfterGrant b st k .owner)) refl
       where
         go : (p : Bool) → slotAfterGrant b st k .serving ≡ p → (q : Bool) → r .waiting (slotAfterGrant b st k .owner) ≡ q
-            → Right b (transferAt st) d (seen b (lineAfter b st k) r) j x
+            → Right b (transferAt st) d (seen b (lineAt b st k) r) j x
         go false off q e = rw (seen-silent r off) f
         go true on false e = rw (seen-serving r on, e) f
         go true on true e =
@@ -208,27 +178,30 @@ module _ (b : Board) (legal : Legal b) (st : State) (sound : Sound b st) where
             rw (seen-serving r on, e)
             (right-other-begins b (transferAt st) j (λ m. lies m j) k o h w (lies o k w) d r x f (c .asked o w))
 
-  silent-past : (k : ℕ) → b .«slave_count» ≤ k → (r : Reference) → seen b (lineAfter b st k) r ≡ r
-  unfolding lineAfter seen
-  silent-past k h r = rw (le-ltb k (b .«slave_count») h)
+  -- the line of a number past the slaves has phase 0
+  silent-past : (k : ℕ) → b .«slave_count» ≤ k → (r : Reference) → seen b (lineAt b st k) r ≡ r
+  unfolding seen
+  silent-past k h r = rw (line-after-past b st k h)
 
-  -- all of them
-  first-cycles : (d : Store) (r : Reference) → Slaves b st (slotAt st) d r
-      → Slaves b st (slotAfterGrant b st) d (seenAll b (linesOf b st) r)
-  unfolding linesOf
-  first-cycles d r c k h =
+  -- all of them, in any order: it has every slave, as a board has 16 at most
+  first-cycles : (order : Order) (d : Store) (r : Reference) → Slaves b st (slotAt st) d r
+      → Slaves b st (slotAfterGrant b st) d (seenAll b (order .slaves) (linesOf b st) r)
+  first-cycles order d r c k h =
       let n = b .«slave_count» in
-      let f : ℕ → Reference → Reference = λ i. seen b (lineAfter b st i) in
       let few = legal .fewSlaves in
-      let e : 16 ≡ n + (16 - n) = omega arith in
-      let all : seenAll b (table (lineAfter b st) 16) r ≡ run f n r
-      = seen-run b (lineAfter b st) 16 r ∙ ap (λ (i : ℕ). run f i r) e ∙ run-still f n (16 - n) r silent-past in
-      rw all
-      (sweep (λ i s. Right b (transferAt st) d s i (slotAt st i))
-      (λ i s. Right b (transferAt st) d s i (slotAfterGrant b st i)) f n
-      (λ i a s p. first-cycle i a d s p)
-      (λ i j a q ne s p. (other-cycle i a d s p j ne (slotAt st j), other-cycle i a d s p j ne (slotAfterGrant b st j)))
-      r c n (omega arith) .1 k h)
+      rw (seen-run b (order .slaves) (linesOf b st) r)
+      (sweep (λ i s. i < n → Right b (transferAt st) d s i (slotAt st i))
+      (λ i s. i < n → Right b (transferAt st) d s i (slotAfterGrant b st i)) (λ i. seen b (lineAt b st i))
+      (λ i s p a. first-cycle i a d s (p a))
+      (λ i j ne s p.
+      ⊎-elim
+      (λ (a : i < n). (
+        λ x e. other-cycle i a d s (p a) j ne (slotAt st j) (x e),
+        λ x e. other-cycle i a d s (p a) j ne (slotAfterGrant b st j) (x e),
+      ))
+      (λ (a : n ≤ i). rw (silent-past i a s) (λ x. x, λ x. x))
+      (less-or i n))
+      _ (order .slaves) (order .once) r (λ i a. c i) (λ i a l. absurd (omega arith)) k h)
 
   -- ---- the accesses of a clock
 
@@ -272,10 +245,14 @@ module _ (b : Board) (legal : Legal b) (st : State) (sound : Sound b st) where
   accesses-all d r c k h =
       let n = b .«slave_count» in
       rw (carried-run b st n d)
-      (sweep (λ i e. Right b (transferAt st) e r i (slotAfterGrant b st i))
-      (λ i e. Right b (transferAt st) e r i (slotCarried b st i)) (carried b st) n (λ i a e p. access i a e r p)
-      (λ i j a q ne e p. (other-access i a e r j ne (slotAfterGrant b st j), other-access i a e r j ne (slotCarried b st j)))
-      d c n (omega arith) .1 k h)
+      (sweep (λ i e. (i < n) × Right b (transferAt st) e r i (slotAfterGrant b st i))
+      (λ i e. i < n → Right b (transferAt st) e r i (slotCarried b st i)) (carried b st)
+      (λ i e p a. access i a e r (p .1))
+      (λ i j ne e p. (
+        λ x. (x .0, other-access i (p .0) e r j ne (slotAfterGrant b st j) (x .1)),
+        λ x a. other-access i (p .0) e r j ne (slotCarried b st j) (x a),
+      ))
+      n (numbers n) (times-numbers n) d (λ i a. (a, c i a)) (λ i a l. absurd (omega arith)) k h)
 
   -- ---- the state after the clock
 
@@ -318,7 +295,7 @@ module _ (b : Board) (legal : Legal b) (st : State) (sound : Sound b st) where
     passes : (d : Store) (r : Reference) → Right b (transferAt st) d r k (slotCarried b st k)
         → Right b (transferAt (stateAfter b st)) d r k (slotAt (stateAfter b st) k)
     unfolding slotWaiting slotAccessed slotFinished
-    passes d r c = rw (slot-after b st k below (legal .fewSlaves)) (go (turn b st k))
+    passes d r c = rw (slot-after b st k below (legal .fewSlaves)) (go (outcome b st k))
       where
         pass : (y z : Slot) → slotCarried b st k ≡ y
             → ((m : ℕ) → Wants b m k (transferAt (stateAfter b st) m)
@@ -330,7 +307,7 @@ module _ (b : Board) (legal : Legal b) (st : State) (sound : Sound b st) where
             right-passes b (transferAt st) k (λ m. lies m k) (transferAt (stateAfter b st)) (λ m v. held-after b st m v .1)
             d r y z f g h (rw e at c)
 
-        go : Turn b st k → Right b (transferAt (stateAfter b st)) d r k (stepOf b st k .slot)
+        go : Outcome b st k → Right b (transferAt (stateAfter b st)) d r k (stepOf b st k .slot)
         go (rests e q) =
             let x = slotAfterGrant b st k in
             rw q
@@ -361,9 +338,9 @@ module _ (b : Board) (legal : Legal b) (st : State) (sound : Sound b st) where
     finish : (d : Store) (r : Reference) → Right b (transferAt st) d r k (slotCarried b st k)
         → stepOf b st k .finished ≡ true
         → Done b d r k (slotAfterGrant b st k .owner) (transferAt st (slotAfterGrant b st k .owner))
-    finish d r c f = go (turn b st k)
+    finish d r c f = go (outcome b st k)
       where
-        go : Turn b st k → Done b d r k (slotAfterGrant b st k .owner) (transferAt st (slotAfterGrant b st k .owner))
+        go : Outcome b st k → Done b d r k (slotAfterGrant b st k .owner) (transferAt st (slotAfterGrant b st k .owner))
         go (rests e q) = absurd (false≢true (rw q at f))
         go (waiting e h q) = absurd (false≢true (rw q at f))
         go (works e h l q) = absurd (false≢true (rw q at f))
@@ -371,22 +348,22 @@ module _ (b : Board) (legal : Legal b) (st : State) (sound : Sound b st) where
 
   -- ---- the clock whole
 
-  pub clock-right : (d : Store) (r : Reference) → Agreed b st d r
-      → Agreed b (stateAfter b st) (storeAfter b st d) (seenAll b (linesOf b st) r)
+  pub clock-right : (order : Order) (d : Store) (r : Reference) → Agreed b st d r
+      → Agreed b (stateAfter b st) (storeAfter b st d) (seenAll b (order .slaves) (linesOf b st) r)
   unfolding Agreed
-  clock-right d r c k h =
-      passes k h (storeAfter b st d) (seenAll b (linesOf b st) r)
-      (accesses-all d (seenAll b (linesOf b st) r) (first-cycles d r c) k h)
+  clock-right order d r c k h =
+      let s = seenAll b (order .slaves) (linesOf b st) r in
+      passes k h (storeAfter b st d) s (accesses-all d s (first-cycles order d r c) k h)
 
   -- the read claim
-  pub clock-read : (d : Store) (r : Reference) (m : ℕ) → Agreed b st d r → finished b st m ≡ true
-      → let s = seenAll b (linesOf b st) r in
+  pub clock-read : (order : Order) (d : Store) (r : Reference) (m : ℕ) → Agreed b st d r → finished b st m ≡ true
+      → let s = seenAll b (order .slaves) (linesOf b st) r in
       s .request m .write ≡ false → take (bytesIn b (s .request m)) (drop (partOf m) (storeAfter b st d .buffer)) ≡ s .given m
   unfolding Agreed
-  clock-read d r m c f e = go (finished-by b st m f)
+  clock-read order d r m c f e = go (finished-by b st m f)
     where
       s : Reference
-      s = seenAll b (linesOf b st) r
+      s = seenAll b (order .slaves) (linesOf b st) r
 
       go : (k : ℕ) × (k < b .«slave_count») × (stepOf b st k .finished ≡ true) × (stepOf b st k .line .owner ≡ m)
           → take (bytesIn b (s .request m)) (drop (partOf m) (storeAfter b st d .buffer)) ≡ s .given m
@@ -395,7 +372,7 @@ module _ (b : Board) (legal : Legal b) (st : State) (sound : Sound b st) where
           let on = finished-serving b st k (x .2) in
           let o : slotAfterGrant b st k .owner ≡ m = sym (line-owner b st k on) ∙ x .3 in
           let e′ = storeAfter b st d in
-          let c′ = accesses-all d s (first-cycles d r c) k (x .1) in
+          let c′ = accesses-all d s (first-cycles order d r c) k (x .1) in
           let w : Wants b m k (transferAt st m) =
           subst (λ (j : ℕ). Wants b j k (transferAt st j)) o (owner-wants k (x .1) on) in
           let a = c′ .asked m w in

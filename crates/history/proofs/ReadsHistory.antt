@@ -35,9 +35,9 @@ use Rattle.state.proofs.StateLaws.{transfer-reset, slot-reset, mask-bit, mask-b
 use Rattle.state.proofs.StateLaws.{transfer-with, transfer-with-other, slot-with}
 use Rattle.state.proofs.SoundLaws.{post-sound}
 use Rattle.history.specs.Claim.{Call, next, after, History, Start}
-use Rattle.history.specs.Claim.{names, Reference, referenceAt, bytesIn, seenAll, fedPost, fed}
+use Rattle.history.specs.Claim.{names, Reference, referenceAt, bytesIn, Order, seenAll, fedPost, fed}
 use Rattle.history.proofs.Calls.{withPost, withClock, Came, refused, postTaken, clockTaken, came, clock-stored, clock-answers}
-use Rattle.history.proofs.Standing.{Standing, Taken, post-taken, words-counted, start-checked, start-state, start-stands, post-stands, clock-stands, clock-free}
+use Rattle.history.proofs.Standing.{Standing, Taken, post-taken, start-checked, start-state, start-stands, post-stands, clock-stands, clock-free}
 use Rattle.history.proofs.ReadsServing.{bytesHeld, endOf, Asked, served-kept}
 use Rattle.history.proofs.ReadsSlave.{Wants, Right, SameMaster, asked-kept}
 use Rattle.history.proofs.ReadsClock.{Agreed, lies, clock-right, clock-read}
@@ -89,7 +89,7 @@ module _
         rw then-new at (lies b legal stateThen then-sound (q .master) (targetOf b (q .master) (q .address)) w .few)
 
     words-few : length (q .words) ≤ 512
-    words-few = go (q .write) (words-counted b q (fresh .words))
+    words-few = go (q .write) (fresh .words)
       where
         go : (c : Bool) → length (q .words) ≡ cond c (q .beats * masterAt b (q .master) .width) 0 → length (q .words) ≤ 512
         go true e = omega (arith, few)
@@ -114,7 +114,7 @@ module _
         record {
           master = rw e;
           transfer = rw e;
-          many = rw e (words-counted b q (fresh .words));
+          many = rw e (fresh .words);
           there =
               rw e
               (front-moved (q .words) 0 (partOf (q .master)) (length (q .words)) (d .buffer)
@@ -199,34 +199,35 @@ module _ (b : Board) (legal : Legal b) where
     right = post-right b legal (w .state) (g .stands .sound) (w .store) r q t (g .right);
   }
 
-  clock-good : (w : World) (r : Reference) → Good b legal w r → Good b legal (withClock b w) (seenAll b (linesOf b (w .state)) r)
-  clock-good w r g = record {
+  clock-good : (w : World) (r : Reference) (order : Order) → Good b legal w r
+      → Good b legal (withClock b w) (seenAll b (order .slaves) (linesOf b (w .state)) r)
+  clock-good w r order g = record {
     stands = clock-stands b legal w (g .stands);
-    right = clock-right b legal (w .state) (g .stands .sound) (w .store) r (g .right);
+    right = clock-right b legal (w .state) (g .stands .sound) order (w .store) r (g .right);
   }
 
-  good-step : (c : Call) (cs : List Call) (w : World) (r : Reference) → Good b legal w r → Came b w c
-      → ((s : Reference) → Good b legal (next w c) s → Good b legal (after (next w c) cs) (fed b s cs))
-      → Good b legal (after (next w c) cs) (fed b r (c ∷ cs))
-  good-step c cs w r g (refused e f k) rest =
-      subst (Good b legal (after (next w c) cs)) (sym (k r cs))
+  good-step : (orders : ℕ → Order) (c : Call) (cs : List Call) (w : World) (r : Reference) → Good b legal w r → Came b w c
+      → ((s : Reference) → Good b legal (next w c) s → Good b legal (after (next w c) cs) (fed b orders s cs))
+      → Good b legal (after (next w c) cs) (fed b orders r (c ∷ cs))
+  good-step orders c cs w r g (refused e f k) rest =
+      subst (Good b legal (after (next w c) cs)) (sym (k orders r cs))
       (rest r (subst (λ (u : World). Good b legal u r) (sym e) g))
-  good-step c cs w r g (postTaken q t e f k) rest =
-      subst (Good b legal (after (next w c) cs)) (sym (k r cs))
+  good-step orders c cs w r g (postTaken q t e f k) rest =
+      subst (Good b legal (after (next w c) cs)) (sym (k orders r cs))
       (rest (fedPost q r)
       (subst (λ (u : World). Good b legal u (fedPost q r)) (sym e)
       (post-good w r q g (post-taken b (w .state) (w .store .buffer) q t))))
-  good-step c cs w r g (clockTaken t e f k) rest =
-      subst (Good b legal (after (next w c) cs)) (sym (k r cs))
-      (rest (seenAll b (linesOf b (w .state)) r)
-      (subst (λ (u : World). Good b legal u (seenAll b (linesOf b (w .state)) r)) (sym e) (clock-good w r g)))
+  good-step orders c cs w r g (clockTaken t e f k) rest =
+      let s = seenAll b (orders (length cs) .slaves) (linesOf b (w .state)) r in
+      subst (Good b legal (after (next w c) cs)) (sym (k orders r cs))
+      (rest s (subst (λ (u : World). Good b legal u s) (sym e) (clock-good w r (orders (length cs)) g)))
 
-  pub history-good : (cs : List Call) (w : World) (r : Reference) → Good b legal w r → History b w cs
-      → Good b legal (after w cs) (fed b r cs)
+  pub history-good : (orders : ℕ → Order) (cs : List Call) (w : World) (r : Reference) → Good b legal w r → History b w cs
+      → Good b legal (after w cs) (fed b orders r cs)
   unfolding History after fed
-  history-good [] w r g h = g
-  history-good (c ∷ cs) w r g h =
-      good-step c cs w r g (came b w c (h .0)) (λ s x. history-good cs (next w c) s x (h .1))
+  history-good orders [] w r g h = g
+  history-good orders (c ∷ cs) w r g h =
+      good-step orders c cs w r g (came b w c (h .0)) (λ s x. history-good orders cs (next w c) s x (h .1))
 
 -- ---- the claim
 
@@ -237,17 +238,18 @@ named b st m e =
     (less-or m 8)
 
 -- "As the finishing clock leaves it, the front of its master's part .. equals what the read's step gave."
-pub reads-right : (b : Board) → Legal b → (w : World) (calls : List Call) (m : ℕ) → Start b w → History b w calls
+pub reads-right : (b : Board) → Legal b → (w : World) (calls : List Call) (orders : ℕ → Order) (last : Order) (m : ℕ)
+    → Start b w → History b w calls
     → let u = after w calls in
     let a = clock b (u .state) (u .store) in
-    let r = seenAll b (a .lines) (fed b (referenceAt (w .store .memory)) calls) in
+    let r = seenAll b (last .slaves) (a .lines) (fed b orders (referenceAt (w .store .memory)) calls) in
     names m a ≡ true → r .request m .write ≡ false
     → take (bytesIn b (r .request m)) (drop (partOf m) (storeAfterClock b (u .state) (u .store) .buffer)) ≡ r .given m
 unfolding names
-reads-right b legal w calls m s h =
-    let f = fed b (referenceAt (w .store .memory)) calls in
-    let g = history-good b legal calls w (referenceAt (w .store .memory)) (start-good b legal w s) h in
+reads-right b legal w calls orders last m s h =
+    let f = fed b orders (referenceAt (w .store .memory)) calls in
+    let g = history-good b legal orders calls w (referenceAt (w .store .memory)) (start-good b legal w s) h in
     let u = after w calls in
     let free = clock-free b legal (start-checked b w s) u (g .stands) in
     rw (clock-answers b u free, clock-stored b u free)
-    (λ n. clock-read b legal (u .state) (g .stands .sound) (u .store) f m (g .right) (named b (u .state) m n))
+    (λ n. clock-read b legal (u .state) (g .stands .sound) last (u .store) f m (g .right) (named b (u .state) m n))

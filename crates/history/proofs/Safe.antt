@@ -25,7 +25,7 @@ use Rattle.fabric.specs.Calls.{World, postRefusal, post, clock}
 use Rattle.state.proofs.CycleLaws.{left-resting}
 use Rattle.state.proofs.StateLaws.{transfer-with, slot-with}
 use Rattle.state.proofs.DecodeLaws.{Accepted, accepted, requests-held, requests-of}
-use Rattle.quote.specs.Waits as quote
+use Rattle.waits.specs.Waits as waits
 use Rattle.bounds.proofs.Potential.{pot, pot-quoted}
 use Rattle.history.specs.Claim as claim
 use Rattle.history.specs.Claim.{Call, Start, History, after, answers, shows, names, any, slaveFor, waitFor, lengthOf}
@@ -71,7 +71,7 @@ module _ (b : Board) (legal : Legal b) where
     bound : (slotAt st s .owner ≡ m → slotAt st s .remaining ≡ 0)
         → pot (b .«master_count») (sharesOf b legal s (fits .within)) (singleOf b legal s (fits .within))
         (serveOf b legal s (fits .within)) m (slotAt st s .owner) (slotAt st s .remaining)
-        (leftAt b st s) ≤ quote.quotedWait b m s
+        (leftAt b st s) ≤ waits.quotedWait b m s
     unfolding InTurn
     bound a =
         let p : InTurn b legal s (fits .within) (slotAt st s .owner) (slotAt st s .remaining) (leftAt b st s) = x .paced s (fits .within) in
@@ -80,7 +80,7 @@ module _ (b : Board) (legal : Legal b) where
         (serveOf b legal s (fits .within)) m (slotAt st s .owner) (slotAt st s .remaining)
         (leftAt b st s) (taken .master) (x .sound .owner s (fits .within)) p (λ o. (a o, none-left o)))
 
-    pub posted-waits : Waiting b legal m (taken .master) s (fits .within) (transferOf q) (quote.quotedWait b m s) (stateWith st m (transferOf q))
+    pub posted-waits : Waiting b legal m (taken .master) s (fits .within) (transferOf q) (waits.quotedWait b m s) (stateWith st m (transferOf q))
     posted-waits = record {
       holds = holds;
       asks =
@@ -91,7 +91,7 @@ module _ (b : Board) (legal : Legal b) where
           subst₃
           (λ (o r l : ℕ).
           pot (b .«master_count») (sharesOf b legal s (fits .within)) (singleOf b legal s (fits .within))
-          (serveOf b legal s (fits .within)) m o r l ≤ quote.quotedWait b m s)
+          (serveOf b legal s (fits .within)) m o r l ≤ waits.quotedWait b m s)
           (sym owner) (sym remaining) (sym (left-with b legal st (x .sound) m (transferOf q) (taken .free) s (fits .within)))
           (bound (λ o. sym remaining ∙ a (owner ∙ o)));
     }
@@ -138,10 +138,10 @@ module _ (b : Board) (legal : Legal b) where
         pub within : waitFor b q + 1 ≤ length (answers calls) → any (shows (q .master)) (take (waitFor b q + 1) (answers calls)) ≡ true
         unfolding waitFor slaveFor
         within l =
-            let e = add-one (quote.quotedWait b (q .master) (slaveFor b q)) in
+            let e = add-one (waits.quotedWait b (q .master) (slaveFor b q)) in
             ap (λ (n : ℕ). any (shows (q .master)) (take n (answers calls))) e
             ∙ first-within b legal (q .master) (taken .master) (slaveFor b q) (fits (after w before) stands q taken .within) (transferOf q)
-            calls (withPost (after w before) q) (quote.quotedWait b (q .master) (slaveFor b q))
+            calls (withPost (after w before) q) (waits.quotedWait b (q .master) (slaveFor b q))
             (post-stands b legal (after w before) q stands taken) (posted-waits (after w before) stands q taken) later′ (omega arith)
 
         pub finished : waitFor b q + lengthOf b q ≤ length (answers calls)
@@ -149,7 +149,7 @@ module _ (b : Board) (legal : Legal b) where
         unfolding waitFor lengthOf slaveFor
         finished l =
             finish-within b legal (q .master) (taken .master) (slaveFor b q) (fits (after w before) stands q taken .within) (transferOf q)
-            calls (withPost (after w before) q) (quote.quotedWait b (q .master) (slaveFor b q)) (lasts (after w before) stands q taken)
+            calls (withPost (after w before) q) (waits.quotedWait b (q .master) (slaveFor b q)) (lasts (after w before) stands q taken)
             (post-stands b legal (after w before) q stands taken) (posted-waits (after w before) stands q taken) later′ l
 
     pub served : (q : Request)

@@ -22,13 +22,14 @@ use Rattle.state.specs.declared.State.{State}
 use Rattle.state.specs.declared.Step.{Step}
 use Rattle.state.specs.Records.{transferAt, slotAt}
 use Rattle.geometry.specs.Decoding.{targetOf}
-use Rattle.state.specs.Posting.{Request, transferOf, wrongBeats, unaligned, wrongLanes, unmapped, passesEnd, transferRefusal}
+use Rattle.state.specs.Posting.{Request, transferOf}
 use Rattle.state.specs.Soundness.{sound}
 use Rattle.state.specs.Control.{slotAfterGrant, stepOf, stateAfter}
 use Rattle.state.specs.Carrying.{carriesOut, carried, carriedBy, storeAfter}
 use Rattle.state.specs.Resetting.{stateAtReset}
 use Rattle.state.specs.Posting.{stateWith}
-use Rattle.fabric.specs.Calls.{World, reset, postRefusal, clockRefusal, wrongWords}
+use Rattle.fabric.specs.Calls.{World, reset, postRefusal, clockRefusal}
+use Rattle.fabric.proofs.PostLaws as posts
 use Rattle.fabric.proofs.ClockLaws.{not-refused}
 use Rattle.state.proofs.Sound.{Sound}
 use Rattle.state.proofs.CycleLaws.{leftOf, left-resting, cycle}
@@ -79,38 +80,13 @@ pub record Standing (b : Board) (legal : Legal b) (w : World) : Type 0 where
   pub memory : length (w .store .memory) ≡ memoryLength b
   pub buffer : length (w .store .buffer) ≡ bufferLength
 
--- what is true of a post that is taken
-pub record Taken (b : Board) (st : State) (q : Request) : Type 0 where
-  pub master : q .master < b .«master_count»
-  pub free : transferAt st (q .master) .held ≡ false
-  pub fits : transferRefusal b (q .master) (transferOf q) ≡ 0
-  pub words : wrongWords b q ≡ false
-
-passed-number : (n x : ℕ) → cond (not (eqb n 0)) n x ≡ 0 → (n ≡ 0) × (x ≡ 0)
-passed-number n x e = go (eqb n 0) refl e
-  where
-    go : (c : Bool) → eqb n 0 ≡ c → cond (not c) n x ≡ 0 → (n ≡ 0) × (x ≡ 0)
-    go true q f = (eqb-true n 0 q, f)
-    go false q f = absurd (false≢true (sym q ∙ eq-eqb n 0 f))
+-- what is true of a request whose post is taken
+abbrev pub Taken : Board → State → Request → Type 0
+Taken b st q = posts.Taken b st (q .master) (transferOf q) (length (q .words))
 
 pub post-taken : (b : Board) (st : State) (buffer : List ℕ) (q : Request) → postRefusal b st buffer q ≡ 0 → Taken b st q
 unfolding postRefusal
-post-taken b st buffer q e =
-    let p = passed-number (checkBoard b) _ e in
-    let r = passed (not (eqb (length buffer) bufferLength)) 7 _ (p .1) in
-    let u = passed (not (sound b st)) 8 _ (r .1) in
-    let v = passed (leb (b .«master_count») (q .master)) 10 _ (u .1) in
-    let x = passed (transferAt st (q .master) .held) 11 _ (v .1) in
-    let y = passed-number (transferRefusal b (q .master) (transferOf q)) _ (x .1) in
-    let z = passed (wrongWords b q) 17 0 (y .1) in
-    record { master = leb-false _ _ (v .0); free = x .0; fits = y .0; words = z .0 }
-
--- its words are as many as its beats ask
-pub words-counted : (b : Board) (q : Request) → wrongWords b q ≡ false
-    → length (q .words) ≡ cond (q .write) (q .beats * masterAt b (q .master) .width) 0
-unfolding wrongWords
-words-counted b q e =
-    eqb-true (length (q .words)) (cond (q .write) (q .beats * masterAt b (q .master) .width) 0) (not-false _ e)
+post-taken b st buffer q e = posts.taken b (q .master) (transferOf q) st (length buffer) (length (q .words)) e .2
 
 -- a history starts on a checked board, with the state at reset
 pub start-checked : (b : Board) (w : World) → Start b w → checkBoard b ≡ 0
@@ -120,23 +96,6 @@ start-checked b w x = x .accepted
 pub start-state : (b : Board) (w : World) → Start b w → w .state ≡ stateAtReset b
 unfolding reset
 start-state b w x = x .state ∙ rw (eq-eqb (checkBoard b) 0 (start-checked b w x))
-
--- taken, or refused with 11 or more
-abbrev Late : ℕ → Type 0
-Late n = (n ≡ 0) ⊎ (11 ≤ n)
-
-late : (c : Bool) (n x : ℕ) → Late n → Late x → Late (cond c n x)
-late true n x a b = a
-late false n x a b = b
-
-late-transfer : (b : Board) (m : ℕ) (t : Transfer) → Late (transferRefusal b m t)
-unfolding transferRefusal
-late-transfer b m t =
-    late (wrongBeats (masterAt b m) t) 13 _ (inr (omega arith))
-    (late (unaligned (masterAt b m) t) 14 _ (inr (omega arith))
-    (late (wrongLanes (masterAt b m) t) 15 _ (inr (omega arith))
-    (late (unmapped b m t) 16 _ (inr (omega arith))
-    (late (passesEnd (masterAt b m) (slaveAt b (targetOf b m (t .address))) t) 17 0 (inr (omega arith)) (inl refl)))))
 
 module _ (b : Board) (legal : Legal b) where
   -- a post changes no slot, and no serving slave's owner
@@ -240,15 +199,8 @@ module _ (b : Board) (legal : Legal b) where
 
   -- a post is taken, or refused for its own part
   pub post-free : checkBoard b ≡ 0 → (w : World) → Standing b legal w → (q : Request)
-      → (postRefusal b (w .state) (w .store .buffer) q ≡ 0) ⊎ (11 ≤ postRefusal b (w .state) (w .store .buffer) q)
+      → posts.Late (postRefusal b (w .state) (w .store .buffer) q)
   unfolding postRefusal
   post-free ok w x q =
-      rw (
-        eq-eqb (checkBoard b) 0 ok,
-        eq-eqb (length (w .store .buffer)) bufferLength (x .buffer),
-        sound-test b (w .state) legal (x .sound),
-      )
-      (late (leb (b .«master_count») (q .master)) 11 _ (inr (omega arith))
-      (late (transferAt (w .state) (q .master) .held) 12 _ (inr (omega arith))
-      (late (not (eqb (transferRefusal b (q .master) (transferOf q)) 0)) _ _ (late-transfer b (q .master) (transferOf q))
-      (late (wrongWords b q) 18 0 (inr (omega arith)) (inl refl)))))
+      posts.refused-late b (q .master) (transferOf q) (w .state) _ (length (q .words)) ok (x .buffer)
+      (sound-test b (w .state) legal (x .sound))

@@ -5,7 +5,7 @@ use mathlib.Core.Bool.{Bool, true, false, cond, _&&_, _||_}
 use mathlib.Core.List.{List, [], _∷_}
 use mathlib.Core.Logic.{_⊎_, _≢_}
 use Prim.Native.Nat.{ℕ, _+_, _*_, _≤_, _<_}
-use lib.Dec.{eqb}
+use lib.Dec.{eqb, ltb}
 use lib.ListN.{length, getD, take, drop}
 use Rattle.laws.specs.Bits.{bit}
 use Rattle.laws.specs.Lists.{some}
@@ -17,11 +17,11 @@ use Rattle.moves.specs.Moving.{move}
 use Rattle.moves.specs.Bytes.{Store, bufferLength, partOf, memoryPlace, enabled}
 use Rattle.state.specs.declared.State.{State}
 use Rattle.state.specs.declared.Line.{Line}
-use Rattle.fabric.specs.declared.Clocked.{Clocked}
+use Rattle.state.specs.declared.Clocked.{Clocked}
 use Rattle.state.specs.Records.{noLine}
 use Rattle.state.specs.Posting.{Request, transferOf}
 use Rattle.fabric.specs.Calls.{World, reset, post, bufferAfterPost, clock, storeAfterClock}
-use Rattle.quote.specs.Waits.{quotedWait}
+use Rattle.waits.specs.Waits.{quotedWait}
 
 -- ---- the list
 
@@ -163,10 +163,20 @@ stepped b m r = record {
 unfoldable pub seen : Board → Line → Reference → Reference
 seen b l r = cond ((eqb (l .phase) 1 || eqb (l .phase) 2) && r .waiting (l .owner)) (stepped b (l .owner) r) r
 
--- "those of one clock are on different slaves and may be taken in any order": by slave number
-unfoldable pub seenAll : Board → List Line → Reference → Reference
-seenAll b [] r = r
-seenAll b (l ∷ ls) r = seenAll b ls (seen b l r)
+-- how often s is in the list
+unfoldable pub times : ℕ → List ℕ → ℕ
+times s [] = 0
+times s (k ∷ ks) = cond (eqb k s) (times s ks + 1) (times s ks)
+
+-- "those of one clock are on different slaves and may be taken in any order": it has each slave number, 0 to 15, once, no other
+pub record Order : Type 0 where
+  pub slaves : List ℕ
+  pub once : (s : ℕ) → times s slaves ≡ cond (ltb s 16) 1 0
+
+-- the lines of one clock, taken in the order of these slaves
+unfoldable pub seenAll : Board → List ℕ → List Line → Reference → Reference
+seenAll b [] lines r = r
+seenAll b (s ∷ ss) lines r = seenAll b ss lines (seen b (getD lines s noLine) r)
 
 -- "It is fed the posts not refused, and from the clocks' answers only the order"
 unfoldable pub fedPost : Request → Reference → Reference
@@ -177,10 +187,14 @@ fedPost q r = record {
   given = r .given;
 }
 
-unfoldable pub fed : Board → Reference → List Call → Reference
-fed b r [] = r
-fed b r (posts b′ st buffer q ∷ cs) = fed b (cond (eqb (post b′ st buffer q .number) 0) (fedPost q r) r) cs
-fed b r (clocks b′ st d ∷ cs) = fed b (cond (eqb (clock b′ st d .number) 0) (seenAll b (clock b′ st d .lines) r) r) cs
+-- each clock has an order of its own: orders n is that of the clock which n calls of the list follow
+unfoldable pub fed : Board → (ℕ → Order) → Reference → List Call → Reference
+fed b orders r [] = r
+fed b orders r (posts b′ st buffer q ∷ cs) =
+    fed b orders (cond (eqb (post b′ st buffer q .number) 0) (fedPost q r) r) cs
+fed b orders r (clocks b′ st d ∷ cs) =
+    fed b orders
+    (cond (eqb (clock b′ st d .number) 0) (seenAll b (orders (length cs) .slaves) (clock b′ st d .lines) r) r) cs
 
 -- ---- the claim
 
@@ -204,10 +218,11 @@ pub record Demand3 (b : Board) : Type 0 where
       × (any (shows m) (take (quotedWait b m s) (answers calls)) ≡ false)
       × (any (shows m) (answers calls) ≡ true)
   -- "As the finishing clock leaves it, the front of its master's part .. equals what the read's step gave."
-  pub reads : (w : World) (calls : List Call) (m : ℕ) → Start b w → History b w calls
+  -- with any orders in the clocks before, and any order, last, in the finishing clock
+  pub reads : (w : World) (calls : List Call) (orders : ℕ → Order) (last : Order) (m : ℕ) → Start b w → History b w calls
       → let u = after w calls in
       let a = clock b (u .state) (u .store) in
-      let r = seenAll b (a .lines) (fed b (referenceAt (w .store .memory)) calls) in
+      let r = seenAll b (last .slaves) (a .lines) (fed b orders (referenceAt (w .store .memory)) calls) in
       names m a ≡ true → r .request m .write ≡ false
       → take (bytesIn b (r .request m)) (drop (partOf m) (storeAfterClock b (u .state) (u .store) .buffer)) ≡ r .given m
   -- a call handed what the history left is refused for nothing of 2 to 9

@@ -5,7 +5,7 @@ use mathlib.Core.List.{List}
 use Prim.Native.Nat.{ℕ}
 use lib.ListN.{drop}
 use Rattle.description.specs.Reader.{readText}
-use Rattle.quote.specs.Waits.{quotedWait, serveOf}
+use Rattle.waits.specs.Waits.{quotedWait, serveOf}
 use Rattle.quote.specs.Answers.{spelled, waitRefusal, waitOutput}
 
 -- the wait call is taken, the first 8 bytes that it leaves spell the wait of demand 3, and the next 8 the serve

@@ -20,10 +20,10 @@ use Rattle.board.specs.Records.{masterAt, slaveAt, sharesAt, connected}
 use Rattle.board.specs.Legal.{Legal}
 use Rattle.board.proofs.RuleLaws.{width-bound, burst-bound}
 use Rattle.geometry.specs.Accesses.{ratio}
-use Rattle.quote.specs.Waits.{longestAccess, mostBeats, single, serve, turn, otherTurn, turnsOf, quotedWait, serveOf}
+use Rattle.waits.specs.Waits.{longestAccess, mostBeats, single, serve, turn, otherTurn, turnsOf, quotedWait, serveOf}
 use Rattle.quote.specs.Answers.{bytes64, spelled, pairBytes}
-use Rattle.quote.proofs.Bounds.{serve-le, turn-le}
-use Rattle.quote.proofs.SumLaws.{sum-le}
+use Rattle.waits.proofs.Bounds.{serve-le, turn-le}
+use Rattle.waits.proofs.SumLaws.{sum-le}
 
 -- the wait is the sum of the turns of all other masters connected to the slave
 pub wait-turns : (b : Board) (m s : ℕ)

@@ -1,17 +1,15 @@
--- What the wait call and the table program answer.
+-- What the wait call answers.
 -- Assumes nothing.
 use mathlib.Core.Bool.{cond, not}
-use mathlib.Core.List.{List, [], _∷_, _++_}
+use mathlib.Core.List.{List, _++_}
 use Prim.Native.Nat.{ℕ, _*_, _/_, _%_, _^_}
 use lib.Dec.{ltb, leb, eqb}
 use lib.ListN.{length, getD, drop}
-use Rattle.laws.specs.Bytes.{bytesOf}
-use Rattle.laws.specs.Lists.{sum, gather, table}
-use Rattle.text.specs.Digits.{digits, lineText}
+use Rattle.laws.specs.Lists.{sum, table}
 use Rattle.board.specs.declared.Board.{Board}
 use Rattle.board.specs.Records.{connected}
 use Rattle.description.specs.Reader.{readText}
-use Rattle.quote.specs.Waits.{quotedWait, serveOf}
+use Rattle.waits.specs.Waits.{quotedWait, serveOf}
 
 -- a 64-bit number, "lowest byte first"
 unfoldable pub bytes64 : ℕ → List ℕ
@@ -41,27 +39,3 @@ waitRefusal text m s out =
 unfoldable pub waitOutput : List ℕ → ℕ → ℕ → List ℕ → List ℕ
 waitOutput text m s out =
     cond (eqb (waitRefusal text m s out) 0) (pairBytes (readText text .board) m s ++ drop 16 out) out
-
--- the table's first line
-unfoldable pub heading : List ℕ
-heading = bytesOf "master,slave,wait,serve\n"
-
--- "one line per connected pair": master, slave, wait, serve
-unfoldable pub pairLine : Board → ℕ → ℕ → List ℕ
-pairLine b m s =
-    cond (connected b m s) (lineText (digits m) (s ∷ quotedWait b m s ∷ serveOf b m s ∷ [])) []
-
--- "by master, then slave"
-unfoldable pub pairLines : Board → List ℕ
-pairLines b = gather (λ m. gather (pairLine b m) (b .«slave_count»)) (b .«master_count»)
-
-unfoldable pub tableText : Board → List ℕ
-tableText b = heading ++ pairLines b
-
--- "For a refused text it prints `refused,`, the number and a line feed."
-unfoldable pub refusedText : ℕ → List ℕ
-refusedText n = lineText (bytesOf "refused") (n ∷ [])
-
--- what the table program prints
-unfoldable pub printed : List ℕ → List ℕ
-printed text = let r = readText text in cond (eqb (r .number) 0) (tableText (r .board)) (refusedText (r .number))

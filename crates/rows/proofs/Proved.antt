@@ -12,7 +12,7 @@ use Rattle.board.specs.Rules.{slaveValues, meets, overlaps, masterRefusal, slav
 use Rattle.board.specs.Items.{masterItem, slaveItem, shareItem, items, checkBoard}
 use Rattle.description.specs.Writer.{itemText, itemsText, writeText}
 use Rattle.description.specs.Reader.{masterLine, slaveLine, shareLine, itemOfFields, itemOf, unended, itemsOfPieces, itemsOf, reading, readText}
-use Rattle.geometry.specs.Lanes.{lowest, adjacent, legalLanes, postLanes}
+use Rattle.lanes.specs.Lanes.{lowest, adjacent, legalLanes, postLanes}
 use Rattle.geometry.specs.Decoding.{agrees, selects, targetOf}
 use Rattle.geometry.specs.Accesses.{ratio, accesses, accessBytes, firstByte, accessOffset, wordOffset, writeLanes, slaveLanes, waitOf, ownLength}
 use Rattle.geometry.specs.Runs.{runLimit, placeOf, runOf}
@@ -21,16 +21,17 @@ use Rattle.arbiter.specs.Granting.{kept, grantTo, granted}
 use Rattle.moves.specs.Moving.{move}
 use Rattle.moves.specs.Bytes.{posted, enabled, memoryPlace, written, fetched, accessed}
 use Rattle.state.specs.Records.{noState}
-use Rattle.state.specs.Posting.{wrongBeats, unaligned, wrongLanes, unmapped, passesEnd, transferRefusal}
-use Rattle.state.specs.Soundness.{requests, soundTransfer, soundOwner, soundRemaining, soundService, soundRest, soundSlot, sound}
+use Rattle.state.specs.Posting.{wrongBeats, unaligned, wrongLanes, unmapped, passesEnd, refusalAt, transferRefusal}
+use Rattle.state.specs.Soundness.{requests, soundTransfer, soundOwner, soundRemaining, soundService, soundRest, slotSound, soundSlot, sound}
 use Rattle.state.specs.Control.{grantAt, slotGranted, slotAfterGrant, lineOf, waits, slotWaiting, slotAccessed, slotFinished, served, stepOf, lineAfter, slotAfter, finishes, finished, maskOf, transferAfter, stateAfter, linesOf}
 use Rattle.state.specs.Carrying.{carriesOut, carried, carriedBy, storeAfter}
-use Rattle.state.specs.Resetting.{slotAtReset, stateAtReset}
+use Rattle.state.specs.Resetting.{ownedBy, stateAtReset}
 use Rattle.state.specs.Posting.{stateWith}
-use Rattle.fabric.specs.Calls.{reset, wrongWords, postRefusal, post, bufferAfterPost, clockRefusal, clock, storeAfterClock, afterPost, afterClock}
-use Rattle.quote.specs.Waits as quoted
+use Rattle.fabric.specs.Calls.{reset, wrongWords, requestRefusal, refusalBy, postRefusal, post, bufferAfterPost, clockRefusal, clock, storeAfterClock, afterPost, afterClock}
+use Rattle.waits.specs.Waits as quoted
 use Rattle.quote.specs.Calls.{quoteRefusal, quoteOf}
-use Rattle.quote.specs.Answers.{bytes64, pairBytes, pairRefusal, waitRefusal, waitOutput, heading, pairLine, pairLines, tableText, refusedText, printed}
+use Rattle.quote.specs.Answers.{bytes64, pairBytes, pairRefusal, waitRefusal, waitOutput}
+use Rattle.tables.specs.Tables.{heading, pairLine, pairLines, tableText, refusedText, printed}
 use Rattle.rows.specs.Runs.{runs, started, lineNow, phases, grants}
 use Rattle.rows.specs.Examples.{readAnswers, slaveAnswers, Examples}
 use Rattle.rows.specs.Rows.{boardText, sharesText, tableOutput, Rows}
@@ -47,11 +48,11 @@ unfolding
     lowest adjacent legalLanes postLanes agrees selects targetOf
     ratio accesses accessBytes firstByte accessOffset wordOffset writeLanes slaveLanes waitOf ownLength runLimit placeOf runOf
     above tried chosen kept grantTo granted move posted enabled memoryPlace written fetched accessed
-    noState wrongBeats unaligned wrongLanes unmapped passesEnd transferRefusal
-    requests soundTransfer soundOwner soundRemaining soundService soundRest soundSlot sound
+    noState wrongBeats unaligned wrongLanes unmapped passesEnd refusalAt transferRefusal
+    requests soundTransfer soundOwner soundRemaining soundService soundRest slotSound soundSlot sound
     grantAt slotGranted slotAfterGrant lineOf waits slotWaiting slotAccessed slotFinished served stepOf lineAfter slotAfter finishes
     finished maskOf transferAfter stateAfter linesOf carriesOut carried carriedBy storeAfter
-    slotAtReset stateAtReset reset wrongWords postRefusal stateWith post bufferAfterPost clockRefusal clock storeAfterClock
+    ownedBy stateAtReset reset wrongWords requestRefusal refusalBy postRefusal stateWith post bufferAfterPost clockRefusal clock storeAfterClock
     quoted.longestAccess quoted.mostBeats quoted.single quoted.serve quoted.turn quoted.otherTurn quoted.turnsOf quoted.quotedWait quoted.serveOf
     heading pairLine pairLines tableText refusedText printed runs started afterPost afterClock lineNow phases grants
     boardText sharesText tableOutput

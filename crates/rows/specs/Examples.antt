@@ -9,7 +9,8 @@ use Rattle.laws.specs.Bytes.{bytesOf}
 use Rattle.description.specs.Reader.{readText}
 use Rattle.description.specs.Writer.{writeText}
 use Rattle.fabric.specs.Calls.{post}
-use Rattle.quote.specs.Answers.{waitRefusal, waitOutput, printed}
+use Rattle.quote.specs.Answers.{waitRefusal, waitOutput}
+use Rattle.tables.specs.Tables.{printed}
 use Rattle.quote.specs.Calls.{quoteOf}
 use Rattle.rows.specs.Runs.{started}
 use Rattle.rows.specs.Rows.{boardText}

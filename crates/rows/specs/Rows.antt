@@ -9,9 +9,9 @@ use Rattle.laws.specs.Bytes.{bytesOf}
 use Rattle.board.specs.declared.Master.{Master}
 use Rattle.board.specs.declared.Slave.{Slave}
 use Rattle.geometry.specs.declared.Transfer.{Transfer}
-use Rattle.geometry.specs.Lanes.{legalLanes}
+use Rattle.lanes.specs.Lanes.{legalLanes}
 use Rattle.description.specs.Reader.{readText}
-use Rattle.quote.specs.Answers.{printed}
+use Rattle.tables.specs.Tables.{printed}
 use Rattle.state.specs.Posting.{Request}
 use Rattle.fabric.specs.Calls.{afterPost}
 use Rattle.rows.specs.Runs.{runs, started, phases, grants}

@@ -1,6 +1,6 @@
 -- The slave's last owner and remaining grants after a clock are those that `arbiter::arbitrate_record` leaves in its record.
 -- Assumes nothing.
-use mathlib.Core.Path.{_≡_, refl, sym, _∙_, ap}
+use mathlib.Core.Path.{_≡_, refl, _∙_, ap}
 use mathlib.Core.Bool.{Bool, true, false}
 use Prim.Native.Nat.{ℕ, _≤_, _<_}
 use Rattle.board.specs.declared.Board.{Board}
@@ -9,12 +9,11 @@ use Rattle.arbiter.specs.declared.Grant.the-variants.{Granted, Silent}
 use Rattle.arbiter.specs.Granting.{arbiterAfter}
 use Rattle.state.specs.declared.Slot.{Slot}
 use Rattle.state.specs.declared.State.{State}
-use Rattle.state.specs.declared.Step.{Step}
 use Rattle.state.specs.Records.{slotAt}
 use Rattle.state.specs.Control.{slotGranted, slotAfterGrant, slotWaiting, slotAccessed, slotFinished, stepOf, stateAfter, grantAt}
 use Rattle.state.specs.ArbiterRecords.{recordOf, recordAfter}
 use Rattle.state.proofs.StateLaws.{slot-after}
-use Rattle.state.proofs.StepLaws.{Turn, rests, waiting, works, ends, turn, grant-serving, grant-given}
+use Rattle.state.proofs.StepLaws.{Outcome, rests, waiting, works, ends, outcome, grant-serving, grant-given}
 
 -- rule 1 changes a slot's record as the arbiter's rule says
 pub granted-record : (slot : Slot) (g : Grant) → recordOf (slotGranted slot g) ≡ arbiterAfter (recordOf slot) g
@@ -25,9 +24,9 @@ granted-record slot Silent = refl
 -- rules 2 and 3 leave the record
 step-record : (b : Board) (st : State) (s : ℕ) → recordOf (stepOf b st s .slot) ≡ recordOf (slotAfterGrant b st s)
 unfolding recordOf slotWaiting slotAccessed slotFinished
-step-record b st s = go (turn b st s)
+step-record b st s = go (outcome b st s)
   where
-    go : Turn b st s → recordOf (stepOf b st s .slot) ≡ recordOf (slotAfterGrant b st s)
+    go : Outcome b st s → recordOf (stepOf b st s .slot) ≡ recordOf (slotAfterGrant b st s)
     go (rests e q) = rw q
     go (waiting e w q) = rw q
     go (works e w l q) = rw q

@@ -15,14 +15,14 @@ use Rattle.board.specs.Rules.{meets}
 use Rattle.board.specs.Legal.{LegalSlave, Legal}
 use Rattle.board.proofs.RuleLaws.{span-bound}
 use Rattle.geometry.specs.declared.Transfer.{Transfer}
-use Rattle.geometry.specs.Lanes.{postLanes}
+use Rattle.lanes.specs.Lanes.{postLanes}
 use Rattle.geometry.specs.Decoding.{agrees, selects, targetOf}
 use Rattle.geometry.specs.Accesses.{accesses}
 use Rattle.geometry.proofs.DecodeLaws.{agrees-within, within-agrees, span-of}
 use Rattle.geometry.proofs.AccessLaws.{width-pos, accesses-pos}
 use Rattle.state.specs.declared.State.{State}
 use Rattle.state.specs.Records.{transferAt}
-use Rattle.state.specs.Posting.{wrongBeats, unaligned, wrongLanes, unmapped, passesEnd, transferRefusal}
+use Rattle.state.specs.Posting.{wrongBeats, unaligned, wrongLanes, unmapped, passesEnd, refusalAt, transferRefusal}
 use Rattle.state.specs.Soundness.{requests}
 
 -- the address lies in the slave's span
@@ -146,13 +146,13 @@ pub record Accepted (b : Board) (m : ℕ) (t : Transfer) (s : ℕ) : Type 0 wher
 module _ (b : Board) (legal : Legal b) (m : ℕ) (t : Transfer) (ok : transferRefusal b m t ≡ 0) where
   -- it is for a slave
   pub accepted : Accepted b m t (targetOf b m (t .address))
-  unfolding transferRefusal wrongBeats unaligned wrongLanes unmapped passesEnd
+  unfolding transferRefusal refusalAt wrongBeats unaligned wrongLanes unmapped passesEnd
   accepted =
       let s = targetOf b m (t .address) in
       let p = passed (wrongBeats (masterAt b m) t) 12 _ ok in
       let q = passed (unaligned (masterAt b m) t) 13 _ (p .1) in
       let r = passed (wrongLanes (masterAt b m) t) 14 _ (q .1) in
-      let u = passed (unmapped b m t) 15 _ (r .1) in
+      let u = passed (unmapped s (b .«slave_count»)) 15 _ (r .1) in
       let v = passed (passesEnd (masterAt b m) (slaveAt b s) t) 16 _ (u .1) in
       let f = target-first b m (t .address) in
       let none = eqb-false s (b .«slave_count») (u .0) in

@@ -4,8 +4,4 @@ pub mod DecodeLaws
 pub mod StepLaws
 pub mod SoundLaws
 pub mod CycleLaws
-pub mod TargetLaws
-pub mod CheckLaws
-pub mod ServeLaws
-pub mod PlaceLaws
 pub mod ArbiterRecords

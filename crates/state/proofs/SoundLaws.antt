@@ -24,18 +24,18 @@ use Rattle.state.specs.declared.Slot.{Slot}
 use Rattle.state.specs.declared.State.{State}
 use Rattle.state.specs.Records.{transferAt, slotAt}
 use Rattle.state.specs.Posting.{transferRefusal}
-use Rattle.state.specs.Soundness.{requests, soundTransfer, soundSlot, sound}
+use Rattle.state.specs.Soundness.{requests, soundTransfer, slotSound, soundSlot, sound}
 use Rattle.state.specs.Soundness.{soundOwner, soundRemaining, soundService, soundRest}
 use Rattle.state.specs.Control.{grantAt, slotGranted, slotAfterGrant, slotWaiting, slotAccessed, slotFinished}
 use Rattle.state.specs.Control.{stepOf, finished, stateAfter}
-use Rattle.state.specs.Resetting.{slotAtReset, stateAtReset}
+use Rattle.state.specs.Resetting.{ownedBy, stateAtReset}
 use Rattle.state.specs.Posting.{stateWith}
 use Rattle.state.proofs.Sound.{Sound}
 use Rattle.state.proofs.StateLaws.{transfers-after, slots-after, slot-after, transfer-after, finished-by}
 use Rattle.state.proofs.StateLaws.{transfer-kept, held-after, transfer-reset, slot-reset}
 use Rattle.state.proofs.StateLaws.{transfers-with, slots-with, transfer-with, transfer-with-other, slot-with}
 use Rattle.state.proofs.DecodeLaws.{requests-held, requests-one, Accepted, accepted-at, requests-selects}
-use Rattle.state.proofs.StepLaws.{waitNow, accessesNow, Turn, rests, waiting, works, ends, turn}
+use Rattle.state.proofs.StepLaws.{waitNow, accessesNow, Outcome, rests, waiting, works, ends, outcome}
 use Rattle.state.proofs.StepLaws.{grant-serving, grant-given, line-owner, finished-serving}
 
 -- the slot x of slave s: it serves a transfer of which something is left
@@ -76,7 +76,20 @@ module _ (b : Board) (st : State) where
 
 -- the test of a slot and the facts
 module _ (b : Board) (st : State) (s : ℕ) (x : Slot) where
-  remaining-facts : soundRemaining b s x ≡ true → (x .remaining ≡ 0) ⊎ (x .remaining < sharesAt b (x .owner) s)
+  -- the slot's owner serves, and its grants remain, by the tests
+  abbrev kept : Bool
+  kept = soundRemaining (sharesAt b (x .owner) s) x
+
+  abbrev serves : Bool
+  serves = soundService (requests b st s (x .owner)) (masterAt b (x .owner)) (slaveAt b s) (transferAt st (x .owner)) x
+
+  abbrev passes : Bool
+  passes =
+      soundOwner b x
+      && slotSound (sharesAt b (x .owner) s) (requests b st s (x .owner)) (masterAt b (x .owner)) (slaveAt b s)
+      (transferAt st (x .owner)) x
+
+  remaining-facts : kept ≡ true → (x .remaining ≡ 0) ⊎ (x .remaining < sharesAt b (x .owner) s)
   unfolding soundRemaining
   remaining-facts e = go (eqb (sharesAt b (x .owner) s) 0) refl
     where
@@ -84,7 +97,7 @@ module _ (b : Board) (st : State) (s : ℕ) (x : Slot) where
       go true q = inl (eqb-true (x .remaining) 0 (rw (q, soundRemaining) at e))
       go false q = inr (ltb-true (x .remaining) (sharesAt b (x .owner) s) (rw (q, soundRemaining) at e))
 
-  remaining-test : (x .remaining ≡ 0) ⊎ (x .remaining < sharesAt b (x .owner) s) → soundRemaining b s x ≡ true
+  remaining-test : (x .remaining ≡ 0) ⊎ (x .remaining < sharesAt b (x .owner) s) → kept ≡ true
   unfolding soundRemaining
   remaining-test r = go (eqb (sharesAt b (x .owner) s) 0) refl
     where
@@ -99,7 +112,7 @@ module _ (b : Board) (st : State) (s : ℕ) (x : Slot) where
           lt-ltb (x .remaining) (sharesAt b (x .owner) s)
           (⊎-elim (λ (e : x .remaining ≡ 0). omega arith) (λ (h : x .remaining < sharesAt b (x .owner) s). h) r)
 
-  serves-facts : soundService b st s x ≡ true → SlotServes b st s x
+  serves-facts : serves ≡ true → SlotServes b st s x
   unfolding soundService
   serves-facts e =
       let left = ltb (x .done) (accesses (masterAt b (x .owner)) (slaveAt b s) (transferAt st (x .owner))) in
@@ -108,19 +121,18 @@ module _ (b : Board) (st : State) (s : ℕ) (x : Slot) where
       let q = both left wait (p .1) in
       record { asks = p .0; done = ltb-true _ _ (q .0); waited = leb-true _ _ (q .1) }
 
-  serves-test : SlotServes b st s x → soundService b st s x ≡ true
+  serves-test : SlotServes b st s x → serves ≡ true
   unfolding soundService
   serves-test v =
       rw (v .asks, lt-ltb (x .done) (accesses (masterAt b (x .owner)) (slaveAt b s) (transferAt st (x .owner))) (v .done))
       (le-leb (x .waited) (waitOf (slaveAt b s) (transferAt st (x .owner))) (v .waited))
 
-  slot-facts : (soundOwner b x && (soundRemaining b s x && cond (x .serving) (soundService b st s x) (soundRest x))) ≡ true
-      → SlotSound b st s x
-  unfolding soundOwner soundService soundRest
+  slot-facts : passes ≡ true → SlotSound b st s x
+  unfolding soundOwner slotSound soundService soundRest
   slot-facts e =
-      let service = cond (x .serving) (soundService b st s x) (soundRest x) in
-      let p = both (soundOwner b x) (soundRemaining b s x && service) e in
-      let q = both (soundRemaining b s x) service (p .1) in
+      let service = cond (x .serving) serves (soundRest x) in
+      let p = both (soundOwner b x) (kept && service) e in
+      let q = both kept service (p .1) in
       record {
         owner = ltb-true (x .owner) (b .«master_count») (p .0);
         remaining = remaining-facts (q .0);
@@ -130,12 +142,11 @@ module _ (b : Board) (st : State) (s : ℕ) (x : Slot) where
             (eqb-true (x .done) 0 (r .0), eqb-true (x .waited) 0 (r .1));
       }
 
-  slot-test : SlotSound b st s x
-      → (soundOwner b x && (soundRemaining b s x && cond (x .serving) (soundService b st s x) (soundRest x))) ≡ true
-  unfolding soundOwner soundRest
+  slot-test : SlotSound b st s x → passes ≡ true
+  unfolding soundOwner slotSound soundRest
   slot-test v = rw (lt-ltb (x .owner) (b .«master_count») (v .owner), remaining-test (v .remaining)) (go (x .serving) refl)
     where
-      go : (c : Bool) → x .serving ≡ c → cond c (soundService b st s x) (soundRest x) ≡ true
+      go : (c : Bool) → x .serving ≡ c → cond c serves (soundRest x) ≡ true
       go true q = serves-test (v .serving q)
       go false q = let r = v .resting q in rw (r .0, r .1)
 
@@ -176,9 +187,9 @@ module _ (b : Board) (st : State) where
       held m false q = refl
 
 pub reset-sound : (b : Board) → Legal b → Sound b (stateAtReset b)
-unfolding stateAtReset
+unfolding stateAtReset ownedBy
 reset-sound b legal =
-    sound-of b (stateAtReset b) (length-replicate 8 noTransfer) (length-table (slotAtReset b) 16)
+    sound-of b (stateAtReset b) (length-replicate 8 noTransfer) (length-table _ 16)
     (λ m q. absurd (false≢true (rw (transfer-reset b m) at q)))
     (λ s h. rw (slot-reset b s h (legal .fewSlaves)) (record {
       owner = omega (arith, legal .someMaster);
@@ -310,7 +321,7 @@ module _ (b : Board) (st : State) (legal : Legal b) (x : Sound b st) where
 
   step-sound : (s : ℕ) → s < b .«slave_count» → SlotSound b (stateAfter b st) s (stepOf b st s .slot)
   unfolding slotWaiting slotAccessed slotFinished
-  step-sound s h = go (turn b st s)
+  step-sound s h = go (outcome b st s)
     where
       now : SlotSound b st s (slotAfterGrant b st s)
       now = grant-sound s h
@@ -333,7 +344,7 @@ module _ (b : Board) (st : State) (legal : Legal b) (x : Sound b st) where
         resting = λ p. absurd (true≢false p);
       }
 
-      go : Turn b st s → SlotSound b (stateAfter b st) s (stepOf b st s .slot)
+      go : Outcome b st s → SlotSound b (stateAfter b st) s (stepOf b st s .slot)
       go (rests e q) =
           rw q (record {
             owner = now .owner;

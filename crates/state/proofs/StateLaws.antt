@@ -20,7 +20,7 @@ use Rattle.state.specs.declared.State.{State}
 use Rattle.state.specs.Records.{noLine, noSlot, transferAt, slotAt}
 use Rattle.state.specs.Control.{stepOf, lineAfter, slotAfter, finishes, finished, maskOf, transferAfter}
 use Rattle.state.specs.Control.{stateAfter, linesOf}
-use Rattle.state.specs.Resetting.{slotAtReset, stateAtReset}
+use Rattle.state.specs.Resetting.{ownedBy, stateAtReset}
 use Rattle.state.specs.Posting.{stateWith}
 
 module _ (b : Board) (st : State) where
@@ -137,11 +137,11 @@ module _ (st : State) (m : ℕ) (t : Transfer) where
 
 -- reset: no transfers, and every slave's last owner is the highest master
 pub transfer-reset : (b : Board) (m : ℕ) → transferAt (stateAtReset b) m ≡ noTransfer
-unfolding stateAtReset
+unfolding stateAtReset ownedBy
 transfer-reset b m = getD-replicate-all 8 m noTransfer
 
 pub slot-reset : (b : Board) (s : ℕ) → s < b .«slave_count» → b .«slave_count» ≤ 16
     → slotAt (stateAtReset b) s
     ≡ record { owner = b .«master_count» - 1; remaining = 0; serving = false; done = 0; waited = 0 }
-unfolding stateAtReset slotAtReset
-slot-reset b s h l = getD-table (slotAtReset b) 16 noSlot s (omega arith) ∙ rw (lt-ltb s (b .«slave_count») h)
+unfolding stateAtReset ownedBy
+slot-reset b s h l = getD-table _ 16 noSlot s (omega arith) ∙ rw (lt-ltb s (b .«slave_count») h)

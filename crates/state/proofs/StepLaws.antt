@@ -28,20 +28,20 @@ lineNow b st s phase =
     (slotAfterGrant b st s) phase
 
 -- what the step is, by cases
-pub data Turn (b : Board) (st : State) (s : ℕ) : Type 0 where
+pub data Outcome (b : Board) (st : State) (s : ℕ) : Type 0 where
   rests : slotAfterGrant b st s .serving ≡ false
-      → stepOf b st s ≡ record { slot = slotAfterGrant b st s; line = noLine; finished = false } → Turn b st s
+      → stepOf b st s ≡ record { slot = slotAfterGrant b st s; line = noLine; finished = false } → Outcome b st s
   waiting : slotAfterGrant b st s .serving ≡ true → slotAfterGrant b st s .waited < waitNow b st s
       → stepOf b st s ≡ record { slot = slotWaiting (slotAfterGrant b st s); line = lineNow b st s 1; finished = false }
-      → Turn b st s
+      → Outcome b st s
   works : slotAfterGrant b st s .serving ≡ true → waitNow b st s ≤ slotAfterGrant b st s .waited
       → slotAfterGrant b st s .done + 1 < accessesNow b st s
       → stepOf b st s ≡ record { slot = slotAccessed (slotAfterGrant b st s); line = lineNow b st s 2; finished = false }
-      → Turn b st s
+      → Outcome b st s
   ends : slotAfterGrant b st s .serving ≡ true → waitNow b st s ≤ slotAfterGrant b st s .waited
       → accessesNow b st s ≤ slotAfterGrant b st s .done + 1
       → stepOf b st s ≡ record { slot = slotFinished (slotAfterGrant b st s); line = lineNow b st s 2; finished = true }
-      → Turn b st s
+      → Outcome b st s
 
 module _ (b : Board) (st : State) (s : ℕ) where
   pub grant-serving : slotAt st s .serving ≡ true → slotAfterGrant b st s ≡ slotAt st s
@@ -84,13 +84,13 @@ module _ (b : Board) (st : State) (s : ℕ) where
         le-ltb (slotAfterGrant b st s .done + 1) (accessesNow b st s) l,
       )
 
-  pub turn : Turn b st s
-  turn = go (slotAfterGrant b st s .serving) refl (ltb (slotAfterGrant b st s .waited) (waitNow b st s)) refl
+  pub outcome : Outcome b st s
+  outcome = go (slotAfterGrant b st s .serving) refl (ltb (slotAfterGrant b st s .waited) (waitNow b st s)) refl
       (ltb (slotAfterGrant b st s .done + 1) (accessesNow b st s)) refl
     where
       go : (c : Bool) → slotAfterGrant b st s .serving ≡ c → (d : Bool)
           → ltb (slotAfterGrant b st s .waited) (waitNow b st s) ≡ d → (f : Bool)
-          → ltb (slotAfterGrant b st s .done + 1) (accessesNow b st s) ≡ f → Turn b st s
+          → ltb (slotAfterGrant b st s .done + 1) (accessesNow b st s) ≡ f → Outcome b st s
       go false e d h f l = rests e (step-rests e)
       go true e true h f l = let w = ltb-true _ _ h in waiting e w (step-waits e w)
       go true e false h true l = let w = ltb-false _ _ h in let a = ltb-true _ _ l in works e w a (step-works e w a)
@@ -99,9 +99,9 @@ module _ (b : Board) (st : State) (s : ℕ) where
   -- the line of a slave that serves names its owner
   pub line-owner : slotAfterGrant b st s .serving ≡ true → stepOf b st s .line .owner ≡ slotAfterGrant b st s .owner
   unfolding lineOf
-  line-owner f = go turn
+  line-owner f = go outcome
     where
-      go : Turn b st s → stepOf b st s .line .owner ≡ slotAfterGrant b st s .owner
+      go : Outcome b st s → stepOf b st s .line .owner ≡ slotAfterGrant b st s .owner
       go (rests e q) = absurd (true≢false (sym f ∙ e))
       go (waiting e h q) = rw q
       go (works e h l q) = rw q
@@ -109,9 +109,9 @@ module _ (b : Board) (st : State) (s : ℕ) where
 
   -- a slave that finishes a master has served it
   pub finished-serving : stepOf b st s .finished ≡ true → slotAfterGrant b st s .serving ≡ true
-  finished-serving f = go turn
+  finished-serving f = go outcome
     where
-      go : Turn b st s → slotAfterGrant b st s .serving ≡ true
+      go : Outcome b st s → slotAfterGrant b st s .serving ≡ true
       go (rests e q) = absurd (false≢true (rw q at f))
       go (waiting e h q) = e
       go (works e h l q) = e

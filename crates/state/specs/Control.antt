@@ -12,7 +12,6 @@ use Rattle.board.specs.Records.{masterAt, slaveAt, sharesAt}
 use Rattle.geometry.specs.declared.Transfer.{Transfer}
 use Rattle.geometry.specs.Accesses.{noTransfer, accesses, wordOffset, slaveLanes, waitOf}
 use Rattle.geometry.specs.Runs.{runOf, placeOf}
-use Rattle.arbiter.specs.declared.Arbiter.{Arbiter}
 use Rattle.arbiter.specs.declared.Grant.{Grant}
 use Rattle.arbiter.specs.declared.Grant.the-variants.{Granted, Silent}
 use Rattle.arbiter.specs.Granting.{granted}

@@ -4,7 +4,4 @@ pub mod Soundness
 pub mod Control
 pub mod Carrying
 pub mod Resetting
-pub mod Targets
-pub mod Parts
-pub mod Serving
 pub mod ArbiterRecords

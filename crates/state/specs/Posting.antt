@@ -10,7 +10,7 @@ use Rattle.board.specs.declared.Slave.{Slave}
 use Rattle.board.specs.declared.Board.{Board}
 use Rattle.board.specs.Records.{masterAt, slaveAt}
 use Rattle.geometry.specs.declared.Transfer.{Transfer}
-use Rattle.geometry.specs.Lanes.{postLanes}
+use Rattle.lanes.specs.Lanes.{postLanes}
 use Rattle.geometry.specs.Decoding.{targetOf}
 use Rattle.state.specs.declared.State.{State}
 
@@ -39,23 +39,28 @@ unaligned ma t = not (eqb (t .address % ma .width) 0)
 unfoldable pub wrongLanes : Master → Transfer → Bool
 wrongLanes ma t = not (postLanes (ma .width) (t .lanes) (t .beats))
 
--- 16: "no connected slave there"
-unfoldable pub unmapped : Board → ℕ → Transfer → Bool
-unmapped b m t = eqb (targetOf b m (t .address)) (b .«slave_count»)
+-- 16: "no connected slave there": what stands for the slave is the count of slaves
+unfoldable pub unmapped : ℕ → ℕ → Bool
+unmapped s count = eqb s count
 
 -- 17: "burst passes the slave's end"
 unfoldable pub passesEnd : Master → Slave → Transfer → Bool
 passesEnd ma sl t = ltb (sl .base + sl .span) (t .address + t .beats * ma .width)
 
+-- what a transfer is refused for, or 0: of its master, the slave that it is for, that slave's number and the count of slaves
+unfoldable pub refusalAt : Master → Slave → Transfer → ℕ → ℕ → ℕ
+refusalAt ma sl t s count =
+    cond (wrongBeats ma t) 13
+    (cond (unaligned ma t) 14
+    (cond (wrongLanes ma t) 15
+    (cond (unmapped s count) 16
+    (cond (passesEnd ma sl t) 17
+    0))))
+
 -- what the transfer t of master m is refused for, or 0
 unfoldable pub transferRefusal : Board → ℕ → Transfer → ℕ
 transferRefusal b m t =
-    cond (wrongBeats (masterAt b m) t) 13
-    (cond (unaligned (masterAt b m) t) 14
-    (cond (wrongLanes (masterAt b m) t) 15
-    (cond (unmapped b m t) 16
-    (cond (passesEnd (masterAt b m) (slaveAt b (targetOf b m (t .address))) t) 17
-    0))))
+    let s = targetOf b m (t .address) in refusalAt (masterAt b m) (slaveAt b s) t s (b .«slave_count»)
 
 -- "A master holds one transfer until it is finished."
 unfoldable pub stateWith : State → ℕ → Transfer → State

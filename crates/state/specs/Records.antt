@@ -1,6 +1,6 @@
 -- The state's records, and its elements by number.
 -- Assumes nothing.
-use mathlib.Core.Bool.{Bool, false}
+use mathlib.Core.Bool.{false}
 use Prim.Native.Nat.{ℕ}
 use lib.ListN.{getD, replicate}
 use Rattle.geometry.specs.declared.Transfer.{Transfer}

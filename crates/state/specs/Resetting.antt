@@ -7,21 +7,10 @@ use lib.ListN.{replicate}
 use Rattle.laws.specs.Lists.{table}
 use Rattle.board.specs.declared.Board.{Board}
 use Rattle.geometry.specs.Accesses.{noTransfer}
-use Rattle.state.specs.declared.Slot.{Slot}
 use Rattle.state.specs.declared.State.{State}
 use Rattle.state.specs.Records.{noSlot}
 
--- "Reset: no transfers, last owner the highest master, all else in the state 0"
-unfoldable pub slotAtReset : Board → ℕ → Slot
-slotAtReset b s =
-    cond (ltb s (b .«slave_count»))
-    (record { owner = b .«master_count» - 1; remaining = 0; serving = Bool.false; done = 0; waited = 0 })
-    noSlot
-
-unfoldable pub stateAtReset : Board → State
-stateAtReset b = record { transfers = replicate 8 noTransfer; slots = table (slotAtReset b) 16 }
-
--- the code's form of it, and of all zeros where count is 0: the owner was the last at the first count slaves, all else is 0
+-- "no transfers, last owner .., all else in the state 0": the owner is the last at the first count slaves
 unfoldable pub ownedBy : ℕ → ℕ → State
 ownedBy owner count = record {
   transfers = replicate 8 noTransfer;
@@ -30,3 +19,7 @@ ownedBy owner count = record {
       (λ s. cond (ltb s count) (record { owner = owner; remaining = 0; serving = Bool.false; done = 0; waited = 0 }) noSlot)
       16;
 }
+
+-- "Reset: .. last owner the highest master"
+unfoldable pub stateAtReset : Board → State
+stateAtReset b = ownedBy (b .«master_count» - 1) (b .«slave_count»)

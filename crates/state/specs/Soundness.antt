@@ -1,11 +1,14 @@
 -- 9: "the state breaks a rule".
 -- Assumes nothing.
-use mathlib.Core.Bool.{Bool, true, cond, not, _&&_}
+use mathlib.Core.Bool.{Bool, true, cond, _&&_}
 use Prim.Native.Nat.{ℕ}
 use lib.Dec.{ltb, leb, eqb}
 use Rattle.laws.specs.Lists.{every}
+use Rattle.board.specs.declared.Master.{Master}
+use Rattle.board.specs.declared.Slave.{Slave}
 use Rattle.board.specs.declared.Board.{Board}
 use Rattle.board.specs.Records.{masterAt, slaveAt, sharesAt}
+use Rattle.geometry.specs.declared.Transfer.{Transfer}
 use Rattle.geometry.specs.Decoding.{selects}
 use Rattle.geometry.specs.Accesses.{accesses, waitOf}
 use Rattle.state.specs.declared.Slot.{Slot}
@@ -27,26 +30,28 @@ unfoldable pub soundOwner : Board → Slot → Bool
 soundOwner b slot = ltb (slot .owner) (b .«master_count»)
 
 -- no "remaining is not below that owner's shares (not 0 if unconnected)"
-unfoldable pub soundRemaining : Board → ℕ → Slot → Bool
-soundRemaining b s slot =
-    cond (eqb (sharesAt b (slot .owner) s) 0) (eqb (slot .remaining) 0) (ltb (slot .remaining) (sharesAt b (slot .owner) s))
+unfoldable pub soundRemaining : ℕ → Slot → Bool
+soundRemaining shares slot = cond (eqb shares 0) (eqb (slot .remaining) 0) (ltb (slot .remaining) shares)
 
 -- no "serving slave whose owner holds no transfer for it, whose accesses done reach the total or whose waits passed exceed
--- the wait"
-unfoldable pub soundService : Board → State → ℕ → Slot → Bool
-soundService b st s slot =
-    requests b st s (slot .owner)
-    && (ltb (slot .done) (accesses (masterAt b (slot .owner)) (slaveAt b s) (transferAt st (slot .owner)))
-    && leb (slot .waited) (waitOf (slaveAt b s) (transferAt st (slot .owner))))
+-- the wait": of whether it holds one, of owner, slave and transfer
+unfoldable pub soundService : Bool → Master → Slave → Transfer → Slot → Bool
+soundService asks ma sl t slot = asks && (ltb (slot .done) (accesses ma sl t) && leb (slot .waited) (waitOf sl t))
 
 -- no "slave not serving with either above 0"
 unfoldable pub soundRest : Slot → Bool
 soundRest slot = eqb (slot .done) 0 && eqb (slot .waited) 0
 
+-- a slot whose last owner is a master: of the owner's shares, whether it holds a transfer for the slave, owner, slave, transfer
+unfoldable pub slotSound : ℕ → Bool → Master → Slave → Transfer → Slot → Bool
+slotSound shares asks ma sl t slot =
+    soundRemaining shares slot && cond (slot .serving) (soundService asks ma sl t slot) (soundRest slot)
+
 unfoldable pub soundSlot : Board → State → ℕ → Bool
 soundSlot b st s =
     let slot = slotAt st s in
-    soundOwner b slot && (soundRemaining b s slot && cond (slot .serving) (soundService b st s slot) (soundRest slot))
+    let m = slot .owner in
+    soundOwner b slot && slotSound (sharesAt b m s) (requests b st s m) (masterAt b m) (slaveAt b s) (transferAt st m) slot
 
 -- the state breaks no rule
 unfoldable pub sound : Board → State → Bool

@@ -1,8 +1,4 @@
 // The state of a board's fabric, and how a post and a clock change it.
-pub mod checks;
-// ---- one slave's clock
-pub mod steps;
-
 use geometry::Transfer;
 
 // One slave: last owner, grants remaining to it, whether it is serving, accesses done, waits passed.
@@ -34,4 +30,12 @@ pub struct Step {
     pub slot: Slot,
     pub line: Line,
     pub finished: bool,
+}
+
+// The answer of clock: bit m of the mask is 1 where master m is finished.
+pub struct Clocked {
+    pub number: u8,
+    pub state: State,
+    pub mask: u8,
+    pub lines: [Line; 16],
 }

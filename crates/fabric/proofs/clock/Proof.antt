@@ -67,8 +67,8 @@ returns-3 c = let m = c .before .before in
     let q = refused-buffer _ _ _ (board-ok (m .before .before .before .before)) (memory-ok m) (c .before .if3 .taken) in
     (answer-refused _ _ _ q (λ e. omega arith) (c .refuse3 .ensures), store-refused _ _ _ q (λ e. omega arith))
 
-turn-requires : tie.Need-turn-requires
-turn-requires c κs = let l = c .before .before .before .before in
+run-requires : tie.Need-run-requires
+run-requires c κs = let l = c .before .before .before .before in
     let e = l .before .before .before .before .before in (
       record { board = board-ok e; state = sym (state-checked l) ∙ c .before .before .before .if4 .taken },
       e .before .before .ready .ensures .targets (board-ok e),
@@ -87,7 +87,7 @@ returns-4 c = let g = c .before .before .before .before .before .before .before 
     let l = g .before in
     let e = l .before .before .before .before .before in
     let q = not-refused _ _ _ (board-ok e) (memory-ok (l .before)) (l .if3 .left) (sym (state-checked l) ∙ g .if4 .taken) in
-    let t = c .before .before .before .before .turn .ensures in
+    let t = c .before .before .before .before .run .ensures in
     (answer-turned _ _ _ q t, store-turned _ _ _ q t)
 
 refuse-requires-4 : tie.Need-refuse-requires-4
@@ -112,7 +112,7 @@ clock-spec =
     returns-2
     refuse-requires-3
     returns-3
-    turn-requires
+    run-requires
     same-length
     same-length-2
     returns-4

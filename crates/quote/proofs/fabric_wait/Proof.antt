@@ -1,7 +1,8 @@
 -- `quote::fabric_wait` meets its contract: each way out is a law of `AnswerLaws`.
 -- Assumes nothing.
+use mathlib.Core.Path.{sym, _∙_}
 use borrow.Author.Needs.{needs}
-use Rattle.quote.proofs.AnswerLaws.{wait-text, wait-short, wait-pair, wait-taken}
+use Rattle.quote.proofs.AnswerLaws.{pair-known, wait-text, wait-short, wait-pair, wait-taken}
 use Rattle.quote.proofs.fabric_wait.Statement.{statement}
 use Rattle.quote.proofs.fabric_wait.Tie as tie
 
@@ -30,7 +31,7 @@ returns-3 c = let k = c .before in
     wait-pair _ _ _ _ (n .before .before .read .ensures) (n .if1 .left) (o .if2 .left) (k .pair-refusal .ensures) (c .if3 .taken)
 
 figures-requires : tie.Need-figures-requires
-figures-requires c κs = search needs
+figures-requires c κs = pair-known _ _ _ (sym (c .before .pair-refusal .ensures) ∙ c .if3 .left)
 
 put-figures-requires : tie.Need-put-figures-requires
 put-figures-requires c κs = search needs

@@ -1,7 +1,8 @@
 -- `quote::quote_of` meets its contract: each way out is a law of `AnswerLaws`.
 -- Assumes nothing.
+use mathlib.Core.Path.{sym, _∙_}
 use borrow.Author.Needs.{needs}
-use Rattle.quote.proofs.AnswerLaws.{quote-board, quote-pair, quote-taken}
+use Rattle.quote.proofs.AnswerLaws.{pair-known, quote-board, quote-pair, quote-taken}
 use Rattle.quote.proofs.quote_of.Statement.{statement}
 use Rattle.quote.proofs.quote_of.Tie as tie
 
@@ -19,7 +20,7 @@ returns-2 c = let f = c .before .before in
     quote-pair _ _ _ (f .before .refusal .ensures) (f .if1 .left) (c .before .pair-refusal .ensures) (c .if2 .taken)
 
 figures-requires : tie.Need-figures-requires
-figures-requires c κs = search needs
+figures-requires c κs = pair-known _ _ _ (sym (c .before .pair-refusal .ensures) ∙ c .if2 .left)
 
 returns-3 : tie.Need-returns-3
 returns-3 c = let p = c .before in

@@ -3,7 +3,7 @@
 use native.Mathlib.Omega.{arith}
 use lib.ListN.{length-take}
 use borrow.Author.Needs.{needs}
-use Rattle.quote.proofs.AnswerLaws.{print-fits}
+use Rattle.tables.proofs.PrintLaws.{print-fits}
 use Rattle.table.proofs.main.Statement.{statement}
 use Rattle.table.proofs.main.Tie as tie
 

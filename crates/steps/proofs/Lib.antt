@@ -1,0 +1,2 @@
+pub mod ServeLaws
+pub mod PlaceLaws

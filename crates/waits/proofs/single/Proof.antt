@@ -1,0 +1,26 @@
+-- `waits::single` meets its contract: 8 bits times 32 fit 64.
+-- Assumes nothing.
+use mathlib.Core.Path.{ap}
+use Prim.Native.Nat.{ℕ, _*_}
+use native.Mathlib.Omega.{arith}
+use borrow.Author.Needs.{needs}
+use Rattle.laws.proofs.Arithmetic.{product-le}
+use Rattle.waits.specs.Waits.{single}
+use Rattle.waits.proofs.single.Statement.{statement}
+use Rattle.waits.proofs.single.Tie as tie
+
+width-ratio-requires : tie.Need-width-ratio-requires
+width-ratio-requires c κs = search needs
+
+cast-result : tie.Need-cast-result
+cast-result c = search needs
+
+mul-result : tie.Need-mul-result
+mul-result c = omega (arith, product-le (c .width-ratio .result) (c .before .args .v) 255 4294967296 (omega arith) (omega arith))
+
+returns : tie.Need-returns
+unfolding single
+returns c = ap (λ (x : ℕ). x * c .before .args .v) (c .width-ratio .ensures)
+
+pub single-spec : {M : Type 1} → statement M
+single-spec = tie.close (tie.spec width-ratio-requires cast-result mul-result returns)
