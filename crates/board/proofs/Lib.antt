@@ -7,4 +7,3 @@ pub mod OwnLines
 pub mod ShareOrder
 pub mod Accepted
 pub mod Rebuilt
-pub mod AcceptLaws

@@ -3,4 +3,3 @@ pub mod Rules
 pub mod Legal
 pub mod Items
 pub mod Rebuilt
-pub mod Accept

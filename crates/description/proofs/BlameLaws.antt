@@ -1,24 +1,21 @@
--- The line charged: how the count goes on from a place of the text.
+-- The lines of a text, read and counted from a place of it on.
 -- Assumes nothing.
-use mathlib.Core.List.{List, [], _∷_}
+use mathlib.Core.List.{List, _∷_}
 use mathlib.Core.Path.{_≡_, ap, sym, _∙_}
-use Prim.Native.Nat.{ℕ, _+_, _-_, _≤_, _<_}
+use Prim.Native.Nat.{ℕ, _+_, _≤_, _<_}
 use native.Mathlib.Omega.{arith}
-use lib.ListN.{length, take, drop}
-use lib.Seq.{length-take-le}
+use lib.ListN.{length, drop, drop-of-length-le}
 use borrow.Author.Tests.{lt-ltb, le-ltb, eq-eqb, ne-eqb}
-use Rattle.laws.proofs.TextLists.{part-rest-length}
-use Rattle.text.specs.Fields.{lineFeed}
-use Rattle.text.specs.Scanning.{Cut}
+use Rattle.text.specs.Fields.{split}
 use Rattle.board.specs.declared.Item.{Item}
 use Rattle.board.specs.declared.Item.the-variants.{Malformed}
 use Rattle.board.specs.declared.Reading.{Reading}
-use Rattle.board.specs.Rules.{itemRefusal, refused, start, step, run, finish, described}
-use Rattle.description.specs.Reader.{itemOf, itemsOf, readText}
-use Rattle.description.specs.Blame.{firstRefused, chargedLine, refusalOf}
-use Rattle.description.specs.declared.Refusal.{Refusal}
-use Rattle.description.proofs.ReadLaws.{unended-none, unended-some, lines-last, lines-more, reading-short, reading-long}
-use Rattle.description.proofs.ReadLaws.{read-none, read-open, read-more, read-refused}
+use Rattle.board.specs.Rules.{refused, start, step, run, finish, described}
+use Rattle.board.proofs.RunLaws.{run-stays, finish-stays}
+use Rattle.lines.specs.Reader.{itemsOf, itemsOfPieces, unended, LineFrom}
+use Rattle.description.specs.Reader.{reading}
+use Rattle.description.specs.Blame.{firstRefused, chargedLine}
+use Rattle.description.proofs.ReadLaws.{reading-short, reading-long}
 
 -- one line more
 module _ (n : ℕ) (r q : Reading) (x : Item) (xs : List Item) (eq : q ≡ step r x) where
@@ -30,11 +27,6 @@ module _ (n : ℕ) (r q : Reading) (x : Item) (xs : List Item) (eq : q ≡ step 
   unfolding firstRefused
   first-refused h = rw (← eq, ne-eqb _ _ h)
 
--- a malformed line is refused
-pub step-malformed : (r : Reading) → r .number ≡ 0 → step r Malformed ≡ refused 1
-unfolding step itemRefusal
-step-malformed r h = rw (eq-eqb _ _ h)
-
 -- n lines of s before `at` have been read into r, and none was refused; the lines from there on are still to come
 pub record Counted (s : List ℕ) (r : Reading) (n at : ℕ) : Type 0 where
   pub place : at ≤ length s
@@ -42,60 +34,6 @@ pub record Counted (s : List ℕ) (r : Reading) (n at : ℕ) : Type 0 where
   pub none : r .number ≡ 0
   pub number : described (itemsOf s) ≡ finish (run r (itemsOf (drop at s)))
   pub line : firstRefused 0 start (itemsOf s) ≡ firstRefused n r (itemsOf (drop at s))
-
--- The lines of s from `at` on, where the first piece there ends e bytes on.
-module _
-    (s : List ℕ) (at e : ℕ) (cut : Cut lineFeed (take (length s - at) (drop at s)) e)
-    (r : Reading) (n : ℕ) (before : Counted s r n at)
-  where
-    pub blame-none :
-        (q : Reading) → e ≡ length (take (length s - at) (drop at s)) → e ≡ 0 → q ≡ finish r
-        → (q .number ≡ described (itemsOf s) .number) × (0 ≡ firstRefused 0 start (itemsOf s))
-    unfolding firstRefused
-    blame-none q h z eq = (
-      ap (λ (x : Reading). x .number) (eq ∙ sym (read-none s at e cut r (before .number) h z)),
-      sym
-          (before .line
-          ∙ ap (firstRefused n r)
-          (lines-last s at e cut h ∙ unended-none _ (length-take-le e (take (length s - at) (drop at s)) (cut .within) ∙ z))),
-    )
-
-    pub blame-open :
-        e ≡ length (take (length s - at) (drop at s)) → (e ≡ 0 → ⊥)
-        → (1 ≡ described (itemsOf s) .number) × (n + 1 ≡ firstRefused 0 start (itemsOf s))
-    unfolding refused finish
-    blame-open h z =
-        let some : length (take e (take (length s - at) (drop at s))) ≡ 0 → ⊥ =
-        λ k. z (sym (length-take-le e (take (length s - at) (drop at s)) (cut .within)) ∙ k) in
-        let one : refused 1 ≡ step r Malformed = sym (step-malformed r (before .none)) in (
-          sym (ap (λ (x : Reading). x .number) (read-open s at e cut r (before .number) (refused 1) h z one)),
-          sym
-              (before .line ∙ ap (firstRefused n r) (lines-last s at e cut h ∙ unended-some _ some)
-              ∙ first-refused n r (refused 1) Malformed [] one (λ k. omega arith)),
-        )
-
-    -- q has read the line too
-    module _
-        (q : Reading) (h : e < length (take (length s - at) (drop at s)))
-        (eq : q ≡ step r (itemOf (take e (take (length s - at) (drop at s)))))
-      where
-        pub blame-more : q .number ≡ 0 → Counted s q (n + 1) (at + e + 1)
-        blame-more none = record {
-          place = let l = part-rest-length s at in omega arith;
-          each = let l = before .each in omega arith;
-          none = none;
-          number = read-more s at e cut r (before .number) q h eq;
-          line = before .line ∙ ap (firstRefused n r) (lines-more s at e cut h) ∙ first-taken n r q _ _ eq none;
-        }
-
-        pub blame-refused :
-            (q .number ≡ 0 → ⊥)
-            → (q .number ≡ described (itemsOf s) .number) × (n + 1 ≡ firstRefused 0 start (itemsOf s))
-        blame-refused some = (
-          sym (ap (λ (x : Reading). x .number) (read-refused s at e cut r (before .number) q h eq some)),
-          sym
-              (before .line ∙ ap (firstRefused n r) (lines-more s at e cut h) ∙ first-refused n r q _ _ eq some),
-        )
 
 -- before the first line
 pub counted-none : (s : List ℕ) (r : Reading) → r ≡ start → Counted s r 0 0
@@ -108,13 +46,47 @@ counted-none s r e = record {
   line = rw e;
 }
 
--- the length goes first
-pub refusal-short :
-    (s : List ℕ) (r : Refusal) → length s ≤ 8192
-    → (r .number ≡ described (itemsOf s) .number) × (r .line ≡ firstRefused 0 start (itemsOf s)) → r ≡ refusalOf s
-unfolding refusalOf chargedLine readText
-refusal-short s r h e = rw (reading-short s h, le-ltb 8192 (length s) h, ← e .0, ← e .1)
+-- q and the line charged are what the whole text comes to
+abbrev pub Read : List ℕ → Reading → ℕ → Type 0
+Read s q line = (q ≡ described (itemsOf s)) × (line ≡ firstRefused 0 start (itemsOf s))
 
-pub refusal-long : (s : List ℕ) → 8192 < length s → record { number = 1; line = 0 } ≡ refusalOf s
-unfolding refusalOf chargedLine readText step itemRefusal start refused
-refusal-long s h = rw (reading-long s h, lt-ltb 8192 (length s) h)
+module _ (s : List ℕ) (r q : Reading) (n at : ℕ) (before : Counted s r n at) where
+  -- behind the last line
+  pub counted-end : length s ≤ at → q ≡ finish r → Read s q 0
+  unfolding run firstRefused itemsOf itemsOfPieces unended split
+  counted-end h e =
+      let none = drop-of-length-le s h in (
+        e ∙ sym (rw none at (before .number)),
+        sym (rw none at (before .line)),
+      )
+
+  -- q has read one line more
+  module _ (x : Item) (next : ℕ) (line : LineFrom s at x next) (e : q ≡ step r x) where
+    numbered : described (itemsOf s) ≡ finish (run q (itemsOf (drop next s)))
+    unfolding run
+    numbered = before .number ∙ rw (line .lines, e)
+
+    pub counted-next : q .number ≡ 0 → Counted s q (n + 1) next
+    counted-next none = record {
+      place = line .within;
+      each = let l = before .each in let m = line .onward in omega arith;
+      none = none;
+      number = numbered;
+      line = before .line ∙ rw (line .lines) (first-taken n r q x _ e none);
+    }
+
+    pub counted-refused : (q .number ≡ 0 → ⊥) → Read s q (n + 1)
+    counted-refused some = (
+      sym (numbered ∙ ap finish (run-stays q (itemsOf (drop next s)) some) ∙ finish-stays q some),
+      sym (before .line ∙ rw (line .lines) (first-refused n r q x _ e some)),
+    )
+
+-- the length goes first
+pub charged-short :
+    (s : List ℕ) (q : Reading) (line : ℕ) → length s ≤ 8192 → Read s q line → (q ≡ reading s) × (line ≡ chargedLine s)
+unfolding chargedLine
+charged-short s q line h e = (e .0 ∙ sym (reading-short s h), e .1 ∙ sym (rw (le-ltb 8192 (length s) h)))
+
+pub charged-long : (s : List ℕ) (q : Reading) → 8192 < length s → q ≡ step start Malformed → (q ≡ reading s) × (0 ≡ chargedLine s)
+unfolding chargedLine
+charged-long s q h e = (e ∙ sym (reading-long s h), sym (rw (lt-ltb 8192 (length s) h)))

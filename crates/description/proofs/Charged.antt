@@ -12,7 +12,8 @@ use Rattle.board.specs.declared.Item.{Item}
 use Rattle.board.specs.declared.Reading.{Reading}
 use Rattle.board.specs.Rules.{refused, start, step, run, finish, described}
 use Rattle.board.proofs.RunLaws.{run-stays, finish-stays}
-use Rattle.description.specs.Reader.{itemsOf, reading, readText}
+use Rattle.lines.specs.Reader.{itemsOf}
+use Rattle.description.specs.Reader.{reading, readText}
 use Rattle.description.specs.Blame.{firstRefused, chargedLine, refusalOf}
 use Rattle.description.proofs.BlameLaws.{first-taken, first-refused}
 use Rattle.description.proofs.ReadLaws.{reading-short}

@@ -22,11 +22,12 @@ use Rattle.board.specs.Records.{masterAt, slaveAt}
 use Rattle.board.specs.Items.{masterItem, slaveItem, shareItem, items}
 use Rattle.board.specs.Legal.{Legal}
 use Rattle.board.proofs.RuleLaws.{width-bound, burst-bound, span-bound}
-use Rattle.description.specs.Reader.{masterWord, slaveWord, shareWord, masterLine, slaveLine, shareLine}
-use Rattle.description.specs.Reader.{itemOf, itemOfFields, itemsOf, itemsOfPieces, unended}
-use Rattle.description.specs.Writer.{itemText, itemsText, writeText}
+use Rattle.lines.specs.Reader.{masterWord, slaveWord, shareWord, masterLine, slaveLine, shareLine}
+use Rattle.lines.specs.Reader.{itemOf, itemOfFields, itemsOf, itemsOfPieces, unended}
+use Rattle.lines.specs.Writer.{itemText, itemsText}
+use Rattle.lines.proofs.ReadLaws.{items-more}
+use Rattle.description.specs.Writer.{writeText}
 use Rattle.description.specs.Longest.{longest}
-use Rattle.description.proofs.ReadLaws.{items-more}
 use Rattle.description.proofs.WriteLaws.{gather-most, lines-most, length-parts, pair-none, pair-some}
 
 -- each number of the line has at most 10 digits, as every number has that a line can hold

@@ -16,9 +16,11 @@ use Rattle.board.specs.Items.{items, checkBoard}
 use Rattle.board.specs.Rebuilt.{trimmed}
 use Rattle.board.proofs.Accepted.{accepted-legal}
 use Rattle.board.proofs.Rebuilt.{rebuilt, items-trimmed, described-accepted, described-trimmed}
+use Rattle.lines.specs.Reader.{itemsOf}
+use Rattle.lines.specs.Writer.{itemsText}
 use Rattle.description.specs.declared.Parsed.{Parsed}
-use Rattle.description.specs.Reader.{itemsOf, reading, readText}
-use Rattle.description.specs.Writer.{itemsText, writeText, writeRefusal}
+use Rattle.description.specs.Reader.{reading, readText}
+use Rattle.description.specs.Writer.{writeText, writeRefusal}
 use Rattle.description.specs.Longest.{longest}
 use Rattle.description.proofs.ReadLaws.{reading-short}
 use Rattle.description.proofs.LineTrip.{items-read, items-writable, items-short}

@@ -8,7 +8,8 @@ use lib.ListN.{length}
 use Rattle.board.specs.declared.Item.{Item}
 use Rattle.board.specs.declared.Reading.{Reading}
 use Rattle.board.specs.Rules.{start, step}
-use Rattle.description.specs.Reader.{itemsOf, readText}
+use Rattle.lines.specs.Reader.{itemsOf}
+use Rattle.description.specs.Reader.{readText}
 use Rattle.description.specs.declared.Refusal.{Refusal}
 
 -- "then lines in order": the number of the first line refused, behind n lines that r has read; 0 where all are taken

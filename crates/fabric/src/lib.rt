@@ -80,7 +80,7 @@ pub fn reset(board: Board) -> Started
     ensures { λ r. ⌜ r ≡ calls.reset board ⌝ }
 {
     // not refusal: a reset need not be fast, and refusal with its one caller is inlined there
-    let number = board::check(board);
+    let number = board_check::check(board);
     let mut owner = 0;
     let mut count = 0;
     if number == 0 {

@@ -2,7 +2,7 @@
 use board::Master;
 use board::Slave;
 ghost use mathlib.Core.Path.{_≡_};
-ghost use Prim.Native.Nat.{_-_, _*_, _/_, _%_, _^_, _≤_};
+ghost use Prim.Native.Nat.{_-_, _*_, _/_, _%_, _^_};
 ghost use Rattle.geometry.specs.Decoding.{agrees, Span};
 ghost use Rattle.geometry.specs.Accesses.{ratio, accesses, accessBytes, firstByte, accessOffset, wordOffset};
 ghost use Rattle.geometry.specs.Accesses.{writeLanes, slaveLanes, InWord, waitOf, ownLength};

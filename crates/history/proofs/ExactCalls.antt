@@ -7,12 +7,11 @@ use mathlib.Core.Logic.{inr}
 use Prim.Native.Nat.{ℕ, suc, _+_}
 use native.Mathlib.Omega.{arith}
 use lib.ListN.{length, take}
-use borrow.Author.Tests.{eq-eqb, lt-leb}
+use borrow.Author.Tests.{eq-eqb}
 use Rattle.board.specs.declared.Board.{Board}
 use Rattle.board.specs.Items.{checkBoard}
 use Rattle.board.specs.Legal.{Legal}
-use Rattle.moves.specs.Bytes.{bufferLength}
-use Rattle.state.specs.Posting.{Request, transferOf, transferRefusal}
+use Rattle.state.specs.Posting.{Request, transferOf}
 use Rattle.fabric.specs.Calls.{World, postRefusal, post, clock}
 use Rattle.fabric.proofs.PostLaws.{not-refused}
 use Rattle.state.proofs.SoundLaws.{sound-test}

@@ -1,15 +1,12 @@
 -- What stands after every call of a history: a sound state, each slave within its owner's turn, memory and buffer of their lengths.
 -- Assumes nothing.
 use mathlib.Core.Path.{_≡_, refl, sym, ap, subst, subst₃, _∙_}
-use mathlib.Core.Bool.{Bool, true, false, cond, not, true≢false, false≢true}
+use mathlib.Core.Bool.{Bool, true, false, cond, not, true≢false}
 use mathlib.Core.List.{List, [], _∷_}
-use mathlib.Core.Logic.{_⊎_, inl, inr}
-use Prim.Native.Nat.{ℕ, zero, suc, _*_, _≤_, _<_}
+use Prim.Native.Nat.{ℕ, zero, suc, _<_}
 use native.Mathlib.Omega.{arith}
-use lib.Dec.{eqb, leb}
 use lib.ListN.{length}
-use borrow.Author.Tests.{eq-eqb, eqb-true, leb-false, not-false}
-use Rattle.laws.proofs.Tests.{passed}
+use borrow.Author.Tests.{eq-eqb}
 use Rattle.board.specs.declared.Board.{Board}
 use Rattle.board.specs.Records.{masterAt, slaveAt, memoryLength, startOf}
 use Rattle.board.specs.Items.{checkBoard}
@@ -21,7 +18,6 @@ use Rattle.state.specs.declared.Slot.{Slot}
 use Rattle.state.specs.declared.State.{State}
 use Rattle.state.specs.declared.Step.{Step}
 use Rattle.state.specs.Records.{transferAt, slotAt}
-use Rattle.geometry.specs.Decoding.{targetOf}
 use Rattle.state.specs.Posting.{Request, transferOf}
 use Rattle.state.specs.Soundness.{sound}
 use Rattle.state.specs.Control.{slotAfterGrant, stepOf, stateAfter}

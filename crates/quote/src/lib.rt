@@ -72,7 +72,7 @@ fn pair_refusal(b: Board, m: u32, s: u32) -> u8
 pub fn quote_of(board: Board, master: u32, slave: u32) -> Quoted
     ensures { λ q. ⌜ q ≡ quoteOf board master slave ⌝ }
 {
-    let unfit = board::refusal(board);
+    let unfit = board_check::refusal(board);
     if unfit != 0 {
         return Quoted {
             number: unfit,

@@ -10,8 +10,10 @@ use Rattle.text.specs.Digits.{digitsIn, digits, fieldsText, lineText}
 use Rattle.board.specs.Records.{noBoard, connected, totalSpan, startOf, memoryLength}
 use Rattle.board.specs.Rules.{slaveValues, meets, overlaps, masterRefusal, slaveRefusal, shareRefusal, itemRefusal, withMaster, withSlave, withShare, withItem, isShare, refused, start, taken, step, run, finish, described}
 use Rattle.board.specs.Items.{masterItem, slaveItem, shareItem, items, checkBoard}
-use Rattle.description.specs.Writer.{itemText, itemsText, writeText}
-use Rattle.description.specs.Reader.{masterLine, slaveLine, shareLine, itemOfFields, itemOf, unended, itemsOfPieces, itemsOf, reading, readText}
+use Rattle.lines.specs.Writer.{itemText, itemsText}
+use Rattle.description.specs.Writer.{writeText}
+use Rattle.lines.specs.Reader.{masterLine, slaveLine, shareLine, itemOfFields, itemOf, unended, itemsOfPieces, itemsOf}
+use Rattle.description.specs.Reader.{reading, readText}
 use Rattle.lanes.specs.Lanes.{lowest, adjacent, legalLanes, postLanes}
 use Rattle.geometry.specs.Decoding.{agrees, selects, targetOf}
 use Rattle.geometry.specs.Accesses.{ratio, accesses, accessBytes, firstByte, accessOffset, wordOffset, writeLanes, slaveLanes, waitOf, ownLength}

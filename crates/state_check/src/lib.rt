@@ -218,7 +218,7 @@ pub struct Checked {
 pub fn ready(b: Board, st: State) -> Checked
     ensures { λ r. ⌜ Preconditions b st r ⌝ }
 {
-    let number = board::refusal(b);
+    let number = board_check::refusal(b);
     if number != 0 {
         return Checked {
             number: number,

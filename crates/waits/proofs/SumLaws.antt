@@ -1,6 +1,6 @@
 -- Sums and lists of f 0, f 1, ..: how large they are, and those of two numbers counted by one.
 -- Assumes nothing.
-use mathlib.Core.Path.{_≡_, refl, ap, sym}
+use mathlib.Core.Path.{_≡_, ap, sym}
 use mathlib.Core.List.{List, _++_, append-assoc, append-nil}
 use Prim.Native.Nat.{ℕ, zero, suc, _+_, _*_, _/_, _%_, _≤_, _<_}
 use native.Mathlib.Nat.{zero-mul, suc-mul, add-comm, add-zero, zero-add, add-suc, add-mul-div-right, add-mul-mod-self-right, div-eq-of-lt, mod-eq-of-lt, eq-or-lt-of-le, le-of-suc-le-suc}

@@ -1,18 +1,11 @@
 use Rattle.arbiter.proofs.GrantLaws.{PassedOver, none-remaining, owner-silent, owner-again, nobody, another}
 use Rattle.laws.specs.Bits.{bit}
 use lib.ListN.{getD}
-use mathlib.Core.Path.{_≡_, sym, _∙_}
+use mathlib.Core.Path.{sym, _∙_}
 use mathlib.Core.Logic.{⊎-elim}
 use borrow.Author.Needs.{needs}
 use Rattle.arbiter.proofs.arbitrate.Statement.{statement}
 use Rattle.arbiter.proofs.arbitrate.Tie as tie
-use Rattle.arbiter.proofs.arbitrate.Reads as reads
-use Rattle.arbiter.proofs.arbitrate.Lts as lts
-use Rattle.arbiter.proofs.entry.Reads as entry-reads
-use Rattle.arbiter.proofs.first_requester.Reads as first-requester-reads
-use Rattle.arbiter.proofs.is_requesting.Reads as is-requesting-reads
-use Rattle.arbiter.proofs.kept_grants.Reads as kept-grants-reads
-use Rattle.arbiter.proofs.less_one.Reads as less-one-reads
 
 -- src/lib.rt:95:8
 is-requesting-requires : tie.Need-is-requesting-requires

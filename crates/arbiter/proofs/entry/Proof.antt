@@ -1,13 +1,10 @@
 use mathlib.Core.Path.{_≡_}
 use native.Mathlib.Omega.{arith}
-use Prim.Native.Nat.{_≤_}
 use lib.ListN.{length, List·getD-eq-default}
 use mathlib.Core.Path.{sym}
 use borrow.Author.Needs.{needs}
 use Rattle.arbiter.proofs.entry.Statement.{statement}
 use Rattle.arbiter.proofs.entry.Tie as tie
-use Rattle.arbiter.proofs.entry.Reads as reads
-use Rattle.arbiter.proofs.entry.Lts as lts
 
 -- src/lib.rt:72:16
 array-read-result : tie.Need-array-read-result

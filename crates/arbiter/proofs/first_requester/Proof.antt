@@ -5,10 +5,6 @@ use mathlib.Core.Path.{_≡_, refl, sym, _∙_}
 use borrow.Author.Needs.{needs}
 use Rattle.arbiter.proofs.first_requester.Statement.{statement}
 use Rattle.arbiter.proofs.first_requester.Tie as tie
-use Rattle.arbiter.proofs.first_requester.Reads as reads
-use Rattle.arbiter.proofs.first_requester.Lts as lts
-use Rattle.arbiter.proofs.is_requesting.Reads as is-requesting-reads
-use Rattle.arbiter.proofs.next_master.Reads as next-master-reads
 
 abbrev Inv-loop : tie.InvT-loop
 Inv-loop requests n owner m₀ left₀ m left = tried (bit requests) n (above n owner) n ≡ tried (bit requests) n (above n m) left

@@ -4,8 +4,6 @@ use mathlib.Core.Path.{sym, refl}
 use borrow.Author.Needs.{needs}
 use Rattle.arbiter.proofs.is_requesting.Statement.{statement}
 use Rattle.arbiter.proofs.is_requesting.Tie as tie
-use Rattle.arbiter.proofs.is_requesting.Reads as reads
-use Rattle.arbiter.proofs.is_requesting.Lts as lts
 
 -- src/lib.rt:32:9
 returns : tie.Need-returns

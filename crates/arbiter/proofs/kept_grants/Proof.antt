@@ -1,10 +1,7 @@
 use Rattle.arbiter.specs.Granting.{kept}
 use borrow.Author.Tests.{lt-ltb, le-ltb}
-use borrow.Author.Needs.{needs}
 use Rattle.arbiter.proofs.kept_grants.Statement.{statement}
 use Rattle.arbiter.proofs.kept_grants.Tie as tie
-use Rattle.arbiter.proofs.kept_grants.Reads as reads
-use Rattle.arbiter.proofs.kept_grants.Lts as lts
 
 -- src/lib.rt:76:1
 returns : tie.Need-returns

@@ -5,8 +5,6 @@ use Prim.Native.Nat.{_+_}
 use borrow.Author.Needs.{needs}
 use Rattle.arbiter.proofs.next_master.Statement.{statement}
 use Rattle.arbiter.proofs.next_master.Tie as tie
-use Rattle.arbiter.proofs.next_master.Reads as reads
-use Rattle.arbiter.proofs.next_master.Lts as lts
 
 -- src/lib.rt:42:9
 returns : tie.Need-returns

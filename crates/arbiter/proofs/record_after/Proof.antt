@@ -1,11 +1,7 @@
 use Rattle.arbiter.proofs.GrantLaws.{after-granted, after-silent}
-use Rattle.arbiter.specs.Granting.{arbiterAfter}
-use mathlib.Core.Path.{_≡_, ap}
 use borrow.Author.Needs.{needs}
 use Rattle.arbiter.proofs.record_after.Statement.{statement}
 use Rattle.arbiter.proofs.record_after.Tie as tie
-use Rattle.arbiter.proofs.record_after.Reads as reads
-use Rattle.arbiter.proofs.record_after.Lts as lts
 
 -- src/lib.rt:112:24
 enum-known-g : tie.Need-enum-known-g

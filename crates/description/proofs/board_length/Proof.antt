@@ -1,69 +1,69 @@
--- `description::board_length` meets its contract. An accepted board has few enough lines that no sum wraps. Assumes nothing.
+-- `description::board_length` meets its contract. The loop's invariant: the sum is the length of the lines of the first k places.
+-- A board has at most 638 places, so that no sum wraps. Assumes nothing.
+use mathlib.Core.Path.{_≡_, ap, refl, _∙_}
+use Prim.Native.Nat.{_-_, _≤_}
 use native.Mathlib.Omega.{arith}
+use lib.ListN.{length}
 use borrow.Author.Needs.{needs}
-use Rattle.board.specs.Items.{masterItem, slaveItem}
-use Rattle.board.proofs.Accepted.{accepted-legal}
-use Rattle.description.proofs.WriteLaws.{lines-fit, pairs-fit, length-parts}
+use Rattle.laws.specs.Lists.{gather}
+use Rattle.board_check.specs.Lines.{linesTo}
+use Rattle.lines.specs.Writer.{itemsText}
+use Rattle.lines.proofs.WriteLaws.{item-fits}
+use Rattle.description.proofs.WriteLaws.{text-all, length-next, lines-fit}
 use Rattle.description.proofs.board_length.Statement.{statement}
 use Rattle.description.proofs.board_length.Tie as tie
 
-cast-masters-length : tie.Need-cast-masters-length
-cast-masters-length c = search needs
+abbrev Inv-loop : tie.InvT-loop
+Inv-loop board n sum₀ k₀ sum k = (k ≤ n) × (sum ≡ length (itemsText (linesTo board k)))
 
-masters-length-requires : tie.Need-masters-length-requires
-masters-length-requires c κs = let s = c .before .before .before .before in accepted-legal (s .args .board) (s .pre) .fewMasters
+abbrev μ-loop : tie.MeasureT-loop
+μ-loop board n sum₀ k₀ sum k = n - k
 
-cast-slaves-length : tie.Need-cast-slaves-length
-cast-slaves-length c = search needs
+places-requires : tie.Need-places-requires Inv-loop μ-loop
+places-requires c κs = search needs
 
-slaves-length-requires : tie.Need-slaves-length-requires
-slaves-length-requires c κs = let s = c .before .before .before .before .before .before in accepted-legal (s .args .board) (s .pre) .fewSlaves
+loop-holds : tie.Need-loop-holds Inv-loop μ-loop
+unfolding linesTo gather itemsText
+loop-holds c = (omega arith, refl)
 
-add-result : tie.Need-add-result
-add-result c = let b = c .before .before .before .before .before .before .before .args .board in
-    let k = accepted-legal b (c .before .before .before .before .before .before .before .pre) in
-    omega (
-      arith,
-      c .before .before .masters-length .ensures,
-      c .slaves-length .ensures,
-      lines-fit (masterItem (b .masters)) (b .«master_count»),
-      lines-fit (slaveItem (b .slaves)) (b .«slave_count»),
-    )
+line-at-requires : tie.Need-line-at-requires Inv-loop μ-loop
+line-at-requires c κs = search needs
 
-shares-length-requires : tie.Need-shares-length-requires
-shares-length-requires c κs = search needs
+item-length-requires : tie.Need-item-length-requires Inv-loop μ-loop
+item-length-requires c κs = search needs
 
-add-result-2 : tie.Need-add-result-2
-add-result-2 c = let b = c .before .before .before .before .before .before .before .before .args .board in
-    let k = accepted-legal b (c .before .before .before .before .before .before .before .before .pre) in
-    omega (
-      arith,
-      c .before .before .before .masters-length .ensures,
-      c .before .slaves-length .ensures,
-      c .shares-length .ensures,
-      lines-fit (masterItem (b .masters)) (b .«master_count»),
-      lines-fit (slaveItem (b .slaves)) (b .«slave_count»),
-      pairs-fit (b .shares) 128,
-    )
+add-sum : tie.Need-add-sum Inv-loop μ-loop
+add-sum c = let l = c .before .before .before .loop in
+    omega (arith, l .inv .1, lines-fit (c .before .before .before .before .before .args .board) (l .k), item-fits (c .before .line-at .result))
 
-returns : tie.Need-returns
-returns c = omega (
-  arith,
-  c .before .before .before .masters-length .ensures,
-  c .before .slaves-length .ensures,
-  c .shares-length .ensures,
-  length-parts (c .before .before .before .before .before .before .before .before .args .board),
-)
+add-k : tie.Need-add-k Inv-loop μ-loop
+add-k c = search needs
+
+loop-less : tie.Need-loop-less Inv-loop μ-loop
+loop-less c = search needs
+
+loop-again : tie.Need-loop-again Inv-loop μ-loop
+loop-again c = let l = c .before .before .before .loop in
+    let e = rw (c .before .line-at .ensures) at (c .item-length .ensures) in
+    (omega arith, omega (arith, l .inv .1, length-next (c .before .before .before .before .before .args .board) (l .k)))
+
+returns : tie.Need-returns Inv-loop μ-loop
+returns c = let l = c .before .loop in
+    let p = c .before .before in
+    l .inv .1 ∙ ap length (text-all (p .before .args .board) (l .k) (omega (arith, p .places .ensures)))
 
 pub board-length-spec : {M : Type 1} → statement M
 board-length-spec =
     tie.close
     (tie.spec
-    cast-masters-length
-    masters-length-requires
-    cast-slaves-length
-    slaves-length-requires
-    add-result
-    shares-length-requires
-    add-result-2
+    Inv-loop
+    μ-loop
+    places-requires
+    loop-holds
+    line-at-requires
+    item-length-requires
+    add-sum
+    add-k
+    loop-less
+    loop-again
     returns)

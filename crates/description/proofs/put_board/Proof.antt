@@ -1,57 +1,73 @@
--- `description::put_board` meets its contract: three parts, one behind another. Assumes nothing.
+-- `description::put_board` meets its contract. The loop's invariant: the lines of the first k places are stored.
+-- The measure is how many are left. Assumes nothing.
+use Prim.Native.Nat.{_-_, _≤_}
 use native.Mathlib.Omega.{arith}
 use borrow.Author.Needs.{needs}
-use Rattle.text.proofs.Puts.{put-then, put-length}
-use Rattle.board.proofs.Accepted.{accepted-legal}
-use Rattle.description.proofs.WriteLaws.{text-parts, length-parts}
+use Rattle.laws.specs.Lists.{gather}
+use Rattle.text.specs.Scanning.{Put}
+use Rattle.text.proofs.Puts.{put-none, put-length}
+use Rattle.board_check.specs.Lines.{linesTo}
+use Rattle.lines.specs.Writer.{itemsText}
+use Rattle.description.proofs.WriteLaws.{text-all, room-next, put-next}
 use Rattle.description.proofs.put_board.Statement.{statement}
 use Rattle.description.proofs.put_board.Tie as tie
 
-cast-put-masters : tie.Need-cast-put-masters
-cast-put-masters c = search needs
+abbrev Inv-loop : tie.InvT-loop
+Inv-loop out₀ board n next₀ k₀ out next k = (k ≤ n) × Put out₀ 0 (itemsText (linesTo board k)) out next
 
-put-masters-requires : tie.Need-put-masters-requires
-put-masters-requires c κs = let s = c .before .before .before .before .before .before in
-    let b = s .args .board in
-    (accepted-legal b (s .pre .0) .fewMasters, omega (arith, s .pre .1, length-parts b))
+abbrev μ-loop : tie.MeasureT-loop
+μ-loop out₀ board n next₀ k₀ out next k = n - k
 
-cast-put-slaves : tie.Need-cast-put-slaves
-cast-put-slaves c = search needs
+places-requires : tie.Need-places-requires Inv-loop μ-loop
+places-requires c κs = search needs
 
-put-slaves-requires : tie.Need-put-slaves-requires
-put-slaves-requires c κs = let m = c .before .before .before .before in
-    let s = m .before .before .before .before .before .before .before in
-    let b = s .args .board in
-    let p = m .put-masters .ensures in
-    (accepted-legal b (s .pre .0) .fewSlaves, omega (arith, s .pre .1, length-parts b, p .end, put-length p))
+loop-holds : tie.Need-loop-holds Inv-loop μ-loop
+unfolding linesTo gather itemsText
+loop-holds c = (omega arith, put-none _ _)
 
-put-shares-requires : tie.Need-put-shares-requires
-put-shares-requires c κs = let n = c .before .before .before in
-    let m = n .before .before .before .before .before in
-    let s = m .before .before .before .before .before .before .before in
-    let p = m .put-masters .ensures in
-    let q = n .put-slaves .ensures in
-    omega (arith, s .pre .1, length-parts (s .args .board), p .end, q .end, put-length p, put-length q)
+line-at-requires : tie.Need-line-at-requires Inv-loop μ-loop
+line-at-requires c κs = search needs
 
-same-length : tie.Need-same-length
-same-length c = search needs
+put-item-requires : tie.Need-put-item-requires Inv-loop μ-loop
+put-item-requires c κs = let l = c .before .before .before .loop in
+    let p = c .before .before .before .before in
+    let s = p .before .before in
+    let e = put-length (l .inv .1) in
+    rw (c .before .line-at .ensures)
+    (omega (arith, l .inv .1 .end, s .pre, room-next (s .args .board) (l .k) (omega (arith, p .places .ensures))))
 
-returns : tie.Need-returns
-returns c = let p = c .before .before in
-    let n = p .before .before .before .before in
-    let m = n .before .before .before .before .before in
-    let a = m .before .before .before .before .before .before .before .args in
-    rw (text-parts (a .board))
-    (put-then (m .put-masters .ensures) (put-then (n .put-slaves .ensures) (p .put-shares .ensures)))
+add-k : tie.Need-add-k Inv-loop μ-loop
+add-k c = search needs
+
+loop-less : tie.Need-loop-less Inv-loop μ-loop
+loop-less c = search needs
+
+loop-again : tie.Need-loop-again Inv-loop μ-loop
+loop-again c = let p = c .before .before in
+    let l = p .before .before .before .before .loop in
+    let a = p .before .before .before .before .before .before .before .args in
+    (omega arith, put-next (a .board) (l .k) (l .inv .1) (rw (p .before .before .line-at .ensures) at (p .put-item .ensures)))
+
+same-length : tie.Need-same-length Inv-loop μ-loop
+same-length c = put-length (c .before .loop .inv .1)
+
+returns : tie.Need-returns Inv-loop μ-loop
+returns c = let l = c .before .loop in
+    let p = c .before .before in
+    rw (text-all (p .before .before .args .board) (l .k) (omega (arith, p .places .ensures))) at (l .inv .1)
 
 pub put-board-spec : {M : Type 1} → statement M
 put-board-spec =
     tie.close
     (tie.spec
-    cast-put-masters
-    put-masters-requires
-    cast-put-slaves
-    put-slaves-requires
-    put-shares-requires
+    Inv-loop
+    μ-loop
+    places-requires
+    loop-holds
+    line-at-requires
+    put-item-requires
+    add-k
+    loop-less
+    loop-again
     same-length
     returns)

@@ -9,7 +9,7 @@ read-bounded-requires c κs = search needs
 
 returns : tie.Need-returns
 unfolding readText
-returns c = rw (c .before .read-bounded .ensures)
+returns c = rw (← c .before .before .read-bounded .ensures .0)
 
 pub read-spec : {M : Type 1} → statement M
 read-spec = tie.close (tie.spec read-bounded-requires returns)

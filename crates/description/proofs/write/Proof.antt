@@ -27,13 +27,13 @@ promised b out most l w =
 put-board-requires : tie.Need-put-board-requires
 put-board-requires c κs = search needs
 
-check-requires : tie.Need-check-requires
-check-requires c κs = search needs
+refusal-requires : tie.Need-refusal-requires
+refusal-requires c κs = search needs
 
 returns : tie.Need-returns
 unfolding longest
 returns c = let a = c .before .before .before .args in
-    promised (a .board) (a .out .now) _ (lit≤ tt) (board-refused (a .board) _ _ (c .before .check .ensures) (c .if1 .taken))
+    promised (a .board) (a .out .now) _ (lit≤ tt) (board-refused (a .board) _ _ (c .before .refusal .ensures) (c .if1 .taken))
 
 board-length-requires : tie.Need-board-length-requires
 board-length-requires c κs = search needs
@@ -41,7 +41,7 @@ board-length-requires c κs = search needs
 returns-2 : tie.Need-returns-2
 unfolding longest
 returns-2 c = let a = c .before .before .before .before .before .args in
-    let accepted = sym (c .before .before .before .check .ensures) ∙ c .before .before .if1 .left in
+    let accepted = sym (c .before .before .before .refusal .ensures) ∙ c .before .before .if1 .left in
     promised (a .board) (a .out .now) _ (lit≤ tt)
     (room-refused (a .board) _ accepted (omega (arith, c .before .board-length .ensures, c .if2 .taken)))
 
@@ -53,7 +53,7 @@ unfolding longest
 returns-3 c = let n = c .before .before .before .before .before in
     let k = n .before .before in
     let a = k .before .before .args in
-    let accepted = sym (k .check .ensures) ∙ n .before .if1 .left in
+    let accepted = sym (k .refusal .ensures) ∙ n .before .if1 .left in
     promised (a .board) (a .out .now) _ (lit≤ tt)
     (text-written (a .board) _ accepted _ _
     (omega (arith, n .board-length .ensures, c .before .before .before .before .if2 .left))
@@ -63,7 +63,7 @@ pub write-spec : {M : Type 1} → statement M
 write-spec =
     tie.close
     (tie.spec
-    check-requires
+    refusal-requires
     returns
     board-length-requires
     returns-2
