@@ -140,7 +140,49 @@ error,3' 'simulate: script line 2: refusal 11: no such master
 simulate: script line 3: not a line of a script'
 called '\n' 'error,1' 'simulate: script line 1: not a line of a script'
 called 'reset\nshow,memory,4096,1' 'reset,0
-error,2' 'simulate: script line 2: not a line of a script'
+error,2' 'simulate: script line 2: reaches past what is lent'
+
+# A line of a known form says what is wrong with its numbers: LINE, the problem. What is malformed besides comes first.
+problem() {
+    called "reset\n$1\n" 'reset,0
+error,2' "simulate: script line 2: $2"
+}
+
+range='a number is out of its range'
+problem 'clock,4294967296' "$range"
+problem 'wait,0,4294967296' "$range"
+problem 'post,0,read,4294967296,15,1,-' "$range"
+problem 'post,0,read,4096,256,1,-' "$range"
+problem 'transfer,8,0,0,0,0,0' "$range"
+problem 'transfer,0,2,0,0,0,0' "$range"
+problem 'slot,16,0,0,0,0,0' "$range"
+problem 'slot,0,0,0,0,65536,0' "$range"
+problem 'slave,0,0,0,0,0,0,256' "$range"
+problem 'share,0,16,1' "$range"
+problem 'count,256,1' "$range"
+problem 'lend,memory,4105' "$range"
+problem 'lend,buffer,4105' "$range"
+past='reaches past what is lent'
+problem 'fill,memory,4095,0000' "$past"
+problem 'fill,buffer,9999999999,00' "$past"
+problem 'show,buffer,0,4097' "$past"
+problem "post,0,write,4096,15,1,$(printf '%08194d' 0)" 'more than 4096 bytes'
+called "reset\npost,0,write,4096,15,1,$(printf '%08192d' 0)\n" 'reset,0
+post,18' 'simulate: script line 2: refusal 18: data not beats times width bytes'
+form='not a line of a script'
+problem 'clock,4294967296,1' "$form"
+problem 'clock' "$form"
+problem 'clock,' "$form"
+problem 'clock,1,' "$form"
+problem 'clock,01' "$form"
+problem 'clocks,1' "$form"
+problem 'cloc,1' "$form"
+problem 'reset,' "$form"
+problem 'fill,memory,0,0' "$form"
+problem 'fill,memory,0,0G' "$form"
+problem 'fill,cards,0,00' "$form"
+problem 'post,0,fetch,4096,15,1,-' "$form"
+problem 'slave,0,0,0,0,0,0,0,0' "$form"
 
 # Where both go to one place, an explanation comes right behind the answer.
 printf 'reset\npost,2,read,4096,15,1,-\nclock,2\nwait,2,0\nreset' > calls.txt
@@ -171,10 +213,12 @@ meanings="  1 text over 8192 bytes; $line
   5 slave overlaps an earlier one
   6 spans total over 65536
   7 $share"
-run table board.txt '' "usage: table < BOARD
+usage="usage: table < BOARD
 Prints master,slave,wait,serve of every connected pair, or refused, and a number:
-$meanings" --help
-run simulate script.txt '' "usage: simulate BOARD < SCRIPT
+$meanings"
+run table board.txt "$usage" '' --help
+run table board.txt '' "$usage" board.txt
+run simulate script.txt "usage: simulate BOARD < SCRIPT
 Runs the script's lines on the board and prints what each call answers, a refusal by its number:
 $meanings
   8 memory or buffer not of its exact length
@@ -187,7 +231,7 @@ $meanings
   15 lanes not legal, or a burst without all lanes
   16 no connected slave there
   17 burst passes the slave's end
-  18 data not beats times width bytes" --help
+  18 data not beats times width bytes" '' --help
 run simulate script.txt '' 'usage: simulate BOARD < SCRIPT'
 run simulate script.txt '' 'absent.txt: No such file or directory' absent.txt
 

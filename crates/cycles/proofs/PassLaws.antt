@@ -31,6 +31,7 @@ use Rattle.state.specs.Records.{noLine, noSlot, transferAt, slotAt}
 use Rattle.state_check.specs.Targets.{targetsIn, requestMask}
 use Rattle.state.specs.Control.{slotAfterGrant, stepOf, lineAfter, slotAfter, finishes, finished, maskOf}
 use Rattle.state.specs.Control.{transferAfter, stateAfter, linesOf}
+use Rattle.state.specs.Clocking.{clockedOf}
 use Rattle.state.specs.Carrying.{carriedBy, storeAfter}
 use Rattle.steps.specs.Serving.{Placed, slotAsked, stepFrom, carriedFrom}
 use Rattle.state.proofs.Sound.{Sound}
@@ -167,7 +168,7 @@ module _ (b : Board) (st : State) where
   pub answer-of : {after : State} {x : ℕ} {lines : List Line} → after .transfers ≡ stateAfter b st .transfers
       → after .slots ≡ stateAfter b st .slots → x ≡ maskOf b st → lines ≡ linesOf b st
       → _≡_ {A = Clocked} (record { number = 0; state = after; mask = x; lines = lines })
-      (record { number = 0; state = stateAfter b st; mask = maskOf b st; lines = linesOf b st })
+      (clockedOf b st)
   answer-of {after} e f g h =
       let same : _≡_ {A = State} (record { transfers = after .transfers; slots = after .slots }) (stateAfter b st) = rw (e, f) in
       rw (same, g, h)

@@ -1,16 +1,13 @@
--- What a clock that is not refused is handed, answers and leaves, and what a refused one answers.
+-- What a clock that is not refused is handed, answers and leaves.
 -- Assumes nothing.
 use mathlib.Core.Path.{_≡_}
 use mathlib.Core.Bool.{true}
-use Prim.Native.Nat.{ℕ}
-use lib.ListN.{replicate}
 use Rattle.board.specs.declared.Board.{Board}
 use Rattle.board.specs.Items.{checkBoard}
 use Rattle.moves.specs.Bytes.{Store}
 use Rattle.state.specs.declared.State.{State}
-use Rattle.state.specs.Records.{noLine}
 use Rattle.state.specs.Soundness.{sound}
-use Rattle.state.specs.Control.{maskOf, stateAfter, linesOf}
+use Rattle.state.specs.Clocking.{clockedOf}
 use Rattle.state.specs.Carrying.{storeAfter}
 use Rattle.state.specs.declared.Clocked.{Clocked}
 
@@ -19,11 +16,7 @@ pub record Runs (b : Board) (st : State) : Type 0 where
   pub board : checkBoard b ≡ 0
   pub state : sound b st ≡ true
 
--- a refusal: "the state stay[s] unchanged, and all other values handed back are 0"
-unfoldable pub refusedClock : ℕ → State → Clocked
-refusedClock n st = record { number = n; state = st; mask = 0; lines = replicate 16 noLine }
-
 -- a clock that is not refused: its answer, and the lent bytes e that it leaves of d
 pub record Cycled (b : Board) (st : State) (d e : Store) (r : Clocked) : Type 0 where
-  pub answer : r ≡ record { number = 0; state = stateAfter b st; mask = maskOf b st; lines = linesOf b st }
+  pub answer : r ≡ clockedOf b st
   pub store : e ≡ storeAfter b st d

@@ -16,7 +16,8 @@ ghost use Rattle.geometry.specs.Accesses.{noTransfer};
 ghost use Rattle.moves.specs.Bytes.{bufferLength};
 ghost use Rattle.state_check.specs.Targets.{targetsIn, requestMask};
 ghost use Rattle.steps.specs.Serving.{slotAsked};
-ghost use Rattle.cycles.specs.Cycles.{Runs, refusedClock, Cycled};
+ghost use Rattle.state.specs.Clocking.{refusedClock};
+ghost use Rattle.cycles.specs.Cycles.{Runs, Cycled};
 
 // The spans of the first n slaves together.
 pub fn span_total(slaves: [Slave; 16], n: usize) -> usize

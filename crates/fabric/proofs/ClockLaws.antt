@@ -13,7 +13,8 @@ use Rattle.state.specs.declared.State.{State}
 use Rattle.state.specs.Soundness.{sound}
 use Rattle.state.specs.declared.Clocked.{Clocked}
 use Rattle.fabric.specs.Calls.{clockRefusal, clock, storeAfterClock}
-use Rattle.cycles.specs.Cycles.{refusedClock, Cycled}
+use Rattle.state.specs.Clocking.{refusedClock}
+use Rattle.cycles.specs.Cycles.{Cycled}
 
 module _ (b : Board) (st : State) (d : Store) where
   pub refused-board : {n : ℕ} → n ≡ checkBoard b → (n ≡ 0 → ⊥) → clockRefusal b st d ≡ n
@@ -54,7 +55,7 @@ module _ (b : Board) (st : State) (d : Store) where
 
   -- the answer and the bytes of a refusal
   pub answer-refused : {n : ℕ} {r : Clocked} → clockRefusal b st d ≡ n → (n ≡ 0 → ⊥) → r ≡ refusedClock n st → r ≡ clock b st d
-  unfolding clock refusedClock
+  unfolding clock
   answer-refused {n} e h q = q ∙ rw (e, ne-eqb n 0 h)
 
   pub store-refused : {n : ℕ} → clockRefusal b st d ≡ n → (n ≡ 0 → ⊥) → d ≡ storeAfterClock b st d
@@ -62,10 +63,10 @@ module _ (b : Board) (st : State) (d : Store) where
   store-refused {n} e h = rw (e, ne-eqb n 0 h)
 
   -- and of a clock that is not refused
-  pub answer-turned : {e : Store} {r : Clocked} → clockRefusal b st d ≡ 0 → Cycled b st d e r → r ≡ clock b st d
+  pub answer-taken : {e : Store} {r : Clocked} → clockRefusal b st d ≡ 0 → Cycled b st d e r → r ≡ clock b st d
   unfolding clock
-  answer-turned z t = t .answer ∙ rw z
+  answer-taken z t = t .answer ∙ rw z
 
-  pub store-turned : {e : Store} {r : Clocked} → clockRefusal b st d ≡ 0 → Cycled b st d e r → e ≡ storeAfterClock b st d
+  pub store-taken : {e : Store} {r : Clocked} → clockRefusal b st d ≡ 0 → Cycled b st d e r → e ≡ storeAfterClock b st d
   unfolding storeAfterClock
-  store-turned z t = t .store ∙ rw z
+  store-taken z t = t .store ∙ rw z

@@ -4,7 +4,7 @@ use mathlib.Core.Bool.{Bool, cond, not, _||_}
 use mathlib.Core.List.{List}
 use Prim.Native.Nat.{ℕ, _*_}
 use lib.Dec.{leb, eqb}
-use lib.ListN.{length, replicate}
+use lib.ListN.{length}
 use Rattle.board.specs.declared.Master.{Master}
 use Rattle.board.specs.declared.Board.{Board}
 use Rattle.board.specs.Records.{masterAt, memoryLength}
@@ -15,11 +15,11 @@ use Rattle.state.specs.declared.State.{State}
 use Rattle.fabric.specs.declared.Started.{Started}
 use Rattle.fabric.specs.declared.Posted.{Posted}
 use Rattle.state.specs.declared.Clocked.{Clocked}
-use Rattle.state.specs.Records.{noLine, noState, transferAt}
+use Rattle.state.specs.Records.{noState, transferAt}
 use Rattle.state.specs.Posting.{Request, transferOf, transferRefusal, stateWith}
 use Rattle.state.specs.Resetting.{stateAtReset}
 use Rattle.state.specs.Soundness.{sound}
-use Rattle.state.specs.Control.{stateAfter, maskOf, linesOf}
+use Rattle.state.specs.Clocking.{clockedOf, refusedClock}
 use Rattle.state.specs.Carrying.{storeAfter}
 
 -- what `reset` answers; "memory and buffer are not touched"
@@ -69,12 +69,12 @@ clockRefusal b st d =
     (cond (not (sound b st)) 9
     0))
 
--- what `clock` answers; on a refusal "all other values handed back are 0, clock's mask and slave lines included"
+-- what `clock` answers
 unfoldable pub clock : Board → State → Store → Clocked
 clock b st d =
     cond (eqb (clockRefusal b st d) 0)
-    (record { number = 0; state = stateAfter b st; mask = maskOf b st; lines = linesOf b st })
-    (record { number = clockRefusal b st d; state = st; mask = 0; lines = replicate 16 noLine })
+    (clockedOf b st)
+    (refusedClock (clockRefusal b st d) st)
 
 -- the lent memory and buffer after a clock
 unfoldable pub storeAfterClock : Board → State → Store → Store

@@ -13,7 +13,8 @@ use Rattle.moves.specs.Bytes.{Store, posted}
 use Rattle.state.specs.declared.State.{State}
 use Rattle.state.specs.declared.Clocked.{Clocked}
 use Rattle.state.specs.Posting.{Request, transferOf}
-use Rattle.state.specs.Control.{stateAfter, maskOf, linesOf}
+use Rattle.state.specs.Control.{stateAfter, linesOf}
+use Rattle.state.specs.Clocking.{clockedOf}
 use Rattle.state.specs.Carrying.{storeAfter}
 use Rattle.state.specs.Posting.{stateWith}
 use Rattle.fabric.specs.Calls.{World, postRefusal, post, bufferAfterPost, clockRefusal, clock, storeAfterClock}
@@ -31,12 +32,7 @@ abbrev pub withClock : Board → World → World
 withClock b w = record { state = stateAfter b (w .state); store = storeAfter b (w .state) (w .store) }
 
 abbrev pub answerOf : Board → World → Clocked
-answerOf b w = record {
-  number = 0;
-  state = stateAfter b (w .state);
-  mask = maskOf b (w .state);
-  lines = linesOf b (w .state);
-}
+answerOf b w = clockedOf b (w .state)
 
 pub post-leaves : (b : Board) (w : World) (q : Request) → postRefusal b (w .state) (w .store .buffer) q ≡ 0
     → leaves w (posts b (w .state) (w .store .buffer) q) ≡ withPost w q

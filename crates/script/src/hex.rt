@@ -1,11 +1,6 @@
 // Bytes as pairs of hex digits.
 ghost use Prim.Native.Nat.{_≤_};
-
-// How many bytes a field spells.
-pub enum Count {
-    Malformed,
-    Bytes(usize),
-}
+use crate::Field;
 
 // What a lower case hex digit counts; 16 for any other byte.
 fn digit_value(c: u8) -> u8
@@ -39,26 +34,15 @@ fn all_digits(field: &[u8]) -> bool {
 }
 
 // The count of bytes of a field: `-` has none, any other field spells at least one.
-pub fn hex_count(field: &[u8]) -> Count {
-    if text::same_bytes(field, b"-") {
-        return Count::Bytes(0);
-    }
+pub fn byte_count(field: &[u8]) -> Field {
     let n = field.len();
-    if n == 0 {
-        return Count::Malformed;
+    if text::same_bytes(field, b"-") {
+        return crate::value(0);
     }
-    if n % 2 == 1 {
-        return Count::Malformed;
+    if (0 < n) & (n % 2 == 0) & all_digits(field) {
+        return crate::value((n / 2) as u64);
     }
-    if all_digits(field) {
-        return Count::Bytes(n / 2);
-    }
-    Count::Malformed
-}
-
-// The byte of two hex digits.
-fn pair(high: u8, low: u8) -> u8 {
-    digit_value(high) % 16 * 16 + digit_value(low) % 16
+    crate::no_value(crate::NOT_A_LINE)
 }
 
 // Puts the bytes that a field spells into out, as many as both have.
@@ -68,7 +52,7 @@ pub fn decode(field: &[u8], out: &mut [u8]) {
         if field.len() / 2 <= i {
             return;
         }
-        out[i] = pair(field[2 * i], field[2 * i + 1]);
+        out[i] = digit_value(field[2 * i]) % 16 * 16 + digit_value(field[2 * i + 1]) % 16;
         i += 1;
     }
 }

@@ -1,358 +1,248 @@
 // Lines of the simulator's script. A line is a word and its fields, parted by commas.
 mod hex;
 
-ghost use Prim.Native.Nat.{_≤_};
+ghost use Prim.Native.Nat.{_≤_, _<_};
 ghost use lib.ListN.{length};
 ghost use Rattle.script.specs.Places.{Place};
-use board::Master;
-use board::Slave;
-use geometry::Transfer;
-pub use hex::Count;
 pub use hex::decode;
-pub use hex::hex_count;
-use state::Slot;
-use text::Numbers;
+use text::Number;
 
-// Which of the two lent stores a line names.
-pub enum Store {
-    Memory,
-    Buffer,
+// The kinds of line, by the places of their words in WORDS. Those up to COUNT overwrite an entry of the board or the state.
+pub const TRANSFER: usize = 0;
+
+pub const SLOT: usize = 1;
+
+pub const MASTER: usize = 2;
+
+pub const SLAVE: usize = 3;
+
+pub const SHARE: usize = 4;
+
+pub const COUNT: usize = 5;
+
+pub const RESET: usize = 6;
+
+pub const STATE: usize = 7;
+
+pub const POST: usize = 8;
+
+pub const CLOCK: usize = 9;
+
+pub const WAIT: usize = 10;
+
+pub const FILL: usize = 11;
+
+pub const SHOW: usize = 12;
+
+pub const LEND: usize = 13;
+
+// How many kinds there are; the kind of a line that is none of them.
+pub const KINDS: usize = 14;
+
+// The first word of each kind, eight bytes for each.
+const WORDS: [u8; 112] =
+    *b"transferslot,,,,master,,slave,,,share,,,count,,,reset,,,state,,,post,,,,clock,,,wait,,,,fill,,,,show,,,,lend,,,,";
+
+// The fields behind it, a letter for each: see `field_value`.
+const FIELDS: [u8; 112] =
+    *b"mffwbb  cbbfhb  mbb     cwwbbbb mcb     bb                      wdwbbp  w       ww      snx     snn     sn      ";
+
+// What can be wrong with a line: it is none of the kinds, it has a number that its field does not hold, it reaches past what is
+// lent, which whoever runs it finds, or it posts more than 4,096 bytes.
+pub const NOT_A_LINE: u8 = 1;
+
+pub const OUT_OF_RANGE: u8 = 2;
+
+pub const PAST_LENT: u8 = 3;
+
+pub const TOO_MANY_BYTES: u8 = 4;
+
+// What a line says: its kind and what its fields say, a name as 0 or 1, and bytes by their count; the last field starts at
+// `last`. A line with a problem has no kind. The values have names, not places in an array: to read a field of a struct asks for
+// no proof.
+pub struct Command {
+    pub problem: u8,
+    pub kind: usize,
+    pub last: usize,
+    pub first: u64,
+    pub second: u64,
+    pub third: u64,
+    pub fourth: u64,
+    pub fifth: u64,
+    pub sixth: u64,
+    pub seventh: u64,
 }
 
-// An entry of the board or the state, and what overwrites it. A number in front is the entry's index.
-pub enum Entry {
-    Transfer(usize, Transfer),
-    Slot(usize, Slot),
-    Master(usize, Master),
-    Slave(usize, Slave),
-    Share(usize, usize, u8),
-    Counts(u8, u8),
+// What a field says, where its problem is 0.
+pub struct Field {
+    pub problem: u8,
+    pub value: u64,
 }
 
-// What a line says. The bytes of Post and Fill are the line's last field, see last_field.
-pub enum Command {
-    Malformed,
-    Reset,
-    State,
-    Post(u32, Transfer),
-    Clock(u32),
-    Wait(u32, u32),
-    Fill(Store, usize),
-    Show(Store, usize, usize),
-    Lend(Store, usize),
-    Overwrite(Entry),
-}
-
-// The largest value of a field of one byte, of two, of four, and the largest number of ten digits.
-const BYTE: u64 = 255;
-
-const HALF: u64 = 65535;
-
-const WORD: u64 = 4294967295;
-
-const ANY: u64 = 9999999999;
-
-// Where the part of s behind the comma at `comma` starts: at its end where there is no comma.
-fn start_behind(s: &[u8], comma: usize) -> usize
-    ensures { λ r. ⌜ r ≤ length (now (s .entry)) ⌝ }
-{
-    if comma < s.len() {
-        return comma + 1;
+fn value(n: u64) -> Field {
+    Field {
+        problem: 0,
+        value: n,
     }
-    s.len()
 }
 
-// The part of s behind the comma at `comma`.
-fn behind(s: &[u8], comma: usize) -> &[u8] {
-    let start = start_behind(s, comma);
-    &s[start..]
+fn no_value(problem: u8) -> Field {
+    Field {
+        problem: problem,
+        value: 0,
+    }
 }
 
-// The place of the first comma of s, or the length of s where there is none.
-fn first_comma(s: &[u8]) -> usize
+// Where the first piece of s ends: at the first byte that parts pieces, or at the end where there is none.
+pub fn piece_end(s: &[u8], separator: u8) -> usize
     ensures { λ r. ⌜ Place r (now (s .entry)) ⌝ }
 {
-    text::find_byte(s, b',')
+    text::find_byte(s, separator)
 }
 
-// The place of the last comma of s, or the length of s where there is none.
-fn last_comma(s: &[u8]) -> usize
-    ensures { λ r. ⌜ Place r (now (s .entry)) ⌝ }
+// Whether a word is that of a kind.
+fn is_word_of(word: &[u8], kind: usize) -> bool
+    requires { ⌜ kind < 14 ⌝ }
 {
-    let mut i = s.len();
-    while 0 < i {
-        i -= 1;
-        if s[i] == b',' {
-            return i;
+    let words = WORDS;
+    let start = 8 * kind;
+    let end = start + 8;
+    let own = &words[start..end];
+    let e = piece_end(own, b',');
+    text::same_bytes(word, &own[..e])
+}
+
+// The kind that a first word names, or KINDS.
+fn kind_of(word: &[u8]) -> usize
+    ensures { λ r. ⌜ r ≤ 14 ⌝ }
+{
+    let mut kind = 0;
+    while kind < KINDS {
+        if is_word_of(word, kind) {
+            return kind;
         }
+        kind += 1;
     }
-    s.len()
+    KINDS
 }
 
-// The last field of a line that has two or more.
-pub fn last_field(line: &[u8]) -> &[u8] {
-    behind(line, last_comma(line))
+// One of two names: 0 for the first, 1 for the second.
+fn named(field: &[u8], first: &[u8], second: &[u8]) -> Field {
+    if text::same_bytes(field, first) {
+        return value(0);
+    }
+    if text::same_bytes(field, second) {
+        return value(1);
+    }
+    no_value(NOT_A_LINE)
 }
 
-// Whether there are as many numbers as limits, and each is within its own. No line has more than six.
-fn within(ns: Numbers, limits: &[u64]) -> bool {
-    let n = limits.len();
-    if 6 < n {
-        return false;
+// The largest number of a field by its letter: a flag, a master, a card, a number of one byte, of two, of four, of ten digits.
+fn most(letter: u8) -> u64 {
+    match letter {
+        b'f' => 1,
+        b'm' => 7,
+        b'c' => 15,
+        b'b' => 255,
+        b'h' => 65535,
+        b'w' => 4294967295,
+        _ => 9999999999,
     }
-    if ns.count as usize != n {
-        return false;
+}
+
+fn number(field: &[u8], letter: u8) -> Field {
+    let read = text::parse_number(field);
+    let Number::Value(n) = read else {
+        return no_value(NOT_A_LINE);
+    };
+    if most(letter) < n {
+        return no_value(OUT_OF_RANGE);
     }
-    let values = ns.values;
+    value(n)
+}
+
+// The bytes of a post, by their count.
+fn posted(field: &[u8]) -> Field {
+    let bytes = hex::byte_count(field);
+    if 4096 < bytes.value {
+        return no_value(TOO_MANY_BYTES);
+    }
+    bytes
+}
+
+// What a field says: a store's name (s), a direction (d), bytes (x), those of a post (p), or a number; no field has the letter
+// ` `.
+fn field_value(field: &[u8], letter: u8) -> Field {
+    match letter {
+        b's' => named(field, b"memory", b"buffer"),
+        b'd' => named(field, b"read", b"write"),
+        b'x' => hex::byte_count(field),
+        b'p' => posted(field),
+        b' ' => no_value(NOT_A_LINE),
+        _ => number(field, letter),
+    }
+}
+
+fn command_of(problem: u8, kind: usize, last: usize, values: [u64; 7]) -> Command {
+    Command {
+        problem: problem,
+        kind: kind,
+        last: last,
+        first: values[0],
+        second: values[1],
+        third: values[2],
+        fourth: values[3],
+        fifth: values[4],
+        sixth: values[5],
+        seventh: values[6],
+    }
+}
+
+fn refused(problem: u8) -> Command {
+    command_of(problem, KINDS, 0, [0; 7])
+}
+
+// The fields of a line of a kind behind its word, which ends at `place`. Each turn reads the field behind the comma at `at`.
+fn parse_fields(line: &[u8], kind: usize, place: usize) -> Command
+    requires { ⌜ kind < 14 × place ≤ length (now line) ⌝ }
+{
+    let letters = FIELDS;
+    let mut values = [0u64; 7];
+    let mut problem = 0;
+    let mut last = 0;
     let mut i = 0;
-    while i < n {
-        if limits[i] < values[i] {
-            return false;
+    let mut at = place;
+    while at < line.len() {
+        if i == 7 {
+            return refused(NOT_A_LINE);
         }
+        last = at + 1;
+        let rest = &line[last..];
+        let e = piece_end(rest, b',');
+        let field = field_value(&rest[..e], letters[8 * kind + i]);
+        if field.problem == NOT_A_LINE {
+            return refused(NOT_A_LINE);
+        }
+        problem = problem | field.problem;
+        values[i] = field.value;
+        at = last + e;
         i += 1;
     }
-    true
-}
-
-// A number that its limit keeps within a byte.
-fn byte(n: u64) -> u8 {
-    if n < 256 { n as u8 } else { 255 }
-}
-
-// A number that its limit keeps within two bytes.
-fn half(n: u64) -> u16 {
-    if n < 65536 { n as u16 } else { 65535 }
-}
-
-// A number that its limit keeps within four bytes.
-fn word(n: u64) -> u32 {
-    if n < 4294967296 { n as u32 } else { 4294967295 }
-}
-
-// A number as an index or a length.
-fn index(n: u64) -> usize {
-    n as usize
-}
-
-fn is_store(name: &[u8]) -> bool {
-    if text::same_bytes(name, b"memory") {
-        return true;
+    if letters[8 * kind + i] != b' ' {
+        return refused(NOT_A_LINE);
     }
-    text::same_bytes(name, b"buffer")
-}
-
-fn store_named(name: &[u8]) -> Store {
-    if text::same_bytes(name, b"buffer") {
-        return Store::Buffer;
+    if problem != 0 {
+        return refused(problem);
     }
-    Store::Memory
-}
-
-// post,MASTER,read|write,ADDRESS,LANES,BEATS,BYTES: `rest` is what stands behind the first comma.
-fn post_line(rest: &[u8]) -> Command {
-    let m = first_comma(rest);
-    let master = text::parse_numbers(&rest[..m]);
-    let tail = behind(rest, m);
-    let d = first_comma(tail);
-    let write = text::same_bytes(&tail[..d], b"write");
-    let read = text::same_bytes(&tail[..d], b"read");
-    let fields = behind(tail, d);
-    let e = last_comma(fields);
-    let ns = text::parse_numbers(&fields[..e]);
-    let numbers = within(master, &[WORD]) & within(ns, &[WORD, BYTE, BYTE]);
-    if numbers & (read | write) {
-        let transfer = Transfer {
-            held: true,
-            write: write,
-            address: word(ns.values[0]),
-            lanes: byte(ns.values[1]),
-            beats: byte(ns.values[2]),
-        };
-        return Command::Post(word(master.values[0]), transfer);
-    }
-    Command::Malformed
-}
-
-// fill,memory|buffer,START,BYTES
-fn fill_line(rest: &[u8]) -> Command {
-    let s = first_comma(rest);
-    let name = &rest[..s];
-    let tail = behind(rest, s);
-    let e = last_comma(tail);
-    let ns = text::parse_numbers(&tail[..e]);
-    if is_store(name) & within(ns, &[ANY]) {
-        return Command::Fill(store_named(name), index(ns.values[0]));
-    }
-    Command::Malformed
-}
-
-// show,memory|buffer,START,COUNT
-fn show_line(rest: &[u8]) -> Command {
-    let s = first_comma(rest);
-    let name = &rest[..s];
-    let ns = text::parse_numbers(behind(rest, s));
-    if is_store(name) & within(ns, &[ANY, ANY]) {
-        return Command::Show(store_named(name), index(ns.values[0]), index(ns.values[1]));
-    }
-    Command::Malformed
-}
-
-// lend,memory|buffer,LENGTH
-fn lend_line(rest: &[u8]) -> Command {
-    let s = first_comma(rest);
-    let name = &rest[..s];
-    let ns = text::parse_numbers(behind(rest, s));
-    if is_store(name) & within(ns, &[ANY]) {
-        return Command::Lend(store_named(name), index(ns.values[0]));
-    }
-    Command::Malformed
-}
-
-// slave,INDEX,BASE,SPAN,WIDTH,BURST,READWAIT,WRITEWAIT
-fn slave_line(rest: &[u8]) -> Command {
-    let i = first_comma(rest);
-    let at = text::parse_numbers(&rest[..i]);
-    let ns = text::parse_numbers(behind(rest, i));
-    if within(at, &[15]) & within(ns, &[WORD, WORD, BYTE, BYTE, BYTE, BYTE]) {
-        let slave = Slave {
-            base: word(ns.values[0]),
-            span: word(ns.values[1]),
-            width: byte(ns.values[2]),
-            burst: byte(ns.values[3]),
-            read_wait: byte(ns.values[4]),
-            write_wait: byte(ns.values[5]),
-        };
-        return Command::Overwrite(Entry::Slave(index(at.values[0]), slave));
-    }
-    Command::Malformed
-}
-
-// transfer,MASTER,HELD,WRITE,ADDRESS,LANES,BEATS
-fn transfer_line(ns: Numbers) -> Command {
-    if within(ns, &[7, 1, 1, WORD, BYTE, BYTE]) {
-        let transfer = Transfer {
-            held: ns.values[1] == 1,
-            write: ns.values[2] == 1,
-            address: word(ns.values[3]),
-            lanes: byte(ns.values[4]),
-            beats: byte(ns.values[5]),
-        };
-        return Command::Overwrite(Entry::Transfer(index(ns.values[0]), transfer));
-    }
-    Command::Malformed
-}
-
-// slot,SLAVE,OWNER,REMAINING,SERVING,DONE,WAITED
-fn slot_line(ns: Numbers) -> Command {
-    if within(ns, &[15, BYTE, BYTE, 1, HALF, BYTE]) {
-        let slot = Slot {
-            owner: byte(ns.values[1]),
-            remaining: byte(ns.values[2]),
-            serving: ns.values[3] == 1,
-            done: half(ns.values[4]),
-            waited: byte(ns.values[5]),
-        };
-        return Command::Overwrite(Entry::Slot(index(ns.values[0]), slot));
-    }
-    Command::Malformed
-}
-
-// master,INDEX,WIDTH,BURST
-fn master_line(ns: Numbers) -> Command {
-    if within(ns, &[7, BYTE, BYTE]) {
-        let master = Master {
-            width: byte(ns.values[1]),
-            burst: byte(ns.values[2]),
-        };
-        return Command::Overwrite(Entry::Master(index(ns.values[0]), master));
-    }
-    Command::Malformed
-}
-
-// share,MASTER,SLAVE,SHARES
-fn share_line(ns: Numbers) -> Command {
-    if within(ns, &[7, 15, BYTE]) {
-        let entry = Entry::Share(index(ns.values[0]), index(ns.values[1]), byte(ns.values[2]));
-        return Command::Overwrite(entry);
-    }
-    Command::Malformed
-}
-
-// count,MASTERS,SLAVES
-fn count_line(ns: Numbers) -> Command {
-    if within(ns, &[BYTE, BYTE]) {
-        return Command::Overwrite(Entry::Counts(byte(ns.values[0]), byte(ns.values[1])));
-    }
-    Command::Malformed
-}
-
-// wait,MASTER,SLAVE
-fn wait_line(ns: Numbers) -> Command {
-    if within(ns, &[WORD, WORD]) {
-        return Command::Wait(word(ns.values[0]), word(ns.values[1]));
-    }
-    Command::Malformed
-}
-
-// clock,COUNT
-fn clock_line(ns: Numbers) -> Command {
-    if within(ns, &[WORD]) {
-        return Command::Clock(word(ns.values[0]));
-    }
-    Command::Malformed
-}
-
-// A line of which every field behind the word is a number, and that has at most six.
-fn numbers_line(name: &[u8], ns: Numbers) -> Command {
-    if text::same_bytes(name, b"clock") {
-        return clock_line(ns);
-    }
-    if text::same_bytes(name, b"wait") {
-        return wait_line(ns);
-    }
-    if text::same_bytes(name, b"transfer") {
-        return transfer_line(ns);
-    }
-    if text::same_bytes(name, b"slot") {
-        return slot_line(ns);
-    }
-    if text::same_bytes(name, b"master") {
-        return master_line(ns);
-    }
-    if text::same_bytes(name, b"share") {
-        return share_line(ns);
-    }
-    if text::same_bytes(name, b"count") {
-        return count_line(ns);
-    }
-    Command::Malformed
+    command_of(0, kind, last, values)
 }
 
 // What a line without its line feed says.
 pub fn parse(line: &[u8]) -> Command {
-    if text::same_bytes(line, b"reset") {
-        return Command::Reset;
+    let e = piece_end(line, b',');
+    let kind = kind_of(&line[..e]);
+    if kind == KINDS {
+        return refused(NOT_A_LINE);
     }
-    if text::same_bytes(line, b"state") {
-        return Command::State;
-    }
-    let e = first_comma(line);
-    let name = &line[..e];
-    let rest = behind(line, e);
-    if text::same_bytes(name, b"post") {
-        return post_line(rest);
-    }
-    if text::same_bytes(name, b"fill") {
-        return fill_line(rest);
-    }
-    if text::same_bytes(name, b"show") {
-        return show_line(rest);
-    }
-    if text::same_bytes(name, b"lend") {
-        return lend_line(rest);
-    }
-    if text::same_bytes(name, b"slave") {
-        return slave_line(rest);
-    }
-    numbers_line(name, text::parse_numbers(rest))
+    parse_fields(line, kind, e)
 }

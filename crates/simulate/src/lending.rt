@@ -1,16 +1,6 @@
 // How much of the memory and of the buffer is lent from now on.
-use crate::world;
-use crate::world::World;
-use script::Store;
-
-fn lend_memory(w: World, length: usize) -> World {
-    if w.memory_most < length {
-        return world::malformed(w);
-    }
-    let mut next = w;
-    next.memory_lent = length;
-    next
-}
+use script::Command;
+use session::Run;
 
 // Copies as many bytes as both have.
 fn copy(from: &[u8], to: &mut [u8]) {
@@ -24,33 +14,27 @@ fn copy(from: &[u8], to: &mut [u8]) {
     }
 }
 
-// The masters' words are lent from an array of 4,096 bytes, and a longer length from one of 4,104: the words change places
-// when the one takes over from the other, and the 8 bytes behind them keep their values in the longer one.
-fn lend_buffer(w: World, words: &mut [u8; 4096], longer: &mut [u8; 4104], length: usize) -> World {
-    if 4104 < length {
-        return world::malformed(w);
-    }
-    if w.buffer_lent <= 4096 {
-        if 4096 < length {
-            copy(&*words, &mut *longer);
+// The memory (0) or the buffer is lent up to a length, at most 8 bytes over the exact one. The masters' words are lent from an
+// array of 4,096 bytes, and a longer length from one of 4,104. The one that was lent is copied to the other, whichever is lent
+// from now on; the 8 bytes behind the words keep their values in the longer one.
+pub fn lend(run: Run, command: Command, words: &mut [u8], longer: &mut [u8]) -> Run {
+    let length = command.second as usize;
+    let mut next = run;
+    if command.first == 0 {
+        if run.memory_most < length {
+            return session::failed(run, script::OUT_OF_RANGE);
         }
-    } else if length <= 4096 {
-        copy(&*longer, &mut *words);
+        next.memory_lent = length;
+        return next;
     }
-    let mut next = w;
+    if 4104 < length {
+        return session::failed(run, script::OUT_OF_RANGE);
+    }
     next.buffer_lent = length;
-    next
-}
-
-pub fn run_lend(
-    w: World,
-    words: &mut [u8; 4096],
-    longer: &mut [u8; 4104],
-    store: Store,
-    length: usize,
-) -> World {
-    match store {
-        Store::Memory => lend_memory(w, length),
-        Store::Buffer => lend_buffer(w, words, longer, length),
+    if run.buffer_lent <= 4096 {
+        copy(&*words, longer);
+        return next;
     }
+    copy(&*longer, words);
+    next
 }

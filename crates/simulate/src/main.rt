@@ -1,8 +1,5 @@
 // Runs a bus fabric clock by clock: `simulate BOARD < SCRIPT`. BOARD names a description's file, the script's lines say
 // what to do. `simulate --help` lists what the refusals' numbers mean.
-mod answers;
-mod explain;
-mod input;
 mod lending;
 mod overwrite;
 mod run;
@@ -11,18 +8,18 @@ mod world;
 use libc::STDERR_FILENO;
 use libc::STDOUT_FILENO;
 
-fn usage() {
-    io::write_all(STDERR_FILENO, b"usage: simulate BOARD < SCRIPT\n");
+fn usage(fd: i32) {
+    io::write_all(fd, b"usage: simulate BOARD < SCRIPT\n");
 }
 
 // What the numbers mean that the calls answer.
 fn help() {
-    usage();
+    usage(STDOUT_FILENO);
     io::write_all(
-        STDERR_FILENO,
+        STDOUT_FILENO,
         b"Runs the script's lines on the board and prints what each call answers, a refusal by its number:\n",
     );
-    refusals::list(18);
+    refusals::list(STDOUT_FILENO, 18);
 }
 
 // The board is refused: its number on standard output, the line and the cause on standard error.
@@ -40,24 +37,24 @@ fn refuse(path: &[u8], text: &[u8]) {
 // The file's bytes, up to one more than a description may have: the reader refuses a longer one by its length.
 fn simulate(fd: i32, path: &[u8]) {
     let mut text = [0u8; 8193];
-    let got = input::read_all(fd, &mut text);
+    let got = session::read_all(fd, &mut text);
     if got.failed {
         os::fail(path);
         return;
     }
-    let n = answers::place(got.end, &text);
+    let n = session::place(got.end, &text);
     let parsed = description::read(&text[..n]);
     if parsed.number != 0 {
         refuse(path, &text[..n]);
         return;
     }
     let board = parsed.board;
-    input::run_script(&text[..n], board);
+    run::run_script(&text[..n], board);
 }
 
 fn main() {
     if os::arg_count() != 2 {
-        usage();
+        usage(STDERR_FILENO);
         return;
     }
     let mut path = io::buffer();

@@ -1,39 +1,82 @@
-// Entries of the board and the state, overwritten.
+// Entries of the board and the state, overwritten by what a line says. The line's limits keep each number within its field.
+use crate::world::World;
 use board::Board;
 use board::Master;
 use board::Slave;
 use geometry::Transfer;
-use script::Entry;
+use script::Command;
 use state::Slot;
 use state::State;
 
-fn with_transfer(state: State, i: usize, t: Transfer) -> State {
+pub fn byte(n: u64) -> u8 {
+    if n < 256 { n as u8 } else { 255 }
+}
+
+fn half(n: u64) -> u16 {
+    if n < 65536 { n as u16 } else { 65535 }
+}
+
+pub fn word(n: u64) -> u32 {
+    if n < 4294967296 { n as u32 } else { 4294967295 }
+}
+
+fn with_transfer(state: State, c: Command) -> State {
     let mut s = state;
+    let i = c.first as usize;
     if i < 8 {
+        let t = Transfer {
+            held: c.second == 1,
+            write: c.third == 1,
+            address: word(c.fourth),
+            lanes: byte(c.fifth),
+            beats: byte(c.sixth),
+        };
         s.transfers[i] = t;
     }
     s
 }
 
-fn with_slot(state: State, i: usize, t: Slot) -> State {
+fn with_slot(state: State, c: Command) -> State {
     let mut s = state;
+    let i = c.first as usize;
     if i < 16 {
+        let t = Slot {
+            owner: byte(c.second),
+            remaining: byte(c.third),
+            serving: c.fourth == 1,
+            done: half(c.fifth),
+            waited: byte(c.sixth),
+        };
         s.slots[i] = t;
     }
     s
 }
 
-fn with_master(board: Board, i: usize, m: Master) -> Board {
+fn with_master(board: Board, c: Command) -> Board {
     let mut b = board;
+    let i = c.first as usize;
     if i < 8 {
+        let m = Master {
+            width: byte(c.second),
+            burst: byte(c.third),
+        };
         b.masters[i] = m;
     }
     b
 }
 
-fn with_slave(board: Board, i: usize, s: Slave) -> Board {
+fn with_slave(board: Board, c: Command) -> Board {
     let mut b = board;
+    let i = c.first as usize;
     if i < 16 {
+        let s = Slave {
+            base: word(c.second),
+            span: word(c.third),
+            width: byte(c.fourth),
+            burst: byte(c.fifth),
+            read_wait: byte(c.sixth),
+            write_wait: byte(c.seventh),
+        };
         b.slaves[i] = s;
     }
     b
@@ -50,33 +93,34 @@ fn with_share(board: Board, m: usize, s: usize, shares: u8) -> Board {
     b
 }
 
-fn with_counts(board: Board, masters: u8, slaves: u8) -> Board {
+// The board with an entry of it overwritten, or its counts.
+fn in_board(board: Board, c: Command) -> Board {
+    if c.kind == script::MASTER {
+        return with_master(board, c);
+    }
+    if c.kind == script::SLAVE {
+        return with_slave(board, c);
+    }
+    if c.kind == script::SHARE {
+        return with_share(board, c.first as usize, c.second as usize, byte(c.third));
+    }
     let mut b = board;
-    b.master_count = masters;
-    b.slave_count = slaves;
+    b.master_count = byte(c.first);
+    b.slave_count = byte(c.second);
     b
 }
 
-// The board with an entry of it overwritten.
-pub fn in_board(board: Board, entry: Entry) -> Board {
-    match entry {
-        Entry::Transfer(_, _) => board,
-        Entry::Slot(_, _) => board,
-        Entry::Master(i, m) => with_master(board, i, m),
-        Entry::Slave(i, s) => with_slave(board, i, s),
-        Entry::Share(m, s, shares) => with_share(board, m, s, shares),
-        Entry::Counts(masters, slaves) => with_counts(board, masters, slaves),
+// The world with an entry of the state or of the board overwritten.
+pub fn overwrite(w: World, c: Command) -> World {
+    let mut next = w;
+    if c.kind == script::TRANSFER {
+        next.state = with_transfer(w.state, c);
+        return next;
     }
-}
-
-// The state with an entry of it overwritten.
-pub fn in_state(state: State, entry: Entry) -> State {
-    match entry {
-        Entry::Transfer(i, t) => with_transfer(state, i, t),
-        Entry::Slot(i, t) => with_slot(state, i, t),
-        Entry::Master(_, _) => state,
-        Entry::Slave(_, _) => state,
-        Entry::Share(_, _, _) => state,
-        Entry::Counts(_, _) => state,
+    if c.kind == script::SLOT {
+        next.state = with_slot(w.state, c);
+        return next;
     }
+    next.board = in_board(w.board, c);
+    next
 }

@@ -1,89 +1,53 @@
 // What each line of a script does.
 ghost use Prim.Native.Nat.{_<_};
-ghost use lib.ListN.{length};
-use crate::answers;
-use crate::answers::Output;
-use crate::answers::ROOM;
-use crate::explain;
 use crate::lending;
 use crate::overwrite;
 use crate::world;
 use crate::world::World;
-use geometry::Transfer;
+use board::Board;
 use script::Command;
-use script::Count;
-use script::Store;
-
-// Prints what a reset or a post answered, and explains a refusal.
-fn answered(w: World, out: &mut [u8; ROOM], word: &[u8], number: u8) -> World
-    requires { ⌜ length (now word) < 900 ⌝ }
-{
-    let before = w.output;
-    let printed = answers::put_line(&mut *out, before, word, &[number as u64]);
-    let output = explain::call(&*out, printed, w.line, number);
-    world::printed(w, output)
-}
+use session::INPUT;
+use session::ROOM;
+use session::Run;
 
 fn run_reset(w: World, out: &mut [u8; ROOM]) -> World {
-    let board = w.board;
-    let started = fabric::reset(board);
+    let mut next = w;
+    let started = fabric::reset(w.board);
     let state = started.state;
-    answered(world::with_state(w, state), out, b"reset", started.number)
+    next.state = state;
+    next.run = session::answer(out, w.run, b"reset", started.number);
+    next
 }
 
-fn post_bytes(
-    w: World,
-    bytes: &[u8],
-    buffer: &mut [u8],
-    out: &mut [u8; ROOM],
-    master: u32,
-    t: Transfer,
-) -> World {
-    let board = w.board;
-    let state = w.state;
-    let posted = fabric::post(
-        board,
-        state,
-        buffer,
-        master,
-        t.write,
-        t.address,
-        t.lanes,
-        t.beats,
-        bytes,
-    );
-    let after = posted.state;
-    answered(world::with_state(w, after), out, b"post", posted.number)
-}
-
-fn run_post(
-    w: World,
-    line: &[u8],
-    buffer: &mut [u8],
-    out: &mut [u8; ROOM],
-    master: u32,
-    t: Transfer,
-) -> World {
-    let field = script::last_field(line);
-    let count = script::hex_count(field);
-    let Count::Bytes(n) = count else {
-        return world::malformed(w);
-    };
-    if 4096 < n {
-        return world::malformed(w);
-    }
+// A post's bytes are the line's last field.
+fn run_post(w: World, c: Command, field: &[u8], buffer: &mut [u8], out: &mut [u8; ROOM]) -> World {
     let mut bytes = [0u8; 4096];
     script::decode(field, &mut bytes);
-    let end = answers::place(n, &bytes);
-    post_bytes(w, &bytes[..end], buffer, out, master, t)
+    let end = session::place(c.sixth as usize, &bytes);
+    let posted = fabric::post(
+        w.board,
+        w.state,
+        buffer,
+        overwrite::word(c.first),
+        c.second == 1,
+        overwrite::word(c.third),
+        overwrite::byte(c.fourth),
+        overwrite::byte(c.fifth),
+        &bytes[..end],
+    );
+    let mut next = w;
+    let state = posted.state;
+    next.state = state;
+    next.run = session::answer(out, w.run, b"post", posted.number);
+    next
 }
 
 // How many clocks are left after one: none where its answer could not be printed.
-fn left_after(left: u32, output: Output) -> u32
+fn left_after(left: u64, broken: bool) -> u64
     requires { ⌜ 0 < left ⌝ }
     ensures { λ r. ⌜ r < left ⌝ }
 {
-    if output.broken {
+    if broken {
         return 0;
     }
     left - 1
@@ -93,199 +57,177 @@ fn left_after(left: u32, output: Output) -> u32
 // one's number explains them all.
 fn run_clock(
     w: World,
+    count: u64,
     memory: &mut [u8],
     buffer: &mut [u8],
     out: &mut [u8; ROOM],
-    count: u32,
 ) -> World {
     let board = w.board;
-    let slave_count = board.slave_count;
     let mut state = w.state;
-    let mut output = w.output;
+    let mut run = w.run;
     let mut number: u8 = 0;
     let mut left = count;
     while 0 < left {
         let c = fabric::clock(board, state, &mut *memory, &mut *buffer);
         let after = c.state;
+        let lines = c.lines;
         state = after;
         number = c.number;
-        output = answers::put_clock(&mut *out, output, c, slave_count);
-        left = left_after(left, output);
+        run = session::put_clock(&mut *out, run, number, c.mask, lines, board.slave_count);
+        left = left_after(left, run.broken);
     }
-    output = explain::call(&*out, output, w.line, number);
-    world::printed(world::with_state(w, state), output)
-}
-
-fn wide(b: u8) -> u64 {
-    b as u64
-}
-
-// The number of eight bytes, the lowest first.
-fn low_first(bytes: &[u8]) -> u64 {
-    let mut value: u64 = 0;
-    let mut i = bytes.len();
-    while 0 < i {
-        i -= 1;
-        value = (value << 8) | wide(bytes[i]);
+    let last = session::call(&*out, run, number);
+    World {
+        board: board,
+        state: state,
+        run: last,
     }
-    value
 }
 
-// A number of the wait call as the other calls answer theirs. None is above 18.
-fn narrow(number: u32) -> u8 {
-    if number < 256 {
-        return number as u8;
+// The wait is that of the board as it was read.
+fn run_wait(run: Run, c: Command, text: &[u8], out: &mut [u8; ROOM]) -> Run {
+    let parsed = description::read(text);
+    let q = quote::quote_of(
+        parsed.board,
+        overwrite::word(c.first),
+        overwrite::word(c.second),
+    );
+    session::put_wait(out, run, q.number, q.wait, q.serve)
+}
+
+// A fill or a show of lent bytes.
+fn touch(run: Run, c: Command, field: &[u8], lent: &mut [u8], out: &mut [u8; ROOM]) -> Run {
+    let start = c.second as usize;
+    let n = c.third as usize;
+    if lent.len() < start {
+        return session::failed(run, script::PAST_LENT);
     }
-    255
-}
-
-// The wait is that of the board as it was read. A refused call leaves the answer's zeros.
-fn run_wait(w: World, text: &[u8], out: &mut [u8; ROOM], master: u32, slave: u32) -> World {
-    let mut answer = [0u8; 16];
-    let number = quote::fabric_wait(text, master, slave, &mut answer);
-    let whole = &answer[..];
-    let wait = low_first(&whole[0..8]);
-    let serve = low_first(&whole[8..16]);
-    let before = w.output;
-    let printed = answers::put_line(&mut *out, before, b"wait", &[number as u64, wait, serve]);
-    let output = explain::call(&*out, printed, w.line, narrow(number));
-    world::printed(w, output)
-}
-
-// Puts the n bytes of a hex field into the lent bytes from `start` on.
-fn fill(w: World, lent: &mut [u8], start: usize, n: usize, field: &[u8]) -> World {
-    if start <= lent.len() {
-        if n <= lent.len() - start {
-            let end = start + n;
-            script::decode(field, &mut lent[start..end]);
-            return w;
-        }
+    if lent.len() - start < n {
+        return session::failed(run, script::PAST_LENT);
     }
-    world::malformed(w)
+    let end = start + n;
+    if c.kind == script::FILL {
+        script::decode(field, &mut lent[start..end]);
+        return run;
+    }
+    session::put_hex(out, run, &lent[start..end])
 }
 
-fn run_fill(
-    w: World,
-    line: &[u8],
+// A line that changes neither the board nor the state, or that has a problem.
+fn run_other(
+    run: Run,
+    c: Command,
+    field: &[u8],
+    text: &[u8],
     memory: &mut [u8],
     buffer: &mut [u8],
-    store: Store,
-    start: usize,
-) -> World {
-    let field = script::last_field(line);
-    let count = script::hex_count(field);
-    let Count::Bytes(n) = count else {
-        return world::malformed(w);
-    };
-    match store {
-        Store::Memory => fill(w, memory, start, n, field),
-        Store::Buffer => fill(w, buffer, start, n, field),
-    }
-}
-
-fn show(w: World, lent: &[u8], out: &mut [u8; ROOM], start: usize, n: usize) -> World {
-    if start <= lent.len() {
-        if n <= lent.len() - start {
-            let end = start + n;
-            let before = w.output;
-            let output = answers::put_hex(out, before, &lent[start..end]);
-            return world::printed(w, output);
-        }
-    }
-    world::malformed(w)
-}
-
-fn run_show(
-    w: World,
-    memory: &[u8],
-    buffer: &[u8],
     out: &mut [u8; ROOM],
-    store: Store,
-    start: usize,
-    n: usize,
-) -> World {
-    match store {
-        Store::Memory => show(w, memory, out, start, n),
-        Store::Buffer => show(w, buffer, out, start, n),
+) -> Run {
+    if c.problem != 0 {
+        return session::failed(run, c.problem);
     }
+    if c.kind == script::WAIT {
+        return run_wait(run, c, text, out);
+    }
+    if c.first == 0 {
+        return touch(run, c, field, memory, out);
+    }
+    touch(run, c, field, buffer, out)
 }
 
-fn run_state(w: World, out: &mut [u8; ROOM]) -> World {
-    let state = w.state;
-    let before = w.output;
-    let output = answers::put_state(out, before, state);
-    world::printed(w, output)
-}
-
-// Every line but lend, on the bytes that are lent.
+// Every line but lend, on the bytes that are lent; `field` is the line's last one.
 fn obey(
     w: World,
-    line: &[u8],
-    command: Command,
+    c: Command,
+    field: &[u8],
     text: &[u8],
     memory: &mut [u8],
     buffer: &mut [u8],
     out: &mut [u8; ROOM],
 ) -> World {
-    match command {
-        Command::Malformed => world::malformed(w),
-        Command::Reset => run_reset(w, out),
-        Command::State => run_state(w, out),
-        Command::Post(master, t) => run_post(w, line, buffer, out, master, t),
-        Command::Clock(count) => run_clock(w, memory, buffer, out, count),
-        Command::Wait(master, slave) => run_wait(w, text, out, master, slave),
-        Command::Fill(store, start) => run_fill(w, line, memory, buffer, store, start),
-        Command::Show(store, start, n) => run_show(w, memory, buffer, out, store, start, n),
-        Command::Lend(_, _) => world::malformed(w),
-        Command::Overwrite(entry) => {
-            let board = w.board;
-            let state = w.state;
-            let changed = world::with_board(w, overwrite::in_board(board, entry));
-            world::with_state(changed, overwrite::in_state(state, entry))
+    if c.kind <= script::COUNT {
+        return overwrite::overwrite(w, c);
+    }
+    if c.kind == script::RESET {
+        return run_reset(w, out);
+    }
+    if c.kind == script::POST {
+        return run_post(w, c, field, buffer, out);
+    }
+    if c.kind == script::CLOCK {
+        return run_clock(w, c.first, memory, buffer, out);
+    }
+    let mut next = w;
+    if c.kind == script::STATE {
+        next.run = session::put_state(out, w.run, w.state);
+        return next;
+    }
+    next.run = run_other(w.run, c, field, text, memory, buffer, out);
+    next
+}
+
+// The line that was found in the input, if there is one.
+fn run_line(
+    w: World,
+    input: &[u8],
+    text: &[u8],
+    memory: &mut [u8],
+    words: &mut [u8],
+    longer: &mut [u8],
+    out: &mut [u8; ROOM],
+) -> World {
+    let run = w.run;
+    if !run.found {
+        return w;
+    }
+    let stop = session::place(run.stop, input);
+    let piece = &input[..stop];
+    let start = session::place(run.start, piece);
+    let line = &piece[start..];
+    let c = script::parse(line);
+    if c.kind == script::LEND {
+        let mut next = w;
+        next.run = lending::lend(run, c, words, longer);
+        return next;
+    }
+    let last = session::place(c.last, line);
+    let field = &line[last..];
+    let m = session::place(run.memory_lent, &*memory);
+    if run.buffer_lent <= 4096 {
+        let b = session::place(run.buffer_lent, &*words);
+        return obey(w, c, field, text, &mut memory[..m], &mut words[..b], out);
+    }
+    let b = session::place(run.buffer_lent, &*longer);
+    obey(w, c, field, text, &mut memory[..m], &mut longer[..b], out)
+}
+
+// Runs a script from standard input on a board; `text` is the board's. The memory has the 65,536 bytes that spans total at
+// most, and 8 more, so that a length over the exact one can be lent. Of the buffer, 4,096 zero bytes are what is lent; a
+// longer length is lent from `longer`, see lending::lend. Nothing says that a script ends, so the turns are counted down, from
+// a number that no script uses up.
+pub fn run_script(text: &[u8], board: Board) {
+    let mut memory = [0u8; 65544];
+    let mut words: [u8; 4096] = [0; 4096];
+    let mut longer = [0u8; 4104];
+    let mut input = [0u8; INPUT];
+    let mut out = [0u8; ROOM];
+    let mut w = world::start(board);
+    let mut turns = u64::MAX;
+    while 0 < turns {
+        turns -= 1;
+        w.run = session::next_line(&mut input, w.run);
+        w = run_line(
+            w,
+            &input,
+            text,
+            &mut memory,
+            &mut words,
+            &mut longer,
+            &mut out,
+        );
+        if w.run.over {
+            break;
         }
     }
-}
-
-// Every line but lend: `buffer` is the array that the buffer is lent from now.
-fn obey_lent(
-    w: World,
-    line: &[u8],
-    command: Command,
-    text: &[u8],
-    memory: &mut [u8],
-    buffer: &mut [u8],
-    out: &mut [u8; ROOM],
-) -> World {
-    let m = answers::place(w.memory_lent, &*memory);
-    let b = answers::place(w.buffer_lent, &*buffer);
-    obey(
-        w,
-        line,
-        command,
-        text,
-        &mut memory[..m],
-        &mut buffer[..b],
-        out,
-    )
-}
-
-// One line, without its line feed.
-pub fn run_line(
-    w: World,
-    line: &[u8],
-    text: &[u8],
-    memory: &mut [u8],
-    words: &mut [u8; 4096],
-    longer: &mut [u8; 4104],
-    out: &mut [u8; ROOM],
-) -> World {
-    let next = world::counted(w);
-    let command = script::parse(line);
-    if let Command::Lend(store, length) = command {
-        return lending::run_lend(next, words, longer, store, length);
-    }
-    if w.buffer_lent <= 4096 {
-        return obey_lent(next, line, command, text, memory, words, out);
-    }
-    obey_lent(next, line, command, text, memory, longer, out)
+    session::finish(&mut out, w.run);
 }

@@ -1,14 +1,26 @@
 // Reads a description on standard input, and prints its table, or its refusal, on standard output. What the refusal means goes
 // to standard error: standard output is read by other programs.
 use libc::STDERR_FILENO;
+use libc::STDOUT_FILENO;
 
-fn usage() {
-    io::write_all(STDERR_FILENO, b"usage: table < BOARD\n");
+fn usage(fd: i32) {
+    io::write_all(fd, b"usage: table < BOARD\n");
     io::write_all(
-        STDERR_FILENO,
+        fd,
         b"Prints master,slave,wait,serve of every connected pair, or refused, and a number:\n",
     );
-    refusals::list(7);
+    refusals::list(fd, 7);
+}
+
+// How the program is called, on standard output where it was asked for.
+fn help() {
+    let mut word = io::buffer();
+    let length = os::arg(1, &mut word);
+    if text::same_bytes(&word[..length], b"--help") {
+        usage(STDOUT_FILENO);
+        return;
+    }
+    usage(STDERR_FILENO);
 }
 
 // Says at which line a text is refused, and why.
@@ -22,7 +34,7 @@ fn explain(text: &[u8]) {
 
 fn main() {
     if 1 < os::arg_count() {
-        usage();
+        help();
         return;
     }
     // One byte more than a description may have: a longer text is then refused as such.

@@ -1,5 +1,4 @@
 -- `cycles::refuse` meets its contract: the state as it is, no mask and 16 lines of nothing.
-use Rattle.cycles.specs.Cycles.{refusedClock}
 use borrow.Author.Needs.{needs}
 use Rattle.cycles.proofs.refuse.Statement.{statement}
 use Rattle.cycles.proofs.refuse.Tie as tie
@@ -8,7 +7,6 @@ no-line-requires : tie.Need-no-line-requires
 no-line-requires c κs = search needs
 
 returns : tie.Need-returns
-unfolding refusedClock
 returns c = rw (c .no-line .ensures)
 
 pub refuse-spec : {M : Type 1} → statement M

@@ -9,7 +9,7 @@ use Rattle.board.specs.Items.{checkBoard}
 use Rattle.board.specs.Records.{startOf, memoryLength}
 use Rattle.board.proofs.Accepted.{accepted-legal}
 use Rattle.state.specs.Soundness.{sound}
-use Rattle.fabric.proofs.ClockLaws.{answer-refused, store-refused, answer-turned, store-turned}
+use Rattle.fabric.proofs.ClockLaws.{answer-refused, store-refused, answer-taken, store-taken}
 use Rattle.fabric.proofs.ClockLaws.{refused-board, refused-memory, refused-buffer, refused-state, not-refused}
 use Rattle.fabric.proofs.clock.Statement.{statement}
 use Rattle.fabric.proofs.clock.Tie as tie
@@ -88,7 +88,7 @@ returns-4 c = let g = c .before .before .before .before .before .before .before 
     let e = l .before .before .before .before .before in
     let q = not-refused _ _ _ (board-ok e) (memory-ok (l .before)) (l .if3 .left) (sym (state-checked l) ∙ g .if4 .taken) in
     let t = c .before .before .before .before .run .ensures in
-    (answer-turned _ _ _ q t, store-turned _ _ _ q t)
+    (answer-taken _ _ _ q t, store-taken _ _ _ q t)
 
 refuse-requires-4 : tie.Need-refuse-requires-4
 refuse-requires-4 c κs = search needs

@@ -5,10 +5,10 @@ use Rattle.refusals.proofs.list.Statement.{statement}
 use Rattle.refusals.proofs.list.Tie as tie
 
 abbrev Inv-loop : tie.InvT-loop
-Inv-loop last number₀ number = 1 ≤ number
+Inv-loop fd last number₀ number = 1 ≤ number
 
 abbrev μ-loop : tie.MeasureT-loop
-μ-loop last number₀ number = last - number
+μ-loop fd last number₀ number = last - number
 
 loop-holds : tie.Need-loop-holds Inv-loop μ-loop
 loop-holds c = search needs

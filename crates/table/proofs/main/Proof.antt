@@ -10,8 +10,8 @@ use Rattle.table.proofs.main.Tie as tie
 arg-count-requires : tie.Need-arg-count-requires
 arg-count-requires c κs = search needs
 
-usage-requires : tie.Need-usage-requires
-usage-requires c κs = search needs
+help-requires : tie.Need-help-requires
+help-requires c κs = search needs
 
 returns : tie.Need-returns
 returns c = search needs
@@ -62,7 +62,7 @@ main-spec =
     tie.close
     (tie.spec
     arg-count-requires
-    usage-requires
+    help-requires
     returns
     slice-aggregate-read-full
     read-full-requires

@@ -1,8 +1,8 @@
 -- `script::hex::decode` is safe and ends. The loop's invariant: `i` is a place in `out`, which keeps its length. Assumes nothing.
 use mathlib.Core.Path.{_≡_}
 use Prim.Native.Nat.{_≤_, _-_}
+use lib.ListN.{length, length-set}
 use native.Mathlib.Omega.{arith}
-use lib.ListN.{length-set, length}
 use borrow.Author.Needs.{needs}
 use Rattle.script.proofs.hex.decode.Statement.{statement}
 use Rattle.script.proofs.hex.decode.Tie as tie
@@ -22,23 +22,32 @@ same-length c = search needs
 returns : tie.Need-returns Inv-loop μ-loop
 returns c = search needs
 
-mul-pair : tie.Need-mul-pair Inv-loop μ-loop
-mul-pair c = search needs
+mul-digit-value : tie.Need-mul-digit-value Inv-loop μ-loop
+mul-digit-value c = search needs
 
-shared-slice-read-pair : tie.Need-shared-slice-read-pair Inv-loop μ-loop
-shared-slice-read-pair c = search needs
+shared-slice-read-digit-value : tie.Need-shared-slice-read-digit-value Inv-loop μ-loop
+shared-slice-read-digit-value c = search needs
 
-mul-pair-2 : tie.Need-mul-pair-2 Inv-loop μ-loop
-mul-pair-2 c = search needs
+digit-value-requires : tie.Need-digit-value-requires Inv-loop μ-loop
+digit-value-requires c κs = search needs
 
-add-pair : tie.Need-add-pair Inv-loop μ-loop
-add-pair c = search needs
+mul-out : tie.Need-mul-out Inv-loop μ-loop
+mul-out c = search needs
 
-shared-slice-read-pair-2 : tie.Need-shared-slice-read-pair-2 Inv-loop μ-loop
-shared-slice-read-pair-2 c = search needs
+mul-digit-value-2 : tie.Need-mul-digit-value-2 Inv-loop μ-loop
+mul-digit-value-2 c = search needs
 
-pair-requires : tie.Need-pair-requires Inv-loop μ-loop
-pair-requires c κs = search needs
+add-digit-value : tie.Need-add-digit-value Inv-loop μ-loop
+add-digit-value c = search needs
+
+shared-slice-read-digit-value-2 : tie.Need-shared-slice-read-digit-value-2 Inv-loop μ-loop
+shared-slice-read-digit-value-2 c = search needs
+
+digit-value-requires-2 : tie.Need-digit-value-requires-2 Inv-loop μ-loop
+digit-value-requires-2 c κs = search needs
+
+add-out : tie.Need-add-out Inv-loop μ-loop
+add-out c = search needs
 
 slice-write-out : tie.Need-slice-write-out Inv-loop μ-loop
 slice-write-out c = search needs
@@ -67,12 +76,15 @@ decode-spec =
     loop-holds
     same-length
     returns
-    mul-pair
-    shared-slice-read-pair
-    mul-pair-2
-    add-pair
-    shared-slice-read-pair-2
-    pair-requires
+    mul-digit-value
+    shared-slice-read-digit-value
+    digit-value-requires
+    mul-out
+    mul-digit-value-2
+    add-digit-value
+    shared-slice-read-digit-value-2
+    digit-value-requires-2
+    add-out
     slice-write-out
     add-i
     loop-less

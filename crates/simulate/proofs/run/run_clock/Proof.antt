@@ -7,10 +7,10 @@ use Rattle.simulate.proofs.run.run_clock.Statement.{statement}
 use Rattle.simulate.proofs.run.run_clock.Tie as tie
 
 abbrev Inv-loop : tie.InvT-loop
-Inv-loop w memory₀ buffer₀ out₀ count board slave-count state₀ output₀ number₀ left₀ memory buffer out state output number left = (length memory ≡ length memory₀) × (length buffer ≡ length buffer₀)
+Inv-loop count memory₀ buffer₀ out₀ board state₀ run₀ number₀ left₀ memory buffer out state run number left = (length memory ≡ length memory₀) × (length buffer ≡ length buffer₀)
 
 abbrev μ-loop : tie.MeasureT-loop
-μ-loop w memory₀ buffer₀ out₀ count board slave-count state₀ output₀ number₀ left₀ memory buffer out state output number left = left
+μ-loop count memory₀ buffer₀ out₀ board state₀ run₀ number₀ left₀ memory buffer out state run number left = left
 
 loop-holds : tie.Need-loop-holds Inv-loop μ-loop
 loop-holds c = search needs
@@ -32,12 +32,6 @@ loop-again c = search needs
 
 call-requires : tie.Need-call-requires Inv-loop μ-loop
 call-requires c κs = search needs
-
-with-state-requires : tie.Need-with-state-requires Inv-loop μ-loop
-with-state-requires c κs = search needs
-
-printed-requires : tie.Need-printed-requires Inv-loop μ-loop
-printed-requires c κs = search needs
 
 same-length : tie.Need-same-length Inv-loop μ-loop
 same-length c = search needs
@@ -61,8 +55,6 @@ run-clock-spec =
     loop-less
     loop-again
     call-requires
-    with-state-requires
-    printed-requires
     same-length
     same-length-2
     returns)

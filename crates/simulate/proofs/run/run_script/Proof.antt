@@ -1,0 +1,77 @@
+-- `simulate::run::run_script` is safe and ends. The loop's invariant: the arrays that are lent keep their lengths. The measure is the
+-- count of turns that are left. Assumes nothing.
+use mathlib.Core.Path.{_≡_}
+use lib.ListN.{length}
+use borrow.Author.Needs.{needs}
+use Rattle.simulate.proofs.run.run_script.Statement.{statement}
+use Rattle.simulate.proofs.run.run_script.Tie as tie
+
+abbrev Inv-loop : tie.InvT-loop
+Inv-loop text memory₀ words₀ longer₀ input₀ out₀ w₀ turns₀ memory words longer input out w turns =
+    (length memory ≡ 65544) × ((length words ≡ 4096) × ((length longer ≡ 4104) × (length input ≡ 131200)))
+
+abbrev μ-loop : tie.MeasureT-loop
+μ-loop text memory₀ words₀ longer₀ input₀ out₀ w₀ turns₀ memory words longer input out w turns = turns
+
+start-requires : tie.Need-start-requires Inv-loop μ-loop
+start-requires c κs = search needs
+
+loop-holds : tie.Need-loop-holds Inv-loop μ-loop
+loop-holds c = search needs
+
+sub-turns : tie.Need-sub-turns Inv-loop μ-loop
+sub-turns c = search needs
+
+slice-aggregate-next-line : tie.Need-slice-aggregate-next-line Inv-loop μ-loop
+slice-aggregate-next-line c = search needs
+
+next-line-requires : tie.Need-next-line-requires Inv-loop μ-loop
+next-line-requires c κs = search needs
+
+slice-aggregate-run-line : tie.Need-slice-aggregate-run-line Inv-loop μ-loop
+slice-aggregate-run-line c = search needs
+
+slice-aggregate-run-line-2 : tie.Need-slice-aggregate-run-line-2 Inv-loop μ-loop
+slice-aggregate-run-line-2 c = search needs
+
+slice-aggregate-run-line-3 : tie.Need-slice-aggregate-run-line-3 Inv-loop μ-loop
+slice-aggregate-run-line-3 c = search needs
+
+slice-aggregate-run-line-4 : tie.Need-slice-aggregate-run-line-4 Inv-loop μ-loop
+slice-aggregate-run-line-4 c = search needs
+
+run-line-requires : tie.Need-run-line-requires Inv-loop μ-loop
+run-line-requires c κs = search needs
+
+loop-less : tie.Need-loop-less Inv-loop μ-loop
+loop-less c = search needs
+
+loop-again : tie.Need-loop-again Inv-loop μ-loop
+loop-again c = search needs
+
+finish-requires : tie.Need-finish-requires Inv-loop μ-loop
+finish-requires c κs = search needs
+
+returns : tie.Need-returns Inv-loop μ-loop
+returns c = search needs
+
+pub run-script-spec : {M : Type 1} → statement M
+run-script-spec =
+    tie.close
+    (tie.spec
+    Inv-loop
+    μ-loop
+    start-requires
+    loop-holds
+    sub-turns
+    slice-aggregate-next-line
+    next-line-requires
+    slice-aggregate-run-line
+    slice-aggregate-run-line-2
+    slice-aggregate-run-line-3
+    slice-aggregate-run-line-4
+    run-line-requires
+    loop-less
+    loop-again
+    finish-requires
+    returns)
