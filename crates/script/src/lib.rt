@@ -100,6 +100,14 @@ pub fn piece_end(s: &[u8], separator: u8) -> usize
     text::find_byte(s, separator)
 }
 
+// The last field of a line that says a command: the line from `last` on.
+pub fn last_field(line: &[u8], last: usize) -> &[u8] {
+    if last < line.len() {
+        return &line[last..];
+    }
+    line
+}
+
 // Whether a word is that of a kind.
 fn is_word_of(word: &[u8], kind: usize) -> bool
     requires { ⌜ kind < 14 ⌝ }

@@ -45,7 +45,7 @@ fn with_room(out: &[u8], run: Run, n: usize) -> Run
 }
 
 // Prints a word and numbers, parted by commas, and a line feed. A number of 64 bits has at most 20 digits.
-fn put_line(out: &mut [u8; ROOM], run: Run, word: &[u8], numbers: &[u64]) -> Run
+pub fn put_line(out: &mut [u8; ROOM], run: Run, word: &[u8], numbers: &[u64]) -> Run
     requires { ⌜ length (now word) + 21 * length (now numbers) < 1000 ⌝ }
 {
     let most = word.len() + 21 * numbers.len() + 1;
@@ -59,12 +59,6 @@ pub fn answer(out: &mut [u8; ROOM], run: Run, word: &[u8], number: u8) -> Run
     requires { ⌜ length (now word) < 900 ⌝ }
 {
     let printed = put_line(&mut *out, run, word, &[number as u64]);
-    explain::call(&*out, printed, number)
-}
-
-// Prints what a look-up of a wait answered, and explains a refusal.
-pub fn put_wait(out: &mut [u8; ROOM], run: Run, number: u8, wait: u64, serve: u64) -> Run {
-    let printed = put_line(&mut *out, run, b"wait", &[number as u64, wait, serve]);
     explain::call(&*out, printed, number)
 }
 

@@ -86,6 +86,14 @@ fn read_more(input: &mut [u8], run: Run, from: usize, end: usize) -> Run
     next
 }
 
+// The line that was found.
+pub fn line_of(input: &[u8], run: Run) -> &[u8] {
+    let stop = crate::place(run.stop, input);
+    let piece = &input[..stop];
+    let start = crate::place(run.start, piece);
+    &piece[start..]
+}
+
 // Finds the next line in what is read, or reads more. The number of a script's lines is far below 2 ^ 64.
 pub fn next_line(input: &mut [u8], run: Run) -> Run {
     let end = crate::place(run.end, &*input);

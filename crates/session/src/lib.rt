@@ -11,11 +11,12 @@ pub use answers::answer;
 pub use answers::finish;
 pub use answers::put_clock;
 pub use answers::put_hex;
+pub use answers::put_line;
 pub use answers::put_state;
-pub use answers::put_wait;
 pub use explain::call;
 pub use input::Got;
 pub use input::INPUT;
+pub use input::line_of;
 pub use input::next_line;
 pub use input::read_all;
 
@@ -78,4 +79,10 @@ pub fn place(n: usize, s: &[u8]) -> usize
         return n;
     }
     s.len()
+}
+
+// The first n bytes of s, or all of s where that is less.
+pub fn lent(n: usize, s: &mut [u8]) -> &mut [u8] {
+    let m = place(n, &*s);
+    &mut s[..m]
 }

@@ -14,6 +14,14 @@ fn copy(from: &[u8], to: &mut [u8]) {
     }
 }
 
+// One of two stores; of memory and buffer a line names the first by 0.
+pub fn either<'a>(first: bool, one: &'a mut [u8], other: &'a mut [u8]) -> &'a mut [u8] {
+    if first {
+        return one;
+    }
+    other
+}
+
 // The memory (0) or the buffer is lent up to a length, at most 8 bytes over the exact one. The masters' words are lent from an
 // array of 4,096 bytes, and a longer length from one of 4,104. The one that was lent is copied to the other, whichever is lent
 // from now on; the 8 bytes behind the words keep their values in the longer one.

@@ -93,24 +93,14 @@ fn with_share(board: Board, m: usize, s: usize, shares: u8) -> Board {
     b
 }
 
-// The board with an entry of it overwritten, or its counts.
-fn in_board(board: Board, c: Command) -> Board {
-    if c.kind == script::MASTER {
-        return with_master(board, c);
-    }
-    if c.kind == script::SLAVE {
-        return with_slave(board, c);
-    }
-    if c.kind == script::SHARE {
-        return with_share(board, c.first as usize, c.second as usize, byte(c.third));
-    }
+fn with_counts(board: Board, c: Command) -> Board {
     let mut b = board;
     b.master_count = byte(c.first);
     b.slave_count = byte(c.second);
     b
 }
 
-// The world with an entry of the state or of the board overwritten.
+// The world with an entry of the state or of the board overwritten, or the board's counts.
 pub fn overwrite(w: World, c: Command) -> World {
     let mut next = w;
     if c.kind == script::TRANSFER {
@@ -121,6 +111,18 @@ pub fn overwrite(w: World, c: Command) -> World {
         next.state = with_slot(w.state, c);
         return next;
     }
-    next.board = in_board(w.board, c);
+    if c.kind == script::MASTER {
+        next.board = with_master(w.board, c);
+        return next;
+    }
+    if c.kind == script::SLAVE {
+        next.board = with_slave(w.board, c);
+        return next;
+    }
+    if c.kind == script::SHARE {
+        next.board = with_share(w.board, c.first as usize, c.second as usize, byte(c.third));
+        return next;
+    }
+    next.board = with_counts(w.board, c);
     next
 }

@@ -20,9 +20,9 @@ fn run_reset(w: World, out: &mut [u8; ROOM]) -> World {
 }
 
 // A post's bytes are the line's last field.
-fn run_post(w: World, c: Command, field: &[u8], buffer: &mut [u8], out: &mut [u8; ROOM]) -> World {
+fn run_post(w: World, c: Command, line: &[u8], buffer: &mut [u8], out: &mut [u8; ROOM]) -> World {
     let mut bytes = [0u8; 4096];
-    script::decode(field, &mut bytes);
+    script::decode(script::last_field(line, c.last), &mut bytes);
     let end = session::place(c.sixth as usize, &bytes);
     let posted = fabric::post(
         w.board,
@@ -92,11 +92,13 @@ fn run_wait(run: Run, c: Command, text: &[u8], out: &mut [u8; ROOM]) -> Run {
         overwrite::word(c.first),
         overwrite::word(c.second),
     );
-    session::put_wait(out, run, q.number, q.wait, q.serve)
+    let numbers = [q.number as u64, q.wait, q.serve];
+    let printed = session::put_line(&mut *out, run, b"wait", &numbers);
+    session::call(&*out, printed, q.number)
 }
 
 // A fill or a show of lent bytes.
-fn touch(run: Run, c: Command, field: &[u8], lent: &mut [u8], out: &mut [u8; ROOM]) -> Run {
+fn touch(run: Run, c: Command, line: &[u8], lent: &mut [u8], out: &mut [u8; ROOM]) -> Run {
     let start = c.second as usize;
     let n = c.third as usize;
     if lent.len() < start {
@@ -107,39 +109,17 @@ fn touch(run: Run, c: Command, field: &[u8], lent: &mut [u8], out: &mut [u8; ROO
     }
     let end = start + n;
     if c.kind == script::FILL {
-        script::decode(field, &mut lent[start..end]);
+        script::decode(script::last_field(line, c.last), &mut lent[start..end]);
         return run;
     }
     session::put_hex(out, run, &lent[start..end])
 }
 
-// A line that changes neither the board nor the state, or that has a problem.
-fn run_other(
-    run: Run,
-    c: Command,
-    field: &[u8],
-    text: &[u8],
-    memory: &mut [u8],
-    buffer: &mut [u8],
-    out: &mut [u8; ROOM],
-) -> Run {
-    if c.problem != 0 {
-        return session::failed(run, c.problem);
-    }
-    if c.kind == script::WAIT {
-        return run_wait(run, c, text, out);
-    }
-    if c.first == 0 {
-        return touch(run, c, field, memory, out);
-    }
-    touch(run, c, field, buffer, out)
-}
-
-// Every line but lend, on the bytes that are lent; `field` is the line's last one.
+// Every line but lend, on the bytes that are lent.
 fn obey(
     w: World,
     c: Command,
-    field: &[u8],
+    line: &[u8],
     text: &[u8],
     memory: &mut [u8],
     buffer: &mut [u8],
@@ -152,7 +132,7 @@ fn obey(
         return run_reset(w, out);
     }
     if c.kind == script::POST {
-        return run_post(w, c, field, buffer, out);
+        return run_post(w, c, line, buffer, out);
     }
     if c.kind == script::CLOCK {
         return run_clock(w, c.first, memory, buffer, out);
@@ -162,7 +142,12 @@ fn obey(
         next.run = session::put_state(out, w.run, w.state);
         return next;
     }
-    next.run = run_other(w.run, c, field, text, memory, buffer, out);
+    if c.kind == script::WAIT {
+        next.run = run_wait(w.run, c, text, out);
+        return next;
+    }
+    let lent = lending::either(c.first == 0, memory, buffer);
+    next.run = touch(w.run, c, line, lent, out);
     next
 }
 
@@ -176,29 +161,24 @@ fn run_line(
     longer: &mut [u8],
     out: &mut [u8; ROOM],
 ) -> World {
-    let run = w.run;
-    if !run.found {
+    if !w.run.found {
         return w;
     }
-    let stop = session::place(run.stop, input);
-    let piece = &input[..stop];
-    let start = session::place(run.start, piece);
-    let line = &piece[start..];
+    let line = session::line_of(input, w.run);
     let c = script::parse(line);
-    if c.kind == script::LEND {
-        let mut next = w;
-        next.run = lending::lend(run, c, words, longer);
+    let mut next = w;
+    if c.problem != 0 {
+        next.run = session::failed(w.run, c.problem);
         return next;
     }
-    let last = session::place(c.last, line);
-    let field = &line[last..];
-    let m = session::place(run.memory_lent, &*memory);
-    if run.buffer_lent <= 4096 {
-        let b = session::place(run.buffer_lent, &*words);
-        return obey(w, c, field, text, &mut memory[..m], &mut words[..b], out);
+    if c.kind == script::LEND {
+        next.run = lending::lend(w.run, c, words, longer);
+        return next;
     }
-    let b = session::place(run.buffer_lent, &*longer);
-    obey(w, c, field, text, &mut memory[..m], &mut longer[..b], out)
+    let all = lending::either(w.run.buffer_lent <= 4096, words, longer);
+    let buffer = session::lent(w.run.buffer_lent, all);
+    let lent = session::lent(w.run.memory_lent, memory);
+    obey(w, c, line, text, lent, buffer, out)
 }
 
 // Runs a script from standard input on a board; `text` is the board's. The memory has the 65,536 bytes that spans total at
