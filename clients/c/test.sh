@@ -1,5 +1,5 @@
 #!/bin/sh
-# Builds the planning tool against target/staticlib/libquote.a (rt staticlib quote), and tries it.
+# Builds the planning tool against target/staticlib/libquote.a (rt staticlib quote), and tries it, also against the model.
 set -eu
 here=$(cd "$(dirname "$0")" && pwd)
 root=$(cd "$here/../.." && pwd)
@@ -46,6 +46,23 @@ expect 1 "refused,2" "$work/empty" 0 0
 head -c 8193 /dev/zero >"$work/long"
 expect 1 "refused,1" "$work/long" 0 0
 
+# every pair of the larger boards and of generated ones, against the model's table
+model="$root/target/model/release/model"
+cargo build --release --offline --quiet --manifest-path "$root/model/Cargo.toml" --target-dir "$root/target/model"
+mkdir "$work/boards"
+"$model" gen-boards 5 40 "$work/boards"
+cp "$root/boards/crane.txt" "$root/boards/largest.txt" "$work/boards"
+pairs=0
+for described in "$work"/boards/*.txt; do
+    "$model" table <"$described" | grep '^[0-9]' >"$work/lines" || true
+    while IFS=, read -r master slave wait serve; do
+        expect 0 "wait,$wait
+serve,$serve" "$described" "$master" "$slave"
+        pairs=$((pairs + 1))
+    done <"$work/lines"
+done
+[ "$pairs" -gt 500 ] || { echo "only $pairs pairs were tried"; failed=1; }
+
 # wrong arguments: the usage, and nothing else
 expect 2 ""
 expect 2 "" "$board" 0
@@ -63,6 +80,6 @@ if command -v g++ >/dev/null; then
     "$work/slices-c++" || failed=1
 fi
 if [ "$failed" = 0 ]; then
-    echo "plan: ok"
+    echo "plan: ok, $pairs pairs as in the model's table"
 fi
 exit "$failed"

@@ -70,7 +70,7 @@ module _ (b : Board) where
       → step (readTo b m s 0) (slaveItem (b .slaves) s) ≡ readTo b m (suc s) 0
   unfolding readTo slaveItem itemRefusal taken withItem withSlave isShare some
   read-slave m s e =
-      let l : s < 16 = slave-taken _ _ _ _ _ _ _ _ e .room in
+      let l : s < 16 = slave-taken _ _ _ e .room in
       sym (step-taken _ _ refl refl e) ∙ rw (front-next (slaveAt b) noSlave 16 s l, add-one s)
 
   -- one place of the shares more

@@ -12,6 +12,7 @@ use Rattle.laws.specs.Lists.{member}
 use Rattle.laws.proofs.ListLaws.{member-within, drop-take-next, drop-take-end}
 use Rattle.laws.proofs.Tests.{both, neither, passed}
 use Rattle.board.specs.declared.Slave.{Slave}
+use Rattle.board.specs.declared.SlaveNumbers.{SlaveNumbers}
 use Rattle.board.specs.declared.Board.{Board}
 use Rattle.board.specs.Records.{noSlave, sharesAt, totalSpan}
 use Rattle.board.specs.Rules.{widths, bursts, spans, slaveValues, meets, overlaps}
@@ -55,31 +56,30 @@ module _ (slaves : List Slave) (n i : ℕ) where
     total-end = rw (drop-take-end slaves n i h)
 
 -- what the test of a slave line's values says
-pub record Values (base span width burst readWait writeWait : ℕ) : Type 0 where
-  pub base-fits : base ≤ 4294967295
-  pub span-fits : (8 ≤ span) × (span ≤ 65536)
-  pub width-fits : (1 ≤ width) × (width ≤ 8)
-  pub burst-fits : (1 ≤ burst) × (burst ≤ 64)
-  pub read-fits : readWait ≤ 255
-  pub write-fits : writeWait ≤ 255
-  pub span-listed : member span spans ≡ true
-  pub width-listed : member width widths ≡ true
-  pub burst-listed : member burst bursts ≡ true
+pub record Values (n : SlaveNumbers) : Type 0 where
+  pub base-fits : n .base ≤ 4294967295
+  pub span-fits : (8 ≤ n .span) × (n .span ≤ 65536)
+  pub width-fits : (1 ≤ n .width) × (n .width ≤ 8)
+  pub burst-fits : (1 ≤ n .burst) × (n .burst ≤ 64)
+  pub read-fits : n .«read_wait» ≤ 255
+  pub write-fits : n .«write_wait» ≤ 255
+  pub span-listed : member (n .span) spans ≡ true
+  pub width-listed : member (n .width) widths ≡ true
+  pub burst-listed : member (n .burst) bursts ≡ true
 
-pub values-fit : (base span width burst readWait writeWait : ℕ)
-    → slaveValues base span width burst readWait writeWait ≡ true → Values base span width burst readWait writeWait
+pub values-fit : (n : SlaveNumbers) → slaveValues n ≡ true → Values n
 unfolding slaveValues
-values-fit base span width burst readWait writeWait e =
-    let e1 = both (leb base 4294967295) _ e in
-    let e2 = both (member span spans) _ (e1 .1) in
-    let e3 = both (member width widths) _ (e2 .1) in
-    let e4 = both (member burst bursts) _ (e3 .1) in
-    let e5 = both (leb readWait 255) (leb writeWait 255) (e4 .1) in
+values-fit n e =
+    let e1 = both (leb (n .base) 4294967295) _ e in
+    let e2 = both (member (n .span) spans) _ (e1 .1) in
+    let e3 = both (member (n .width) widths) _ (e2 .1) in
+    let e4 = both (member (n .burst) bursts) _ (e3 .1) in
+    let e5 = both (leb (n .«read_wait») 255) (leb (n .«write_wait») 255) (e4 .1) in
     record {
       base-fits = leb-true _ _ (e1 .0);
-      span-fits = span-bound span (e2 .0);
-      width-fits = width-bound width (e3 .0);
-      burst-fits = burst-bound burst (e4 .0);
+      span-fits = span-bound (n .span) (e2 .0);
+      width-fits = width-bound (n .width) (e3 .0);
+      burst-fits = burst-bound (n .burst) (e4 .0);
       read-fits = leb-true _ _ (e5 .0);
       write-fits = leb-true _ _ (e5 .1);
       span-listed = e2 .0;
@@ -111,33 +111,31 @@ master-taken b width burst e =
     }
 
 -- a slave line that is not refused
-pub record SlaveTaken (b : Board) (sharing : Bool) (base span width burst readWait writeWait : ℕ) : Type 0 where
+pub record SlaveTaken (b : Board) (sharing : Bool) (n : SlaveNumbers) : Type 0 where
   pub master-there : b .«master_count» ≡ 0 → ⊥
   pub before-shares : sharing ≡ false
   pub room : b .«slave_count» < 16
-  pub values : Values base span width burst readWait writeWait
-  pub aligned : base % span ≡ 0
-  pub apart : overlaps base span (take (b .«slave_count») (b .slaves)) ≡ false
-  pub total : totalSpan (take (b .«slave_count») (b .slaves)) + span ≤ 65536
+  pub values : slaveValues n ≡ true
+  pub aligned : n .base % n .span ≡ 0
+  pub apart : overlaps (n .base) (n .span) (take (b .«slave_count») (b .slaves)) ≡ false
+  pub total : totalSpan (take (b .«slave_count») (b .slaves)) + n .span ≤ 65536
 
-pub slave-taken : (b : Board) (sharing : Bool) (base span width burst readWait writeWait : ℕ)
-    → slaveRefusal b sharing base span width burst readWait writeWait ≡ 0
-    → SlaveTaken b sharing base span width burst readWait writeWait
+pub slave-taken : (b : Board) (sharing : Bool) (n : SlaveNumbers) → slaveRefusal b sharing n ≡ 0 → SlaveTaken b sharing n
 unfolding slaveRefusal
-slave-taken b sharing base span width burst readWait writeWait e =
+slave-taken b sharing n e =
     let earlier = take (b .«slave_count») (b .slaves) in
     let order = passed (eqb (b .«master_count») 0 || (sharing || leb 16 (b .«slave_count»))) 1 _ e in
     let first = neither (eqb (b .«master_count») 0) _ (order .0) in
     let second = neither sharing _ (first .1) in
-    let legal = passed (not (slaveValues base span width burst readWait writeWait)) 2 _ (order .1) in
-    let multiple = passed (not (eqb (base % span) 0)) 3 _ (legal .1) in
-    let alone = passed (overlaps base span earlier) 4 _ (multiple .1) in
-    let small = passed (ltb 65536 (totalSpan earlier + span)) 5 0 (alone .1) in
+    let legal = passed (not (slaveValues n)) 2 _ (order .1) in
+    let multiple = passed (not (eqb (n .base % n .span) 0)) 3 _ (legal .1) in
+    let alone = passed (overlaps (n .base) (n .span) earlier) 4 _ (multiple .1) in
+    let small = passed (ltb 65536 (totalSpan earlier + n .span)) 5 0 (alone .1) in
     record {
       master-there = eqb-false _ _ (first .0);
       before-shares = second .0;
       room = leb-false _ _ (second .1);
-      values = values-fit base span width burst readWait writeWait (not-false _ (legal .0));
+      values = not-false _ (legal .0);
       aligned = eqb-true _ _ (not-false _ (multiple .0));
       apart = alone .0;
       total = ltb-false _ _ (small .0);

@@ -14,38 +14,32 @@ use borrow.Author.Tests.{eqb-true, eqb-false}
 use Rattle.laws.proofs.FrontLaws.{set-each}
 use Rattle.laws.proofs.TableLaws.{getD-replicate-all}
 use Rattle.laws.proofs.Tests.{neither}
-use Rattle.board.specs.declared.Slave.{Slave}
+use Rattle.board.specs.declared.SlaveNumbers.{SlaveNumbers}
 use Rattle.board.specs.declared.Board.{Board}
 use Rattle.board.specs.declared.Item.{Item}
 use Rattle.board.specs.declared.Item.the-variants.{Malformed, MasterLine, SlaveLine, ShareLine}
 use Rattle.board.specs.declared.Reading.{Reading}
 use Rattle.board.specs.Records.{noMaster, noSlave, noBoard, masterAt, slaveAt, totalSpan, startOf, memoryLength}
-use Rattle.board.specs.Rules.{slaveValues, meets}
+use Rattle.board.specs.Rules.{slaveValues, slaveOf, meets}
 use Rattle.board.specs.Rules.{masterRefusal, slaveRefusal, shareRefusal, itemRefusal, withMaster, withSlave, withShare}
 use Rattle.board.specs.Rules.{withItem, refused, start, taken, step, run, finish, described}
 use Rattle.board.specs.Legal.{LegalMaster, LegalSlave, Legal}
-use Rattle.board.proofs.RuleLaws.{Values, values-fit, master-taken, slave-taken, share-taken}
+use Rattle.board.proofs.RuleLaws.{values-fit, master-taken, slave-taken, share-taken}
 use Rattle.board.proofs.SpanLaws.{apart-at, total-suc}
 
--- the slave of a line
-abbrev pub slaveOf : ℕ → ℕ → ℕ → ℕ → ℕ → ℕ → Slave
-slaveOf a n w u rw′ ww = record { base = a; span = n; width = w; burst = u; «read_wait» = rw′; «write_wait» = ww }
-
--- its values are legal where the test passes and the base is a multiple of the span
-legal-values : (a n w u rw′ ww : ℕ) → Values a n w u rw′ ww → a % n ≡ 0 → LegalSlave (slaveOf a n w u rw′ ww)
-legal-values a n w u rw′ ww v e = record {
-  base = v .base-fits;
-  span = v .span-listed;
-  width = v .width-listed;
-  burst = v .burst-listed;
-  readWait = v .read-fits;
-  writeWait = v .write-fits;
-  aligned = e;
-}
-
-pub values-legal : (a n w u rw′ ww : ℕ) → slaveValues a n w u rw′ ww ≡ true → a % n ≡ 0
-    → LegalSlave (slaveOf a n w u rw′ ww)
-values-legal a n w u rw′ ww e f = legal-values a n w u rw′ ww (values-fit a n w u rw′ ww e) f
+-- the slave of a line is legal where the test of its values passes and its base is a multiple of its span
+pub values-legal : (n : SlaveNumbers) → slaveValues n ≡ true → n .base % n .span ≡ 0 → LegalSlave (slaveOf n)
+values-legal n e f =
+    let v = values-fit n e in
+    record {
+      base = v .base-fits;
+      span = v .span-listed;
+      width = v .width-listed;
+      burst = v .burst-listed;
+      readWait = v .read-fits;
+      writeWait = v .write-fits;
+      aligned = f;
+    }
 
 -- the board so far
 pub record Sound (b : Board) : Type 0 where
@@ -101,13 +95,13 @@ sound-master b w u e k =
       slaveEnd = k .slaveEnd;
     }
 
-sound-slave : (b : Board) (sharing : Bool) (a n w u rw′ ww : ℕ) → slaveRefusal b sharing a n w u rw′ ww ≡ 0
-    → Sound b → Sound (withSlave b (slaveOf a n w u rw′ ww))
+sound-slave : (b : Board) (sharing : Bool) (n : SlaveNumbers) → slaveRefusal b sharing n ≡ 0
+    → Sound b → Sound (withSlave b (slaveOf n))
 unfolding withSlave memoryLength startOf
-sound-slave b sharing a n w u rw′ ww e k =
-    let t = slave-taken b sharing a n w u rw′ ww e in
+sound-slave b sharing n e k =
+    let t = slave-taken b sharing n e in
     let c = b .«slave_count» in
-    let x = slaveOf a n w u rw′ ww in
+    let x = slaveOf n in
     let h : b .«slave_count» < length (b .slaves) = omega arith in
     record {
       masterPlaces = k .masterPlaces;
@@ -117,11 +111,11 @@ sound-slave b sharing a n w u rw′ ww e k =
       fewSlaves = omega arith;
       master = k .master;
       slave = λ s l. set-each (λ i y. i < b .«slave_count» + 1 → LegalSlave y) (b .slaves) c x noSlave h
-          (λ _. legal-values a n w u rw′ ww (t .values) (t .aligned)) s (λ d _. k .slave s (omega arith)) l;
+          (λ _. values-legal n (t .values) (t .aligned)) s (λ d _. k .slave s (omega arith)) l;
       apart = λ s j l m.
           rw (getD-set-other (b .slaves) c s x noSlave (omega arith))
           (set-each (λ i y. s < i → i < b .«slave_count» + 1 → meets (y .base) (y .span) (slaveAt b s) ≡ false)
-          (b .slaves) c x noSlave h (λ p _. apart-at a n c (b .slaves) (t .apart) s p)
+          (b .slaves) c x noSlave h (λ p _. apart-at (n .base) (n .span) c (b .slaves) (t .apart) s p)
           j (λ d p q. k .apart s j p (omega arith)) l m);
       total = rw (add-one, total-suc, take-set-le c (b .slaves) c x (omega arith), getD-set-same) (t .total);
       shares = λ i l z. let p = k .shares i l z in (p .0, p .1, omega arith);
@@ -154,7 +148,7 @@ sound-item : (r : Reading) (x : Item) → itemRefusal r x ≡ 0 → Sound (r .bo
 unfolding itemRefusal withItem
 sound-item r Malformed e k = absurd (omega arith)
 sound-item r (MasterLine w u) e k = sound-master (r .board) w u e k
-sound-item r (SlaveLine a n w u rw′ ww) e k = sound-slave (r .board) (r .sharing) a n w u rw′ ww e k
+sound-item r (SlaveLine n) e k = sound-slave (r .board) (r .sharing) n e k
 sound-item r (ShareLine m s n) e k = sound-share (r .board) m s n e k
 
 -- a line, lines or an end that is not refused

@@ -8,6 +8,7 @@ use lib.ListN.{getD}
 use Rattle.laws.specs.Lists.{gather, table}
 use Rattle.board.specs.declared.Master.{Master}
 use Rattle.board.specs.declared.Slave.{Slave}
+use Rattle.board.specs.declared.SlaveNumbers.{SlaveNumbers}
 use Rattle.board.specs.declared.Board.{Board}
 use Rattle.board.specs.declared.Item.{Item}
 use Rattle.board.specs.declared.Item.the-variants.{MasterLine, SlaveLine, ShareLine}
@@ -18,11 +19,20 @@ use Rattle.board.specs.Rules.{described}
 unfoldable pub masterItem : List Master → ℕ → Item
 masterItem ms i = let m = getD ms i noMaster in MasterLine (m .width) (m .burst)
 
--- "slave,base,span,width,burst,readwait,writewait"
+-- "slave,base,span,width,burst,readwait,writewait": the numbers of a slave's line
+abbrev pub slaveNumbers : Slave → SlaveNumbers
+slaveNumbers s = record {
+  base = s .base;
+  span = s .span;
+  width = s .width;
+  burst = s .burst;
+  «read_wait» = s .«read_wait»;
+  «write_wait» = s .«write_wait»;
+}
+
+-- the line of slave i
 unfoldable pub slaveItem : List Slave → ℕ → Item
-slaveItem ss i =
-    let s = getD ss i noSlave in
-    SlaveLine (s .base) (s .span) (s .width) (s .burst) (s .«read_wait») (s .«write_wait»)
+slaveItem ss i = SlaveLine (slaveNumbers (getD ss i noSlave))
 
 -- "share,master,slave,shares": the line at place i of the shares, where the pair is connected
 unfoldable pub shareItem : List ℕ → ℕ → List Item

@@ -7,6 +7,7 @@ use lib.Dec.{leb, ltb, eqb}
 use lib.ListN.{take, set}
 use Rattle.laws.specs.Lists.{member}
 use Rattle.board.specs.declared.Slave.{Slave}
+use Rattle.board.specs.declared.SlaveNumbers.{SlaveNumbers}
 use Rattle.board.specs.declared.Board.{Board}
 use Rattle.board.specs.declared.Item.{Item}
 use Rattle.board.specs.declared.Item.the-variants.{Malformed, MasterLine, SlaveLine, ShareLine}
@@ -26,11 +27,12 @@ abbrev pub spans : List ℕ
 spans = 8 ∷ 16 ∷ 32 ∷ 64 ∷ 128 ∷ 256 ∷ 512 ∷ 1024 ∷ 2048 ∷ 4096 ∷ 8192 ∷ 16384 ∷ 32768 ∷ 65536 ∷ []
 
 -- "Base: 0 to 4,294,967,295. Waits: 0 to 255.": every value of a slave line is in its list or range
-unfoldable pub slaveValues : ℕ → ℕ → ℕ → ℕ → ℕ → ℕ → Bool
-slaveValues base span width burst readWait writeWait =
-    leb base 4294967295
-    && (member span spans
-    && (member width widths && (member burst bursts && (leb readWait 255 && leb writeWait 255))))
+unfoldable pub slaveValues : SlaveNumbers → Bool
+slaveValues n =
+    leb (n .base) 4294967295
+    && (member (n .span) spans
+    && (member (n .width) widths
+    && (member (n .burst) bursts && (leb (n .«read_wait») 255 && leb (n .«write_wait») 255))))
 
 -- the span at base and the span of slave s share an address
 unfoldable pub meets : ℕ → ℕ → Slave → Bool
@@ -51,13 +53,13 @@ masterRefusal b width burst =
 -- A slave line. 2: before any master, behind a share line, or over the count of 16. 3: value outside its list or range.
 -- 4: base no multiple of span; a remainder by 0 is the number itself, but 3 comes first for a span of 0. 5: overlaps an earlier
 -- slave. 6: spans total over 65,536.
-unfoldable pub slaveRefusal : Board → Bool → ℕ → ℕ → ℕ → ℕ → ℕ → ℕ → ℕ
-slaveRefusal b sharing base span width burst readWait writeWait =
+unfoldable pub slaveRefusal : Board → Bool → SlaveNumbers → ℕ
+slaveRefusal b sharing n =
     cond (eqb (b .«master_count») 0 || (sharing || leb 16 (b .«slave_count»))) 2
-    (cond (not (slaveValues base span width burst readWait writeWait)) 3
-    (cond (not (eqb (base % span) 0)) 4
-    (cond (overlaps base span (take (b .«slave_count») (b .slaves))) 5
-    (cond (ltb 65536 (totalSpan (take (b .«slave_count») (b .slaves)) + span)) 6
+    (cond (not (slaveValues n)) 3
+    (cond (not (eqb (n .base % n .span) 0)) 4
+    (cond (overlaps (n .base) (n .span) (take (b .«slave_count») (b .slaves))) 5
+    (cond (ltb 65536 (totalSpan (take (b .«slave_count») (b .slaves)) + n .span)) 6
     0))))
 
 -- A share line. 2: before any slave. 3: "Shares: 1 to 100." 7: no such master or slave, or a pair twice.
@@ -72,8 +74,7 @@ shareRefusal b m s shares =
 unfoldable pub itemRefusal : Reading → Item → ℕ
 itemRefusal r Malformed = 1
 itemRefusal r (MasterLine width burst) = masterRefusal (r .board) width burst
-itemRefusal r (SlaveLine base span width burst readWait writeWait) =
-    slaveRefusal (r .board) (r .sharing) base span width burst readWait writeWait
+itemRefusal r (SlaveLine n) = slaveRefusal (r .board) (r .sharing) n
 itemRefusal r (ShareLine m s shares) = shareRefusal (r .board) m s shares
 
 -- the board with one master more. `set` changes no list past its end; 2 comes first for a line over the count.
@@ -84,6 +85,17 @@ withMaster b w u = record {
   masters = set (b .masters) (b .«master_count») (record { width = w; burst = u });
   slaves = b .slaves;
   shares = b .shares;
+}
+
+-- "slave,base,span,width,burst,readwait,writewait": the slave of a line
+abbrev pub slaveOf : SlaveNumbers → Slave
+slaveOf n = record {
+  base = n .base;
+  span = n .span;
+  width = n .width;
+  burst = n .burst;
+  «read_wait» = n .«read_wait»;
+  «write_wait» = n .«write_wait»;
 }
 
 -- the board with one slave more
@@ -110,15 +122,14 @@ withShare b m s n = record {
 unfoldable pub withItem : Board → Item → Board
 withItem b Malformed = b
 withItem b (MasterLine w u) = withMaster b w u
-withItem b (SlaveLine a n w u rw′ ww) =
-    withSlave b (record { base = a; span = n; width = w; burst = u; «read_wait» = rw′; «write_wait» = ww })
+withItem b (SlaveLine n) = withSlave b (slaveOf n)
 withItem b (ShareLine m s n) = withShare b m s n
 
 -- the line is a share line
 unfoldable pub isShare : Item → Bool
 isShare Malformed = false
 isShare (MasterLine w u) = false
-isShare (SlaveLine a n w u rw′ ww) = false
+isShare (SlaveLine n) = false
 isShare (ShareLine m s n) = true
 
 -- a refusal: its number, and "all other values handed back are 0"

@@ -1,12 +1,13 @@
 // A board, and the rules of its description: refusals 2 to 7.
 // Tests are joined by & and |, not by && and ||: each part is safe by itself, and a proof meets the whole as one test.
 ghost use mathlib.Core.Path.{_≡_};
+ghost use mathlib.Core.Bool.{true};
 ghost use Prim.Native.Nat.{_≤_, _+_};
 ghost use lib.ListN.{take, getD};
 ghost use Rattle.laws.specs.Lists.{member};
 ghost use Rattle.board.specs.declared.Item.the-variants.{MasterLine, SlaveLine, ShareLine};
 ghost use Rattle.board.specs.Records.{totalSpan};
-ghost use Rattle.board.specs.Rules.{slaveValues, meets, overlaps, masterRefusal, slaveRefusal, shareRefusal};
+ghost use Rattle.board.specs.Rules.{slaveValues, slaveOf, meets, overlaps, masterRefusal, slaveRefusal, shareRefusal};
 ghost use Rattle.board.specs.Rules.{refused, start, step, finish};
 
 pub struct Master {
@@ -32,11 +33,21 @@ pub struct Board {
     pub shares: [u8; 128],
 }
 
+// The numbers of a slave line, not yet checked.
+pub struct SlaveNumbers {
+    pub base: u64,
+    pub span: u64,
+    pub width: u64,
+    pub burst: u64,
+    pub read_wait: u64,
+    pub write_wait: u64,
+}
+
 // One line of a description: the numbers of its fields, or a line that is none of the three kinds.
 pub enum Item {
     Malformed,
     MasterLine(u64, u64),
-    SlaveLine(u64, u64, u64, u64, u64, u64),
+    SlaveLine(SlaveNumbers),
     ShareLine(u64, u64, u64),
 }
 
@@ -86,19 +97,27 @@ fn listed(x: u64, list: &[u64]) -> bool
 }
 
 // Whether every value of a slave line is in its list or range.
-fn slave_values(
-    base: u64,
-    span: u64,
-    width: u64,
-    burst: u64,
-    read_wait: u64,
-    write_wait: u64,
-) -> bool
-    ensures { λ r. ⌜ r ≡ slaveValues base span width burst «read_wait» «write_wait» ⌝ }
+fn slave_values(n: SlaveNumbers) -> bool
+    ensures { λ r. ⌜ r ≡ slaveValues n ⌝ }
 {
-    let lists = listed(width, &WIDTHS)
-        & (listed(burst, &BURSTS) & ((read_wait <= 255) & (write_wait <= 255)));
-    (base <= 4294967295) & (listed(span, &SPANS) & lists)
+    let lists = listed(n.width, &WIDTHS)
+        & (listed(n.burst, &BURSTS) & ((n.read_wait <= 255) & (n.write_wait <= 255)));
+    (n.base <= 4294967295) & (listed(n.span, &SPANS) & lists)
+}
+
+// The slave of a line whose values are in their lists and ranges.
+fn slave_of(n: SlaveNumbers) -> Slave
+    requires { ⌜ slaveValues n ≡ true ⌝ }
+    ensures { λ s. ⌜ s ≡ slaveOf n ⌝ }
+{
+    Slave {
+        base: n.base as u32,
+        span: n.span as u32,
+        width: n.width as u8,
+        burst: n.burst as u8,
+        read_wait: n.read_wait as u8,
+        write_wait: n.write_wait as u8,
+    }
 }
 
 // Whether the span at base and that of slave s share an address. An end can pass the last address, so it is a u64.
@@ -155,33 +174,25 @@ fn master_refusal(b: Board, width: u64, burst: u64) -> u8
 }
 
 // What a slave line is refused for, or 0.
-fn slave_refusal(
-    r: Reading,
-    base: u64,
-    span: u64,
-    width: u64,
-    burst: u64,
-    read_wait: u64,
-    write_wait: u64,
-) -> u8
-    ensures { λ n. ⌜ n ≡ slaveRefusal (r .board) (r .sharing) base span width burst «read_wait» «write_wait» ⌝ }
+fn slave_refusal(r: Reading, n: SlaveNumbers) -> u8
+    ensures { λ q. ⌜ q ≡ slaveRefusal (r .board) (r .sharing) n ⌝ }
 {
     let b = r.board;
     if (b.master_count == 0) | (r.sharing | (16 <= b.slave_count)) {
         return 2;
     }
-    if !slave_values(base, span, width, burst, read_wait, write_wait) {
+    if !slave_values(n) {
         return 3;
     }
-    if base % span != 0 {
+    if n.base % n.span != 0 {
         return 4;
     }
     let slaves = b.slaves;
-    let n = b.slave_count as usize;
-    if meets_any(base as u32, span as u32, slaves, n) {
+    let count = b.slave_count as usize;
+    if meets_any(n.base as u32, n.span as u32, slaves, count) {
         return 5;
     }
-    if 65536 < span_total(slaves, n, span as u32) {
+    if 65536 < span_total(slaves, count, n.span as u32) {
         return 6;
     }
     0
@@ -278,32 +289,17 @@ fn add_master(r: Reading, width: u64, burst: u64) -> Reading
 }
 
 // A slave line after lines of which none was refused.
-fn add_slave(
-    r: Reading,
-    base: u64,
-    span: u64,
-    width: u64,
-    burst: u64,
-    read_wait: u64,
-    write_wait: u64,
-) -> Reading
+fn add_slave(r: Reading, n: SlaveNumbers) -> Reading
     requires { ⌜ r .number ≡ 0 ⌝ }
-    ensures { λ q. ⌜ q ≡ step r (SlaveLine base span width burst «read_wait» «write_wait») ⌝ }
+    ensures { λ q. ⌜ q ≡ step r (SlaveLine n) ⌝ }
 {
     let mut b = r.board;
-    let number = slave_refusal(r, base, span, width, burst, read_wait, write_wait);
+    let number = slave_refusal(r, n);
     if number != 0 {
         return refuse(number);
     }
     let at = b.slave_count as usize;
-    b.slaves[at] = Slave {
-        base: base as u32,
-        span: span as u32,
-        width: width as u8,
-        burst: burst as u8,
-        read_wait: read_wait as u8,
-        write_wait: write_wait as u8,
-    };
+    b.slaves[at] = slave_of(n);
     b.slave_count += 1;
     Reading {
         number: 0,
@@ -343,9 +339,7 @@ pub fn add_item(r: Reading, x: Item) -> Reading
     match x {
         Item::Malformed => refuse(1),
         Item::MasterLine(width, burst) => add_master(r, width, burst),
-        Item::SlaveLine(base, span, width, burst, read_wait, write_wait) => {
-            add_slave(r, base, span, width, burst, read_wait, write_wait)
-        }
+        Item::SlaveLine(n) => add_slave(r, n),
         Item::ShareLine(m, s, shares) => add_share(r, m, s, shares),
     }
 }

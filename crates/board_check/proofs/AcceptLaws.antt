@@ -162,7 +162,7 @@ parts-accepted b m s masters slaves shares = legal-accepted b (record {
   someSlave = s .0;
   fewSlaves = s .1;
   master = λ k h. let p = masters .each k h in record { width = p .0; burst = p .1 };
-  slave = λ k h. let f = slaves .each k h in values-legal _ _ _ _ _ _ (f .values) (f .aligned);
+  slave = λ k h. let f = slaves .each k h in values-legal _ (f .values) (f .aligned);
   apart = slaves .apart;
   total = slaves .total;
   shares = shares .each;

@@ -12,6 +12,7 @@ use Rattle.board.specs.declared.Master.{Master}
 use Rattle.board.specs.declared.Slave.{Slave}
 use Rattle.board.specs.Records.{noMaster, noSlave, totalSpan}
 use Rattle.board.specs.Rules.{widths, bursts, slaveValues, meets}
+use Rattle.board.specs.Items.{slaveNumbers}
 
 -- the first n masters
 pub record MastersFit (masters : List Master) (n : ℕ) : Type 0 where
@@ -20,7 +21,7 @@ pub record MastersFit (masters : List Master) (n : ℕ) : Type 0 where
 
 -- one slave by itself
 pub record SlaveFits (s : Slave) : Type 0 where
-  pub values : slaveValues (s .base) (s .span) (s .width) (s .burst) (s .«read_wait») (s .«write_wait») ≡ true
+  pub values : slaveValues (slaveNumbers s) ≡ true
   pub aligned : s .base % s .span ≡ 0
 
 -- base to end meets none of the first n spans, whose bases and ends stand in two lists

@@ -30,7 +30,7 @@ lineAt b k =
 unfoldable pub present : Item → List Item
 present Malformed = []
 present (MasterLine w u) = MasterLine w u ∷ []
-present (SlaveLine a n w u rw′ ww) = SlaveLine a n w u rw′ ww ∷ []
+present (SlaveLine n) = SlaveLine n ∷ []
 present (ShareLine m s n) = ShareLine m s n ∷ []
 
 -- the lines of the first n places

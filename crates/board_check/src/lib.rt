@@ -6,7 +6,7 @@ ghost use Prim.Native.Nat.{ℕ, _≤_, _<_, _%_};
 ghost use lib.ListN.{getD};
 ghost use Rattle.laws.specs.Lists.{member};
 ghost use Rattle.board.specs.Rules.{widths, bursts, spans};
-ghost use Rattle.board.specs.Items.{masterItem, slaveItem, checkBoard};
+ghost use Rattle.board.specs.Items.{masterItem, slaveNumbers, slaveItem, checkBoard};
 ghost use Rattle.board_check.specs.Lines.{pairItem, placeCount, lineAt};
 ghost use Rattle.board_check.specs.Accept.{MastersFit, SlaveFits, Clear, SlavesFit, SharesFit};
 use board::Board;
@@ -14,6 +14,7 @@ use board::Item;
 use board::Master;
 use board::Reading;
 use board::Slave;
+use board::SlaveNumbers;
 
 // The line of master i; past the array, where the counts of a board that no reader made can lead, a line of zeros.
 fn master_item(masters: [Master; 8], i: usize) -> Item
@@ -26,22 +27,38 @@ fn master_item(masters: [Master; 8], i: usize) -> Item
     Item::MasterLine(0, 0)
 }
 
+// The numbers of a slave's line.
+fn slave_numbers(s: Slave) -> SlaveNumbers
+    ensures { λ n. ⌜ n ≡ slaveNumbers s ⌝ }
+{
+    SlaveNumbers {
+        base: s.base as u64,
+        span: s.span as u64,
+        width: s.width as u64,
+        burst: s.burst as u64,
+        read_wait: s.read_wait as u64,
+        write_wait: s.write_wait as u64,
+    }
+}
+
 // The line of slave i; past the array a line of zeros.
 fn slave_item(slaves: [Slave; 16], i: usize) -> Item
     ensures { λ x. ⌜ x ≡ slaveItem slaves i ⌝ }
 {
     if i < 16 {
         let s = slaves[i];
-        return Item::SlaveLine(
-            s.base as u64,
-            s.span as u64,
-            s.width as u64,
-            s.burst as u64,
-            s.read_wait as u64,
-            s.write_wait as u64,
-        );
+        let n = slave_numbers(s);
+        return Item::SlaveLine(n);
     }
-    Item::SlaveLine(0, 0, 0, 0, 0, 0)
+    let zeros = SlaveNumbers {
+        base: 0,
+        span: 0,
+        width: 0,
+        burst: 0,
+        read_wait: 0,
+        write_wait: 0,
+    };
+    Item::SlaveLine(zeros)
 }
 
 // The line at place i of the shares; Malformed where the pair is not connected.

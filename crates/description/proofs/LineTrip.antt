@@ -19,12 +19,12 @@ use Rattle.board.specs.declared.Board.{Board}
 use Rattle.board.specs.declared.Item.{Item}
 use Rattle.board.specs.declared.Item.the-variants.{Malformed, MasterLine, SlaveLine, ShareLine}
 use Rattle.board.specs.Records.{masterAt, slaveAt}
-use Rattle.board.specs.Items.{masterItem, slaveItem, shareItem, items}
+use Rattle.board.specs.Items.{masterItem, slaveNumbers, slaveItem, shareItem, items}
 use Rattle.board.specs.Legal.{Legal}
 use Rattle.board.proofs.RuleLaws.{width-bound, burst-bound, span-bound}
 use Rattle.lines.specs.Reader.{masterWord, slaveWord, shareWord, masterLine, slaveLine, shareLine}
 use Rattle.lines.specs.Reader.{itemOf, itemOfFields, itemsOf, itemsOfPieces, unended}
-use Rattle.lines.specs.Writer.{itemText, itemsText}
+use Rattle.lines.specs.Writer.{slaveFields, itemText, itemsText}
 use Rattle.lines.proofs.ReadLaws.{items-more}
 use Rattle.description.specs.Writer.{writeText}
 use Rattle.description.specs.Longest.{longest}
@@ -34,7 +34,7 @@ use Rattle.description.proofs.WriteLaws.{gather-most, lines-most, lengt
 abbrev pub Writable : Item → Type 0
 Writable Malformed = ⊥
 Writable (MasterLine w u) = Short (w ∷ u ∷ [])
-Writable (SlaveLine a n w u rw′ ww) = Short (a ∷ n ∷ w ∷ u ∷ rw′ ∷ ww ∷ [])
+Writable (SlaveLine n) = Short (slaveFields n)
 Writable (ShareLine m s n) = Short (m ∷ s ∷ n ∷ [])
 
 abbrev pub AllWritable : List Item → Type 0
@@ -54,9 +54,8 @@ unfolding itemText itemOfFields masterLine slaveLine shareLine bytesOf member sa
 item-read Malformed rest h = absurd h
 item-read (MasterLine w u) rest h =
     line-read masterWord (w ∷ u ∷ []) rest refl refl ∙ rw (numbers-digits (w ∷ u ∷ []) (omega arith) h)
-item-read (SlaveLine a n w u rw′ ww) rest h =
-    line-read slaveWord (a ∷ n ∷ w ∷ u ∷ rw′ ∷ ww ∷ []) rest refl refl
-    ∙ rw (numbers-digits (a ∷ n ∷ w ∷ u ∷ rw′ ∷ ww ∷ []) (omega arith) h)
+item-read (SlaveLine n) rest h =
+    line-read slaveWord (slaveFields n) rest refl refl ∙ rw (numbers-digits (slaveFields n) (omega arith) h)
 item-read (ShareLine m s n) rest h =
     line-read shareWord (m ∷ s ∷ n ∷ []) rest refl refl ∙ rw (numbers-digits (m ∷ s ∷ n ∷ []) (omega arith) h)
 
@@ -124,7 +123,7 @@ module _ (b : Board) (k : Legal b) where
         short =
             omega (
               arith,
-              line-length slaveWord (y .base ∷ y .span ∷ y .width ∷ y .burst ∷ waits),
+              line-length slaveWord (slaveFields (slaveNumbers y)),
               length-field (y .base) (y .span ∷ y .width ∷ y .burst ∷ waits),
               length-field (y .span) (y .width ∷ y .burst ∷ waits),
               length-field (y .width) (y .burst ∷ waits),

@@ -66,7 +66,7 @@ text-present : (x : Item) → itemsText (present x) ≡ itemText x
 unfolding present itemsText itemText
 text-present Malformed = refl
 text-present (MasterLine w u) = text-one (MasterLine w u)
-text-present (SlaveLine a n w u rw′ ww) = text-one (SlaveLine a n w u rw′ ww)
+text-present (SlaveLine n) = text-one (SlaveLine n)
 text-present (ShareLine m s n) = text-one (ShareLine m s n)
 
 -- The text of a board place by place.

@@ -71,11 +71,6 @@ module _ {X : Type 0} (f g : ℕ → X) (n : ℕ) where
   unfolding filled
   filled-all i h e = e ∙ table-same _ _ n (λ k j. rw (lt-ltb k i (omega arith)))
 
-  -- what stands at a place that is still to be filled
-  pub filled-later : (i k : ℕ) (d : X) → k < n → i ≤ k → getD (filled f g n i) k d ≡ g k
-  unfolding filled
-  filled-later i k d h l = getD-table _ n d k h ∙ rw (le-ltb k i l)
-
 last : (a b : Bool) → (a || b) ≡ (a || (b && true))
 last a true = refl
 last a false = refl

@@ -10,7 +10,7 @@ use borrow.Author.Tests.{eq-eqb, ne-eqb}
 use lib.Dec.{T, leb, leb→le}
 use lib.ListN.{length, getD, take, drop, length-take, drop-of-length-le}
 use lib.Seq.{drop-cons, getD-take}
-use Rattle.laws.specs.Lists.{member, gather, table}
+use Rattle.laws.specs.Lists.{member, gather}
 use Rattle.laws.proofs.Members.{all, of-member}
 use Rattle.laws.proofs.Tests.{both-hold}
 
@@ -52,8 +52,3 @@ module _ {X : Type 0} (l : List X) (n i : ℕ) where
 pub gather-suc : {X : Type 0} (f : ℕ → List X) (n : ℕ) → gather f (n + 1) ≡ gather f n ++ f n
 unfolding gather
 gather-suc f n = rw (add-one n)
-
--- one element more
-pub table-suc : {X : Type 0} (f : ℕ → X) (n : ℕ) → table f (n + 1) ≡ table f n ++ (f n ∷ [])
-unfolding table
-table-suc f n = gather-suc (λ i. f i ∷ []) n

@@ -11,7 +11,7 @@ use Rattle.text.proofs.Decimal.{fields-long, line-length}
 use Rattle.board.specs.declared.Item.{Item}
 use Rattle.board.specs.declared.Item.the-variants.{Malformed, MasterLine, SlaveLine, ShareLine}
 use Rattle.lines.specs.Reader.{masterWord, slaveWord, shareWord}
-use Rattle.lines.specs.Writer.{itemText, itemsText}
+use Rattle.lines.specs.Writer.{slaveFields, itemText, itemsText}
 
 -- a line's length from that of its fields
 pub line-counted : (word ns : List ℕ) (k : ℕ) → k ≡ length (fieldsText ns) → length word + 1 + k ≡ length (lineText word ns)
@@ -33,7 +33,7 @@ pub item-fits : (x : Item) → length (itemText x) ≤ 133
 unfolding itemText bytesOf
 item-fits Malformed = omega arith
 item-fits (MasterLine w u) = line-fits masterWord (w ∷ u ∷ []) (omega arith) (omega arith)
-item-fits (SlaveLine a n w u rw′ ww) = line-fits slaveWord (a ∷ n ∷ w ∷ u ∷ rw′ ∷ ww ∷ []) (omega arith) (omega arith)
+item-fits (SlaveLine n) = line-fits slaveWord (slaveFields n) (omega arith) (omega arith)
 item-fits (ShareLine m s n) = line-fits shareWord (m ∷ s ∷ n ∷ []) (omega arith) (omega arith)
 
 -- lines behind lines

@@ -35,7 +35,14 @@ masterLine ns = cond (eqb (ns .count) 2) (MasterLine (value ns 0) (value ns 1)) 
 unfoldable pub slaveLine : Numbers → Item
 slaveLine ns =
     cond (eqb (ns .count) 6)
-    (SlaveLine (value ns 0) (value ns 1) (value ns 2) (value ns 3) (value ns 4) (value ns 5))
+    (SlaveLine (record {
+      base = value ns 0;
+      span = value ns 1;
+      width = value ns 2;
+      burst = value ns 3;
+      «read_wait» = value ns 4;
+      «write_wait» = value ns 5;
+    }))
     Malformed
 
 -- "share,master,slave,shares"

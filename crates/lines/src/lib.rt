@@ -4,8 +4,9 @@ ghost use Prim.Native.Nat.{_+_, _≤_, _<_};
 ghost use lib.ListN.{length};
 ghost use Rattle.text.specs.Scanning.{Put};
 ghost use Rattle.lines.specs.Reader.{masterLine, slaveLine, shareLine, itemOf, LineFrom};
-ghost use Rattle.lines.specs.Writer.{itemText};
+ghost use Rattle.lines.specs.Writer.{slaveFields, itemText};
 use board::Item;
+use board::SlaveNumbers;
 use text::Numbers;
 
 // A line that was read, and the place in its text where the next one starts.
@@ -29,14 +30,15 @@ fn slave_line(ns: Numbers) -> Item
     ensures { λ x. ⌜ x ≡ slaveLine ns ⌝ }
 {
     if ns.count == 6 {
-        return Item::SlaveLine(
-            ns.values[0],
-            ns.values[1],
-            ns.values[2],
-            ns.values[3],
-            ns.values[4],
-            ns.values[5],
-        );
+        let n = SlaveNumbers {
+            base: ns.values[0],
+            span: ns.values[1],
+            width: ns.values[2],
+            burst: ns.values[3],
+            read_wait: ns.values[4],
+            write_wait: ns.values[5],
+        };
+        return Item::SlaveLine(n);
     }
     Item::Malformed
 }
@@ -90,6 +92,13 @@ pub fn line_from(text: &[u8], at: usize) -> LineRead
     }
 }
 
+// The numbers of a slave line in the order of its fields.
+fn slave_fields(n: SlaveNumbers) -> [u64; 6]
+    ensures { λ r. ⌜ r ≡ slaveFields n ⌝ }
+{
+    [n.base, n.span, n.width, n.burst, n.read_wait, n.write_wait]
+}
+
 // Writes a line with its line feed; a malformed one has no bytes, and no board has one.
 pub fn put_item(out: &mut [u8], at: usize, x: Item) -> usize
     requires { ⌜ at + length (itemText x) ≤ length (now out) ⌝ }
@@ -98,8 +107,8 @@ pub fn put_item(out: &mut [u8], at: usize, x: Item) -> usize
     match x {
         Item::Malformed => at,
         Item::MasterLine(width, burst) => text::put_line(&mut *out, at, b"master", &[width, burst]),
-        Item::SlaveLine(base, span, width, burst, read_wait, write_wait) => {
-            let numbers = [base, span, width, burst, read_wait, write_wait];
+        Item::SlaveLine(n) => {
+            let numbers = slave_fields(n);
             text::put_line(&mut *out, at, b"slave", &numbers)
         }
         Item::ShareLine(m, s, shares) => text::put_line(&mut *out, at, b"share", &[m, s, shares]),
@@ -113,8 +122,8 @@ pub fn item_length(x: Item) -> usize
     match x {
         Item::Malformed => 0,
         Item::MasterLine(width, burst) => 7 + text::fields_length(&[width, burst]),
-        Item::SlaveLine(base, span, width, burst, read_wait, write_wait) => {
-            let numbers = [base, span, width, burst, read_wait, write_wait];
+        Item::SlaveLine(n) => {
+            let numbers = slave_fields(n);
             6 + text::fields_length(&numbers)
         }
         Item::ShareLine(m, s, shares) => 6 + text::fields_length(&[m, s, shares]),

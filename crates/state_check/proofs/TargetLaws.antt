@@ -7,7 +7,7 @@ use Prim.Native.Nat.{ℕ, suc, _+_, _-_, _≤_, _<_}
 use native.Mathlib.Omega.{arith}
 use lib.Dec.{ltb, eqb}
 use lib.ListN.{length, getD, List·getD-eq-default}
-use borrow.Author.Tests.{lt-ltb, ltb-true, ltb-false, eq-eqb, ne-eqb, eqb-true}
+use borrow.Author.Tests.{lt-ltb, ltb-true, ltb-false, eq-eqb, ne-eqb}
 use Rattle.laws.specs.Bits.{bit}
 use Rattle.laws.specs.Lists.{firstFrom, table, sum}
 use Rattle.laws.proofs.TableLaws.{getD-table, bit-mask, bit-mask-past}
@@ -98,12 +98,6 @@ module _ (b : Board) (ok : checkBoard b ≡ 0) (st : State) (full : length (st .
           ≡ (c && selects b m (transferAt st m .address) s)
       go true e = e
       go false e = ne-eqb (b .«slave_count») s (λ q. omega arith)
-
-  pub target-asks : (m : ℕ) → m < 8 → getD (targetsIn b (st .transfers)) m 0 ≡ s → requests b st s m ≡ true
-  target-asks m h e = sym (target-requests m h) ∙ eq-eqb _ _ e
-
-  pub asks-target : (m : ℕ) → m < 8 → requests b st s m ≡ true → getD (targetsIn b (st .transfers)) m 0 ≡ s
-  asks-target m h e = eqb-true _ _ (target-requests m h ∙ e)
 
   -- so the mask's bits are the requests
   pub mask-requests : (m : ℕ) → bit (requestMask (targetsIn b (st .transfers)) s) m ≡ requests b st s m

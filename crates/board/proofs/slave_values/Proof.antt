@@ -26,7 +26,8 @@ listed-requires-3 c κs = search needs
 returns : tie.Need-returns
 unfolding slaveValues
 returns c =
-    rw (c .before .before .before .before .listed .ensures, c .before .before .listed2 .ensures, c .listed3 .ensures)
+    let l = c .before .before .before .before .before in
+    rw (l .before .before .listed .ensures, l .listed2 .ensures, c .listed3 .ensures)
 
 pub slave-values-spec : {M : Type 1} → statement M
 slave-values-spec =

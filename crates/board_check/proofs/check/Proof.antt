@@ -29,7 +29,7 @@ a-line : (q : Reading) (x : Item) → OneOf (1 ∷ 2 ∷ 3 ∷ []) (tagOf the-ty
 unfolding run present
 a-line q Malformed h = absurd (miss (1 ∷ 2 ∷ 3 ∷ []) 0 tt h)
 a-line q (MasterLine w u) h = refl
-a-line q (SlaveLine a n w u rw′ ww) h = refl
+a-line q (SlaveLine n) h = refl
 a-line q (ShareLine m s n) h = refl
 
 abbrev Inv-loop : tie.InvT-loop

@@ -1,7 +1,7 @@
 -- `board_check::slave_item` meets its contract. Past the array `getD` gives the record of zeros too.
 -- Assumes nothing.
 use native.Mathlib.Omega.{arith}
-use mathlib.Core.Path.{_≡_, refl}
+use mathlib.Core.Path.{_≡_}
 use borrow.Author.Needs.{needs}
 use lib.ListN.{length, List·getD-eq-default}
 use Rattle.board.specs.Items.{slaveItem}
@@ -15,27 +15,12 @@ mul-s c = search needs
 array-copy-out-s : tie.Need-array-copy-out-s
 array-copy-out-s c = search needs
 
-cast-t10 : tie.Need-cast-t10
-cast-t10 c = search needs
-
-cast-t11 : tie.Need-cast-t11
-cast-t11 c = search needs
-
-cast-t12 : tie.Need-cast-t12
-cast-t12 c = search needs
-
-cast-t13 : tie.Need-cast-t13
-cast-t13 c = search needs
-
-cast-t14 : tie.Need-cast-t14
-cast-t14 c = search needs
-
-cast-t15 : tie.Need-cast-t15
-cast-t15 c = search needs
+slave-numbers-requires : tie.Need-slave-numbers-requires
+slave-numbers-requires c κs = search needs
 
 returns : tie.Need-returns
 unfolding slaveItem
-returns c = refl
+returns c = rw (c .slave-numbers .ensures)
 
 returns-2 : tie.Need-returns-2
 unfolding slaveItem
@@ -44,16 +29,4 @@ returns-2 c = let a = c .before .args in
     rw (List·getD-eq-default (a .t1) noSlave {n = a .i} (omega arith))
 
 pub slave-item-spec : {M : Type 1} → statement M
-slave-item-spec =
-    tie.close
-    (tie.spec
-    mul-s
-    array-copy-out-s
-    cast-t10
-    cast-t11
-    cast-t12
-    cast-t13
-    cast-t14
-    cast-t15
-    returns
-    returns-2)
+slave-item-spec = tie.close (tie.spec mul-s array-copy-out-s slave-numbers-requires returns returns-2)

@@ -26,6 +26,9 @@ add-result c = let h = fields-fit _ _ (c .fields-length .ensures) (search needs)
 enum-known-x-2 : tie.Need-enum-known-x-2
 enum-known-x-2 c = search needs
 
+slave-fields-requires : tie.Need-slave-fields-requires
+slave-fields-requires c κs = search needs
+
 slice-aggregate-fields-length-2 : tie.Need-slice-aggregate-fields-length-2
 slice-aggregate-fields-length-2 c = search needs
 
@@ -57,7 +60,9 @@ returns-2 c = rw (c .before .before .before .x .given .1) (line-counted masterWo
 
 returns-3 : tie.Need-returns-3
 unfolding itemText bytesOf
-returns-3 c = rw (c .before .before .before .x2 .given .1) (line-counted slaveWord _ _ (c .fields-length2 .ensures))
+returns-3 c = let f = c .before .before in
+    rw (f .before .before .x2 .given .1)
+    (line-counted slaveWord _ _ (rw (f .slave-fields .ensures) at (c .fields-length2 .ensures)))
 
 returns-4 : tie.Need-returns-4
 unfolding itemText bytesOf
@@ -73,6 +78,7 @@ item-length-spec =
     fields-length-requires
     add-result
     enum-known-x-2
+    slave-fields-requires
     slice-aggregate-fields-length-2
     fields-length-requires-2
     add-result-2

@@ -29,6 +29,9 @@ put-line-requires c κs = let k = c .before .before .before .before in
 enum-known-x-2 : tie.Need-enum-known-x-2
 enum-known-x-2 c = search needs
 
+slave-fields-requires : tie.Need-slave-fields-requires
+slave-fields-requires c κs = search needs
+
 slice-aggregate-put-line-3 : tie.Need-slice-aggregate-put-line-3
 slice-aggregate-put-line-3 c = search needs
 
@@ -37,8 +40,10 @@ slice-aggregate-put-line-4 c = search needs
 
 put-line-requires-2 : tie.Need-put-line-requires-2
 unfolding itemText bytesOf
-put-line-requires-2 c κs = let k = c .before .before .before .before in
-    line-room _ _ slaveWord _ _ refl (rw (k .x2 .given .1) at (k .before .before .before .pre))
+put-line-requires-2 c κs = let f = c .before .before .before in
+    let k = f .before .before in
+    rw (f .slave-fields .ensures)
+    (line-room _ _ slaveWord _ _ refl (rw (k .x2 .given .1) at (k .before .before .before .pre)))
 
 enum-known-x-3 : tie.Need-enum-known-x-3
 enum-known-x-3 c = search needs
@@ -70,7 +75,9 @@ same-length-2 c = search needs
 
 returns-3 : tie.Need-returns-3
 unfolding itemText bytesOf
-returns-3 c = let p = c .before .before in rw (p .before .before .before .before .before .x2 .given .1) (p .put-line2 .ensures)
+returns-3 c = let p = c .before .before in
+    let f = p .before .before .before .before in
+    rw (f .before .before .x2 .given .1) (rw (f .slave-fields .ensures) at (p .put-line2 .ensures))
 
 same-length-3 : tie.Need-same-length-3
 same-length-3 c = search needs
@@ -89,6 +96,7 @@ put-item-spec =
     slice-aggregate-put-line-2
     put-line-requires
     enum-known-x-2
+    slave-fields-requires
     slice-aggregate-put-line-3
     slice-aggregate-put-line-4
     put-line-requires-2

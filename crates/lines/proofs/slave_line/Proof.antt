@@ -5,23 +5,23 @@ use Rattle.lines.specs.Reader.{slaveLine}
 use Rattle.lines.proofs.slave_line.Statement.{statement}
 use Rattle.lines.proofs.slave_line.Tie as tie
 
-element-copy-out-t7 : tie.Need-element-copy-out-t7
-element-copy-out-t7 c = search needs
+element-copy-out-t8 : tie.Need-element-copy-out-t8
+element-copy-out-t8 c = search needs
 
-element-copy-out-t10 : tie.Need-element-copy-out-t10
-element-copy-out-t10 c = search needs
+element-copy-out-t11 : tie.Need-element-copy-out-t11
+element-copy-out-t11 c = search needs
 
-element-copy-out-t13 : tie.Need-element-copy-out-t13
-element-copy-out-t13 c = search needs
+element-copy-out-t14 : tie.Need-element-copy-out-t14
+element-copy-out-t14 c = search needs
 
-element-copy-out-t16 : tie.Need-element-copy-out-t16
-element-copy-out-t16 c = search needs
+element-copy-out-t17 : tie.Need-element-copy-out-t17
+element-copy-out-t17 c = search needs
 
-element-copy-out-t19 : tie.Need-element-copy-out-t19
-element-copy-out-t19 c = search needs
+element-copy-out-t20 : tie.Need-element-copy-out-t20
+element-copy-out-t20 c = search needs
 
-element-copy-out-t22 : tie.Need-element-copy-out-t22
-element-copy-out-t22 c = search needs
+element-copy-out-t23 : tie.Need-element-copy-out-t23
+element-copy-out-t23 c = search needs
 
 returns : tie.Need-returns
 unfolding slaveLine
@@ -35,11 +35,11 @@ pub slave-line-spec : {M : Type 1} → statement M
 slave-line-spec =
     tie.close
     (tie.spec
-    element-copy-out-t7
-    element-copy-out-t10
-    element-copy-out-t13
-    element-copy-out-t16
-    element-copy-out-t19
-    element-copy-out-t22
+    element-copy-out-t8
+    element-copy-out-t11
+    element-copy-out-t14
+    element-copy-out-t17
+    element-copy-out-t20
+    element-copy-out-t23
     returns
     returns-2)
