@@ -65,7 +65,7 @@ fn slave_item(slaves: [Slave; 16], i: usize) -> Item
 fn pair_item(shares: [u8; 128], i: u64) -> Item
     ensures { λ x. ⌜ x ≡ pairItem shares i ⌝ }
 {
-    let n = board::share_at(shares, i);
+    let n = rules::share_at(shares, i);
     if n == 0 {
         return Item::Malformed;
     }
@@ -102,19 +102,19 @@ pub fn check(b: Board) -> u8
     ensures { λ n. ⌜ n ≡ checkBoard b ⌝ }
 {
     let n = places(b);
-    let mut r = board::first_reading();
+    let mut r = readings::first_reading();
     let mut k: usize = 0;
     while k < n {
         let x = line_at(b, k);
         match x {
             Item::Malformed => {}
             _ => {
-                r = board::add_item(r, x);
+                r = readings::add_item(r, x);
             }
         }
         k += 1;
     }
-    let last = board::finished(r);
+    let last = readings::finished(r);
     last.number
 }
 

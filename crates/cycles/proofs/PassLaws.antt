@@ -28,7 +28,7 @@ use Rattle.state.specs.declared.State.{State}
 use Rattle.state.specs.declared.Line.{Line}
 use Rattle.state.specs.declared.Step.{Step}
 use Rattle.state.specs.Records.{noLine, noSlot, transferAt, slotAt}
-use Rattle.state_check.specs.Targets.{targetsIn, requestMask}
+use Rattle.transfers.specs.Targets.{targetsIn, requestMask}
 use Rattle.state.specs.Control.{slotAfterGrant, stepOf, lineAfter, slotAfter, finishes, finished, maskOf}
 use Rattle.state.specs.Control.{transferAfter, stateAfter, linesOf}
 use Rattle.state.specs.Clocking.{clockedOf}
@@ -37,7 +37,7 @@ use Rattle.steps.specs.Serving.{Placed, slotAsked, stepFrom, carriedFrom}
 use Rattle.state.proofs.Sound.{Sound}
 use Rattle.state.proofs.SoundLaws.{sound-facts, grant-sound}
 use Rattle.state.proofs.StepLaws.{line-owner, finished-serving}
-use Rattle.state_check.proofs.TargetLaws.{mask-requests}
+use Rattle.transfers.proofs.TargetLaws.{mask-requests}
 use Rattle.steps.proofs.ServeLaws.{asked-is, step-is, carried-is}
 use Rattle.board.proofs.StartLaws.{end-inside}
 use Rattle.steps.proofs.PlaceLaws.{grant-placed, grant-reached}

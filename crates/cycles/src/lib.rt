@@ -14,7 +14,7 @@ ghost use Rattle.laws.specs.Lists.{table, sum};
 ghost use Rattle.board.specs.Records.{totalSpan, memoryLength};
 ghost use Rattle.geometry.specs.Accesses.{noTransfer};
 ghost use Rattle.moves.specs.Bytes.{bufferLength};
-ghost use Rattle.state_check.specs.Targets.{targetsIn, requestMask};
+ghost use Rattle.transfers.specs.Targets.{targetsIn, requestMask};
 ghost use Rattle.steps.specs.Serving.{slotAsked};
 ghost use Rattle.state.specs.Clocking.{refusedClock};
 ghost use Rattle.cycles.specs.Cycles.{Runs, Cycled};
@@ -71,7 +71,7 @@ fn grant_at(slot: Slot, n: u8, targets: [u8; 8], shares: &[u8; 128], beats: [u8;
     if slot.serving {
         return slot;
     }
-    let requests = state_check::request_mask(targets, s);
+    let requests = transfers::request_mask(targets, s);
     if requests == 0 {
         let nobody = Grant::Silent;
         return steps::slot_granted(slot, nobody);

@@ -45,14 +45,14 @@ fn read_lines(text: &[u8]) -> Outcome
     ensures { λ r. ⌜ r .reading ≡ described (itemsOf (now (text .entry))) ⌝ }
     ensures { λ r. ⌜ r .line ≡ firstRefused 0 start (itemsOf (now (text .entry))) ⌝ }
 {
-    let mut r = board::first_reading();
+    let mut r = readings::first_reading();
     let mut line: usize = 0;
     let mut at: usize = 0;
     while at < text.len() {
         let found = lines::line_from(text, at);
         let item = found.item;
         line += 1;
-        r = board::add_item(r, item);
+        r = readings::add_item(r, item);
         if r.number != 0 {
             return Outcome {
                 reading: r,
@@ -62,7 +62,7 @@ fn read_lines(text: &[u8]) -> Outcome
         at = found.next;
     }
     Outcome {
-        reading: board::finished(r),
+        reading: readings::finished(r),
         line: 0,
     }
 }
@@ -76,7 +76,7 @@ fn read_bounded(text: &[u8]) -> Outcome
         return read_lines(text);
     }
     Outcome {
-        reading: board::add_item(board::first_reading(), Item::Malformed),
+        reading: readings::add_item(readings::first_reading(), Item::Malformed),
         line: 0,
     }
 }

@@ -109,7 +109,7 @@ fn request_refusal(board: Board, m: usize, t: Transfer, length: usize) -> u8
     requires { ⌜ (checkBoard board ≡ 0) × (m < board .«master_count») ⌝ }
     ensures { λ r. ⌜ r ≡ requestRefusal board m t length ⌝ }
 {
-    let number = state_check::refusal_of(board, m, t);
+    let number = transfers::refusal_of(board, m, t);
     if number != 0 {
         return number;
     }

@@ -3,21 +3,18 @@
 use mathlib.Core.Path.{_≡_, refl, sym, ap, _∙_}
 use mathlib.Core.Bool.{Bool, true, false, cond, _&&_, _||_, true≢false}
 use mathlib.Core.List.{List, map}
-use Prim.Native.Nat.{ℕ, _+_, _-_, _%_, _≤_, _<_}
-use native.Mathlib.Nat.{mod-eq-of-lt}
+use Prim.Native.Nat.{ℕ, _+_, _%_, _≤_, _<_}
 use native.Mathlib.Numerals.{add-one}
 use native.Mathlib.Omega.{arith}
-use lib.Bits.{bitAnd, and-mask}
 use lib.Dec.{ltb, leb, eqb}
 use lib.ListN.{length, getD, length-map}
 use borrow.Author.Tests.{lt-ltb, le-ltb, eqb-true, eqb-false}
-use Rattle.laws.specs.Lists.{member, every}
-use Rattle.laws.proofs.TableLaws.{member-each, every-at, getD-table}
+use Rattle.laws.specs.Lists.{every}
+use Rattle.laws.proofs.TableLaws.{every-at, getD-table}
 use Rattle.board.specs.declared.Master.{Master}
 use Rattle.board.specs.declared.Slave.{Slave}
 use Rattle.board.specs.declared.Board.{Board}
 use Rattle.board.specs.Records.{noSlave, masterAt, slaveAt, sharesAt}
-use Rattle.board.specs.Rules.{widths}
 use Rattle.board.specs.Items.{checkBoard}
 use Rattle.board.proofs.Accepted.{accepted-legal}
 use Rattle.geometry.specs.declared.Transfer.{Transfer}
@@ -26,12 +23,12 @@ use Rattle.geometry.specs.Decoding.{targetOf}
 use Rattle.state.specs.declared.Slot.{Slot}
 use Rattle.state.specs.declared.State.{State}
 use Rattle.state.specs.Records.{transferAt, slotAt}
-use Rattle.state.specs.Posting.{unmapped, refusalAt, transferRefusal}
+use Rattle.state.specs.Posting.{refusalAt}
 use Rattle.state.specs.Soundness.{soundTransfer, soundOwner, soundRemaining, soundService, soundRest, slotSound, soundSlot}
-use Rattle.state_check.specs.Targets.{targetIn, targetsIn}
+use Rattle.transfers.specs.Targets.{targetIn, targetsIn}
 use Rattle.state_check.specs.Parts.{heldSound}
-use Rattle.state.proofs.DecodeLaws.{target-first}
-use Rattle.state_check.proofs.TargetLaws.{target-requests}
+use Rattle.transfers.proofs.TargetLaws.{target-requests}
+use Rattle.transfers.proofs.RefusalLaws.{refusal-parts}
 
 -- a loop over the numbers below n: one more passes, one fails
 module _ (test : ℕ → Bool) where
@@ -50,12 +47,6 @@ module _ (test : ℕ → Bool) where
 pub length-mapped : {X Y : Type 0} (f : X → Y) (l : List X) (n : ℕ) → length (map f l) ≡ n → length l ≡ n
 length-mapped f l n e = sym (length-map l f) ∙ e
 
--- a mask below a width, which is a power of two
-pub over-width : (address width : ℕ) → member width widths ≡ true → bitAnd address (width - 1) ≡ address % width
-over-width address width e =
-    member-each (λ w. bitAnd address (w - 1) ≡ address % w) width widths
-    (and-mask address 0, (and-mask address 1, (and-mask address 2, (and-mask address 3, tt)))) e
-
 -- a held transfer of a master of the board
 pub held-ours : (ours : Bool) (ma : Master) (sl : Slave) (t : Transfer) (target count : ℕ) → t .held ≡ true → ours ≡ true
     → heldSound ours ma sl t target count ≡ eqb (refusalAt ma sl t target count) 0
@@ -64,33 +55,7 @@ held-ours ours ma sl t target count h o =
     ap (λ (c : Bool). cond c (ours && eqb (refusalAt ma sl t target count) 0) true) h
     ∙ ap (λ (c : Bool). c && eqb (refusalAt ma sl t target count) 0) o
 
--- a transfer for no slave is not refused for its slave: 16 stands before 17
-refusal-slave : (ma : Master) (slaves : List Slave) (t : Transfer) (target count : ℕ) → target ≤ count → count ≤ 16
-    → refusalAt ma (getD slaves (target % 16) noSlave) t target count ≡ refusalAt ma (getD slaves target noSlave) t target count
-unfolding refusalAt unmapped
-refusal-slave ma slaves t target count h l = go (eqb target count) refl
-  where
-    go : (c : Bool) → eqb target count ≡ c
-        → refusalAt ma (getD slaves (target % 16) noSlave) t target count ≡ refusalAt ma (getD slaves target noSlave) t target count
-    go true e = rw e
-    go false e =
-        let none = eqb-false target count e in
-        let small : target < 16 = omega arith in
-        rw (mod-eq-of-lt small)
-
 module _ (b : Board) (ok : checkBoard b ≡ 0) where
-  pub refusal-parts : (m : ℕ) (t : Transfer) (target : ℕ) → target ≡ targetOf b m (t .address)
-      → refusalAt (masterAt b m) (getD (b .slaves) (target % 16) noSlave) t target (b .«slave_count») ≡ transferRefusal b m t
-  unfolding transferRefusal
-  refusal-parts m t target e =
-      refusal-slave (masterAt b m) (b .slaves) t target (b .«slave_count»)
-      (rw e (target-first b m (t .address) .within)) (accepted-legal b ok .fewSlaves)
-      ∙ same target e
-    where
-      same : (x : ℕ) → x ≡ targetOf b m (t .address)
-          → refusalAt (masterAt b m) (slaveAt b x) t x (b .«slave_count») ≡ transferRefusal b m t
-      same x q = rw q
-
   pub transfer-parts : (st : State) (m target : ℕ) → m < 8 → target ≡ getD (targetsIn b (st .transfers)) m 0
       → heldSound (ltb m (b .«master_count»)) (masterAt b m) (getD (b .slaves) (target % 16) noSlave) (transferAt st m) target
       (b .«slave_count») ≡ soundTransfer b st m
@@ -105,7 +70,7 @@ module _ (b : Board) (ok : checkBoard b ≡ 0) where
           (b .«slave_count») ≡ soundTransfer b st m
       go true q =
           let held : target ≡ targetOf b m (transferAt st m .address) = rw (q, targetIn) at is in
-          rw (q, refusal-parts m (transferAt st m) target held)
+          rw (q, refusal-parts b ok m (transferAt st m) target held)
       go false q = rw q
 
 -- grants that remain: none, or fewer than the shares

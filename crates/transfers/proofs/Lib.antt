@@ -1,0 +1,2 @@
+pub mod TargetLaws
+pub mod RefusalLaws

@@ -1,0 +1,58 @@
+-- What a transfer is refused for, by the parts that the code has, is the definition's.
+-- Assumes nothing.
+use mathlib.Core.Path.{_≡_, refl, _∙_}
+use mathlib.Core.Bool.{Bool, true, false}
+use mathlib.Core.List.{List}
+use Prim.Native.Nat.{ℕ, _-_, _%_, _≤_, _<_}
+use native.Mathlib.Nat.{mod-eq-of-lt}
+use native.Mathlib.Omega.{arith}
+use lib.Bits.{bitAnd, and-mask}
+use lib.Dec.{eqb}
+use lib.ListN.{getD}
+use borrow.Author.Tests.{eqb-false}
+use Rattle.laws.specs.Lists.{member}
+use Rattle.laws.proofs.TableLaws.{member-each}
+use Rattle.board.specs.declared.Master.{Master}
+use Rattle.board.specs.declared.Slave.{Slave}
+use Rattle.board.specs.declared.Board.{Board}
+use Rattle.board.specs.Records.{noSlave, masterAt, slaveAt}
+use Rattle.board.specs.Rules.{widths}
+use Rattle.board.specs.Items.{checkBoard}
+use Rattle.board.proofs.Accepted.{accepted-legal}
+use Rattle.geometry.specs.declared.Transfer.{Transfer}
+use Rattle.geometry.specs.Decoding.{targetOf}
+use Rattle.state.specs.Posting.{unmapped, refusalAt, transferRefusal}
+use Rattle.state.proofs.DecodeLaws.{target-first}
+
+-- a mask below a width, which is a power of two
+pub over-width : (address width : ℕ) → member width widths ≡ true → bitAnd address (width - 1) ≡ address % width
+over-width address width e =
+    member-each (λ w. bitAnd address (w - 1) ≡ address % w) width widths
+    (and-mask address 0, (and-mask address 1, (and-mask address 2, (and-mask address 3, tt)))) e
+
+-- a transfer for no slave is not refused for its slave: 16 stands before 17
+refusal-slave : (ma : Master) (slaves : List Slave) (t : Transfer) (target count : ℕ) → target ≤ count → count ≤ 16
+    → refusalAt ma (getD slaves (target % 16) noSlave) t target count ≡ refusalAt ma (getD slaves target noSlave) t target count
+unfolding refusalAt unmapped
+refusal-slave ma slaves t target count h l = go (eqb target count) refl
+  where
+    go : (c : Bool) → eqb target count ≡ c
+        → refusalAt ma (getD slaves (target % 16) noSlave) t target count ≡ refusalAt ma (getD slaves target noSlave) t target count
+    go true e = rw e
+    go false e =
+        let none = eqb-false target count e in
+        let small : target < 16 = omega arith in
+        rw (mod-eq-of-lt small)
+
+module _ (b : Board) (ok : checkBoard b ≡ 0) where
+  pub refusal-parts : (m : ℕ) (t : Transfer) (target : ℕ) → target ≡ targetOf b m (t .address)
+      → refusalAt (masterAt b m) (getD (b .slaves) (target % 16) noSlave) t target (b .«slave_count») ≡ transferRefusal b m t
+  unfolding transferRefusal
+  refusal-parts m t target e =
+      refusal-slave (masterAt b m) (b .slaves) t target (b .«slave_count»)
+      (rw e (target-first b m (t .address) .within)) (accepted-legal b ok .fewSlaves)
+      ∙ same target e
+    where
+      same : (x : ℕ) → x ≡ targetOf b m (t .address)
+          → refusalAt (masterAt b m) (slaveAt b x) t x (b .«slave_count») ≡ transferRefusal b m t
+      same x q = rw q
