@@ -65,7 +65,7 @@ fn slave_item(slaves: [Slave; 16], i: usize) -> Item
 fn pair_item(shares: [u8; 128], i: u64) -> Item
     ensures { λ x. ⌜ x ≡ pairItem shares i ⌝ }
 {
-    let n = rules::share_at(shares, i);
+    let n = rules::share_at(&shares, i);
     if n == 0 {
         return Item::Malformed;
     }

@@ -1,38 +1,22 @@
 // One clock of an accepted board in a state that breaks no rule, slave by slave: the three rules and the bytes.
 use arbiter::Grant;
 use board::Board;
-use board::Slave;
 use geometry::Transfer;
 use state::Clocked;
 use state::Slot;
 use state::State;
 ghost use mathlib.Core.Path.{_≡_};
 ghost use mathlib.Core.Bool.{false, cond};
-ghost use Prim.Native.Nat.{_+_, _*_, _^_, _≤_, _<_};
-ghost use lib.ListN.{getD, length, take};
+ghost use Prim.Native.Nat.{_+_, _*_, _^_, _<_};
+ghost use lib.ListN.{getD, length};
 ghost use Rattle.laws.specs.Lists.{table, sum};
-ghost use Rattle.board.specs.Records.{totalSpan, memoryLength};
+ghost use Rattle.board.specs.Records.{memoryLength};
 ghost use Rattle.geometry.specs.Accesses.{noTransfer};
 ghost use Rattle.moves.specs.Bytes.{bufferLength};
 ghost use Rattle.transfers.specs.Targets.{targetsIn, requestMask};
 ghost use Rattle.steps.specs.Serving.{slotAsked};
 ghost use Rattle.state.specs.Clocking.{refusedClock};
 ghost use Rattle.cycles.specs.Cycles.{Runs, Cycled};
-
-// The spans of the first n slaves together.
-pub fn span_total(slaves: [Slave; 16], n: usize) -> usize
-    requires { ⌜ n ≤ 16 ⌝ }
-    ensures { λ r. ⌜ r ≡ totalSpan (take n slaves) ⌝ }
-{
-    let mut total: usize = 0;
-    let mut i = 0;
-    while i < n {
-        let sl = slaves[i];
-        total += sl.span as usize;
-        i += 1;
-    }
-    total
-}
 
 // The shares of each master at slave s.
 fn shares_at(shares: &[u8; 128], s: usize) -> [u8; 8]

@@ -194,8 +194,8 @@ pub fn clock(board: Board, state: State, memory: &mut [u8], buffer: &mut [u8]) -
         return cycles::refuse(checked.number, state);
     }
     let slaves = board.slaves;
-    let room = cycles::span_total(slaves, board.slave_count as usize);
-    if memory.len() != room {
+    let room = rules::span_total(slaves, board.slave_count as usize, 0);
+    if memory.len() as u64 != room {
         return cycles::refuse(8, state);
     }
     if buffer.len() != 4096 {

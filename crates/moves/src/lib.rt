@@ -48,14 +48,7 @@ fn store_words(memory: &[u8], from: usize, part: &mut [u8], first: usize, count:
 }
 
 // A read access of master m.
-pub fn read_access(
-    memory: &[u8],
-    from: usize,
-    buffer: &mut [u8],
-    m: usize,
-    first: usize,
-    count: usize,
-)
+fn read_access(memory: &[u8], from: usize, buffer: &mut [u8], m: usize, first: usize, count: usize)
     requires { ⌜ (length (now buffer) ≡ bufferLength) × (m < 8) × (first + count ≤ 512) × (from + (first + count) ≤ length (now memory)) ⌝ }
     ensures { λ r. ⌜ now (buffer .exit) ≡ move all (now (memory .entry)) from (partOf m) first count (now (buffer .entry)) ⌝ }
 {
@@ -99,7 +92,7 @@ fn write_words(
 }
 
 // A write access of master m.
-pub fn write_access(
+fn write_access(
     memory: &mut [u8],
     at: usize,
     buffer: &[u8],

@@ -52,7 +52,7 @@ fn is_connected(b: Board, m: u32, s: u32) -> bool
         return false;
     }
     let shares = b.shares;
-    0 < waits::share_at(&shares, 16 * (m as u64) + (s as u64))
+    0 < rules::share_at(&shares, 16 * (m as u64) + (s as u64))
 }
 
 // What a pair that a wait is looked up for is refused for, or 0.

@@ -84,7 +84,7 @@ fn meets_any(base: u32, span: u32, slaves: [Slave; 16], n: usize) -> bool
 }
 
 // The spans of the first n slaves, and one span more, together: at most 17 u32, so no sum wraps.
-fn span_total(slaves: [Slave; 16], n: usize, span: u32) -> u64
+pub fn span_total(slaves: [Slave; 16], n: usize, span: u32) -> u64
     requires { ⌜ n ≤ 16 ⌝ }
     ensures { λ r. ⌜ r ≡ totalSpan (take n slaves) + span ⌝ }
 {
@@ -137,10 +137,10 @@ pub fn slave_refusal(r: Reading, n: SlaveNumbers) -> u8
 }
 
 // The shares at a place of the table; 0 past its end, where the counts of a board that no reader made can lead.
-pub fn share_at(shares: [u8; 128], at: u64) -> u8
-    ensures { λ r. ⌜ r ≡ getD shares at 0 ⌝ }
+pub fn share_at(shares: &[u8], at: u64) -> u8
+    ensures { λ r. ⌜ r ≡ getD (now (shares .entry)) at 0 ⌝ }
 {
-    if at < 128 {
+    if at < shares.len() as u64 {
         return shares[at as usize];
     }
     0
@@ -163,7 +163,7 @@ pub fn share_refusal(b: Board, m: u64, s: u64, shares: u64) -> u8
         return 7;
     }
     let table = b.shares;
-    if 0 < share_at(table, 16 * m + s) {
+    if 0 < share_at(&table, 16 * m + s) {
         return 7;
     }
     0

@@ -210,7 +210,7 @@ fn refused(problem: u8) -> Command {
     command_of(problem, KINDS, 0, [0; 7])
 }
 
-// The fields of a line of a kind behind its word, which ends at `place`. Each turn reads the field behind the comma at `at`.
+// The fields of a line of a kind behind its word, which ends at `place`. Each pass reads the field behind the comma at `at`.
 fn parse_fields(line: &[u8], kind: usize, place: usize) -> Command
     requires { ⌜ kind < 14 × place ≤ length (now line) ⌝ }
 {

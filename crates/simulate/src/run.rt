@@ -183,7 +183,7 @@ fn run_line(
 
 // Runs a script from standard input on a board; `text` is the board's. The memory has the 65,536 bytes that spans total at
 // most, and 8 more, so that a length over the exact one can be lent. Of the buffer, 4,096 zero bytes are what is lent; a
-// longer length is lent from `longer`, see lending::lend. Nothing says that a script ends, so the turns are counted down, from
+// longer length is lent from `longer`, see lending::lend. Nothing says that a script ends, so the passes are counted down, from
 // a number that no script uses up.
 pub fn run_script(text: &[u8], board: Board) {
     let mut memory = [0u8; 65544];
@@ -192,9 +192,9 @@ pub fn run_script(text: &[u8], board: Board) {
     let mut input = [0u8; INPUT];
     let mut out = [0u8; ROOM];
     let mut w = world::start(board);
-    let mut turns = u64::MAX;
-    while 0 < turns {
-        turns -= 1;
+    let mut passes = u64::MAX;
+    while 0 < passes {
+        passes -= 1;
         w.run = session::next_line(&mut input, w.run);
         w = run_line(
             w,

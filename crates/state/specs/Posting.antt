@@ -47,7 +47,8 @@ unmapped s count = eqb s count
 unfoldable pub passesEnd : Master → Slave → Transfer → Bool
 passesEnd ma sl t = ltb (sl .base + sl .span) (t .address + t .beats * ma .width)
 
--- what a transfer is refused for, or 0: of its master, the slave that it is for, that slave's number and the count of slaves
+-- what a transfer is refused for, or 0: of its master, the slave that it is for and that slave's number s, which is the count
+-- of slaves where it is for none
 unfoldable pub refusalAt : Master → Slave → Transfer → ℕ → ℕ → ℕ
 refusalAt ma sl t s count =
     cond (wrongBeats ma t) 13

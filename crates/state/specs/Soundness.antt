@@ -34,7 +34,7 @@ unfoldable pub soundRemaining : ℕ → Slot → Bool
 soundRemaining shares slot = cond (eqb shares 0) (eqb (slot .remaining) 0) (ltb (slot .remaining) shares)
 
 -- no "serving slave whose owner holds no transfer for it, whose accesses done reach the total or whose waits passed exceed
--- the wait": of whether it holds one, of owner, slave and transfer
+-- the wait"; `asks`: its owner, ma, holds the transfer t for it
 unfoldable pub soundService : Bool → Master → Slave → Transfer → Slot → Bool
 soundService asks ma sl t slot = asks && (ltb (slot .done) (accesses ma sl t) && leb (slot .waited) (waitOf sl t))
 
@@ -42,7 +42,7 @@ soundService asks ma sl t slot = asks && (ltb (slot .done) (accesses ma sl t) &&
 unfoldable pub soundRest : Slot → Bool
 soundRest slot = eqb (slot .done) 0 && eqb (slot .waited) 0
 
--- a slot whose last owner is a master: of the owner's shares, whether it holds a transfer for the slave, owner, slave, transfer
+-- a slot whose last owner is a master, by that owner's shares here and its transfer
 unfoldable pub slotSound : ℕ → Bool → Master → Slave → Transfer → Slot → Bool
 slotSound shares asks ma sl t slot =
     soundRemaining shares slot && cond (slot .serving) (soundService asks ma sl t slot) (soundRest slot)

@@ -89,7 +89,7 @@ fn slots_sound(b: Board, st: State, targets: [u8; 8]) -> bool
 }
 
 // Whether the state breaks no rule.
-pub fn state_sound(b: Board, st: State, targets: [u8; 8]) -> bool
+fn state_sound(b: Board, st: State, targets: [u8; 8]) -> bool
     requires { ⌜ (checkBoard b ≡ 0) × (targets ≡ targetsIn b (st .transfers)) ⌝ }
     ensures { λ r. ⌜ r ≡ sound b st ⌝ }
 {

@@ -86,7 +86,7 @@ fn line_of(ma: Master, sl: Slave, t: Transfer, slot: Slot, phase: u8) -> Line
 }
 
 // Rules 2 and 3 at a slave that serves: the wait is charged to every access.
-pub fn served_step(ma: Master, sl: Slave, t: Transfer, slot: Slot) -> Step
+fn served_step(ma: Master, sl: Slave, t: Transfer, slot: Slot) -> Step
     requires { ⌜ Placed ma sl t (slot .done) ⌝ }
     ensures { λ r. ⌜ r ≡ served ma sl t slot ⌝ }
 {

@@ -41,7 +41,7 @@ fn put_pair(
     requires { ⌜ at + length (lineAmong masters (now shares) sl m s count) ≤ length (now out) ⌝ }
     ensures { λ r. ⌜ Put (now (out .entry)) at (lineAmong masters (now (shares .entry)) sl m s count) (now (out .exit)) r ⌝ }
 {
-    if waits::share_at(shares, 16 * (m as u64) + (s as u64)) == 0 {
+    if rules::share_at(shares, 16 * (m as u64) + (s as u64)) == 0 {
         return at;
     }
     let q = waits::quote_among(masters, count, shares, sl, m, s);

@@ -16,7 +16,7 @@ ghost use Rattle.transfers.specs.Targets.{targetsIn, requestMask};
 ghost use Rattle.transfers.specs.Decoded.{boardOf, Decodes, Asks};
 
 // The first slave that an address selects for master m, or the count of slaves.
-pub fn target(slaves: [Slave; 16], shares: &[u8; 128], count: u8, m: usize, address: u32) -> u8
+fn target(slaves: [Slave; 16], shares: &[u8; 128], count: u8, m: usize, address: u32) -> u8
     requires { ⌜ Decodes slaves count × m < 8 ⌝ }
     ensures { λ r. ⌜ r ≡ targetOf (boardOf slaves (now (shares .entry)) count) m address ⌝ }
 {

@@ -94,16 +94,6 @@ pub fn slave_at(slaves: [Slave; 16], s: u32) -> Slave
     }
 }
 
-// The shares at a place of the table; past its end, 0.
-pub fn share_at(shares: &[u8], at: u64) -> u8
-    ensures { λ r. ⌜ r ≡ getD (now (shares .entry)) at 0 ⌝ }
-{
-    if at < shares.len() as u64 {
-        return shares[at as usize];
-    }
-    0
-}
-
 // The turn of a master that is not the one waiting, and is connected.
 fn turn_unless(own: bool, ma: Master, sl: Slave, shares: u8, v: u32) -> u64
     ensures { λ r. ⌜ r ≡ turnUnless own ma sl shares v ⌝ }
@@ -134,7 +124,7 @@ fn turns_among(
     let mut k: u32 = 0;
     while k < n {
         let ma = master_at(masters, k);
-        let share = share_at(shares, 16 * (k as u64) + (s as u64));
+        let share = rules::share_at(shares, 16 * (k as u64) + (s as u64));
         sum += turn_unless(k == m, ma, sl, share, v);
         k += 1;
     }

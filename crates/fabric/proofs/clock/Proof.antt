@@ -1,4 +1,4 @@
--- `fabric::clock` meets its contract. Each way out answers the refusals in their order; the last is the turn of the fabric.
+-- `fabric::clock` meets its contract. Each way out answers the refusals in their order; the last is a clock that is not refused.
 -- Assumes nothing.
 use mathlib.Core.Path.{_≡_, sym, _∙_}
 use native.Mathlib.Omega.{arith}
@@ -21,7 +21,7 @@ board-ok c = sym (c .before .before .ready .ensures .number) ∙ c .if1 .left
 room : (c : tie.After-span-total)
     → c .span-total .result ≡ memoryLength (c .before .before .before .before .before .before .before .before .args .board)
 unfolding memoryLength startOf
-room c = c .span-total .ensures
+room c = omega (arith, c .span-total .ensures)
 
 memory-ok : (c : tie.Else2)
     → let a = c .before .before .before .before .before .before .before .before .before .args in

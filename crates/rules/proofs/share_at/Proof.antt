@@ -1,22 +1,20 @@
--- `rules::share_at` meets its contract. Past the end `getD` gives 0 too.
+-- `rules::share_at` meets its contract: past the end `getD` gives 0 too.
 -- Assumes nothing.
+use mathlib.Core.Path.{sym}
 use native.Mathlib.Omega.{arith}
-use mathlib.Core.Path.{_≡_, sym}
+use lib.ListN.{List·getD-eq-default}
 use borrow.Author.Needs.{needs}
-use lib.ListN.{length, List·getD-eq-default}
 use Rattle.rules.proofs.share_at.Statement.{statement}
 use Rattle.rules.proofs.share_at.Tie as tie
 
-array-read-result : tie.Need-array-read-result
-array-read-result c = search needs
+shared-slice-read-result : tie.Need-shared-slice-read-result
+shared-slice-read-result c = search needs
 
 returns : tie.Need-returns
 returns c = search needs
 
 returns-2 : tie.Need-returns-2
-returns-2 c = let a = c .before .args in
-    let g : length (a .t1) ≡ 128 = search needs in
-    sym (List·getD-eq-default (a .t1) 0 {n = a .at} (omega arith))
+returns-2 c = sym (List·getD-eq-default (c .before .args .shares .now) 0 {n = c .before .args .at} (omega arith))
 
 pub share-at-spec : {M : Type 1} → statement M
-share-at-spec = tie.close (tie.spec array-read-result returns returns-2)
+share-at-spec = tie.close (tie.spec shared-slice-read-result returns returns-2)

@@ -44,6 +44,9 @@ returns-4 c =
       le-leb _ _ (c .if4 .taken),
     )
 
+slice-aggregate-share-at : tie.Need-slice-aggregate-share-at
+slice-aggregate-share-at c = search needs
+
 mul-share-at : tie.Need-mul-share-at
 mul-share-at c = search needs
 
@@ -59,10 +62,10 @@ there c =
     rw (legal (c .before .before .before .before), lt-leb _ _ (c .before .before .if3 .left), lt-leb _ _ (c .if4 .left))
 
 returns-5 : tie.Need-returns-5
-returns-5 c = rw (there (c .before .before .before), ← c .before .share-at .ensures, lt-ltb _ _ (c .if5 .taken))
+returns-5 c = rw (there (c .before .before .before .before), ← c .before .share-at .ensures, lt-ltb _ _ (c .if5 .taken))
 
 returns-6 : tie.Need-returns-6
-returns-6 c = rw (there (c .before .before .before), ← c .before .share-at .ensures, le-ltb _ _ (c .if5 .left))
+returns-6 c = rw (there (c .before .before .before .before), ← c .before .share-at .ensures, le-ltb _ _ (c .if5 .left))
 
 pub share-refusal-spec : {M : Type 1} → statement M
 share-refusal-spec =
@@ -74,6 +77,7 @@ share-refusal-spec =
     returns-3
     cast-if4
     returns-4
+    slice-aggregate-share-at
     mul-share-at
     add-share-at
     share-at-requires

@@ -1,5 +1,5 @@
 -- `simulate::run::run_script` is safe and ends. The loop's invariant: the arrays that are lent keep their lengths. The measure is the
--- count of turns that are left. Assumes nothing.
+-- count of passes that are left. Assumes nothing.
 use mathlib.Core.Path.{_≡_}
 use lib.ListN.{length}
 use borrow.Author.Needs.{needs}
@@ -7,11 +7,11 @@ use Rattle.simulate.proofs.run.run_script.Statement.{statement}
 use Rattle.simulate.proofs.run.run_script.Tie as tie
 
 abbrev Inv-loop : tie.InvT-loop
-Inv-loop text memory₀ words₀ longer₀ input₀ out₀ w₀ turns₀ memory words longer input out w turns =
+Inv-loop text memory₀ words₀ longer₀ input₀ out₀ w₀ passes₀ memory words longer input out w passes =
     (length memory ≡ 65544) × ((length words ≡ 4096) × ((length longer ≡ 4104) × (length input ≡ 131200)))
 
 abbrev μ-loop : tie.MeasureT-loop
-μ-loop text memory₀ words₀ longer₀ input₀ out₀ w₀ turns₀ memory words longer input out w turns = turns
+μ-loop text memory₀ words₀ longer₀ input₀ out₀ w₀ passes₀ memory words longer input out w passes = passes
 
 start-requires : tie.Need-start-requires Inv-loop μ-loop
 start-requires c κs = search needs
@@ -19,8 +19,8 @@ start-requires c κs = search needs
 loop-holds : tie.Need-loop-holds Inv-loop μ-loop
 loop-holds c = search needs
 
-sub-turns : tie.Need-sub-turns Inv-loop μ-loop
-sub-turns c = search needs
+sub-passes : tie.Need-sub-passes Inv-loop μ-loop
+sub-passes c = search needs
 
 slice-aggregate-next-line : tie.Need-slice-aggregate-next-line Inv-loop μ-loop
 slice-aggregate-next-line c = search needs
@@ -63,7 +63,7 @@ run-script-spec =
     μ-loop
     start-requires
     loop-holds
-    sub-turns
+    sub-passes
     slice-aggregate-next-line
     next-line-requires
     slice-aggregate-run-line
