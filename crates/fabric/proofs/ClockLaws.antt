@@ -1,10 +1,12 @@
 -- A clock's refusals in their order, and what it answers and leaves then.
 -- Assumes nothing.
 use mathlib.Core.Path.{_≡_, sym, _∙_}
-use mathlib.Core.Bool.{true, false}
+use mathlib.Core.Bool.{true, false, not, _||_}
 use Prim.Native.Nat.{ℕ}
+use lib.Dec.{eqb}
 use lib.ListN.{length}
-use borrow.Author.Tests.{eq-eqb, ne-eqb}
+use borrow.Author.Tests.{eq-eqb, ne-eqb, eqb-true, not-false}
+use Rattle.laws.proofs.Tests.{neither, passed}
 use Rattle.board.specs.declared.Board.{Board}
 use Rattle.board.specs.Records.{memoryLength}
 use Rattle.board.specs.Items.{checkBoard}
@@ -15,6 +17,7 @@ use Rattle.state.specs.declared.Clocked.{Clocked}
 use Rattle.fabric.specs.Calls.{clockRefusal, clock, storeAfterClock}
 use Rattle.state.specs.Clocking.{refusedClock}
 use Rattle.cycles.specs.Cycles.{Cycled}
+use Rattle.fabric.proofs.PostLaws.{passed-number}
 
 module _ (b : Board) (st : State) (d : Store) where
   pub refused-board : {n : ℕ} → n ≡ checkBoard b → (n ≡ 0 → ⊥) → clockRefusal b st d ≡ n
@@ -52,6 +55,19 @@ module _ (b : Board) (st : State) (d : Store) where
               eq-eqb (length (d .buffer)) bufferLength f,
               h,
             )
+
+  -- a clock that is not refused was lent the exact lengths
+  pub exact-lengths : clockRefusal b st d ≡ 0 → (length (d .memory) ≡ memoryLength b) × (length (d .buffer) ≡ bufferLength)
+  unfolding clockRefusal
+  exact-lengths e =
+      let memory = eqb (length (d .memory)) (memoryLength b) in
+      let buffer = eqb (length (d .buffer)) bufferLength in
+      let p = passed-number (checkBoard b) _ e in
+      let q = passed (not memory || not buffer) 7 _ (p .1) in
+      let r = neither (not memory) (not buffer) (q .0) in (
+        eqb-true (length (d .memory)) (memoryLength b) (not-false memory (r .0)),
+        eqb-true (length (d .buffer)) bufferLength (not-false buffer (r .1)),
+      )
 
   -- the answer and the bytes of a refusal
   pub answer-refused : {n : ℕ} {r : Clocked} → clockRefusal b st d ≡ n → (n ≡ 0 → ⊥) → r ≡ refusedClock n st → r ≡ clock b st d

@@ -28,7 +28,7 @@ use Rattle.fabric.specs.declared.Posted.{Posted}
 use Rattle.fabric.specs.Calls.{wrongWords, requestRefusal, refusalBy, postRefusal, post, bufferAfterPost}
 
 -- a refusal's number that stands where it is not 0
-passed-number : (r x : ℕ) → cond (not (eqb r 0)) r x ≡ 0 → (r ≡ 0) × (x ≡ 0)
+pub passed-number : (r x : ℕ) → cond (not (eqb r 0)) r x ≡ 0 → (r ≡ 0) × (x ≡ 0)
 passed-number r x e = go (eqb r 0) refl e
   where
     go : (z : Bool) → eqb r 0 ≡ z → cond (not z) r x ≡ 0 → (r ≡ 0) × (x ≡ 0)

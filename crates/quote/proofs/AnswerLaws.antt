@@ -7,7 +7,7 @@ use Prim.Native.Nat.{ℕ, _≤_, _<_}
 use native.Mathlib.Omega.{arith}
 use lib.ListN.{length}
 use lib.Dec.{leb, ltb}
-use borrow.Author.Tests.{eq-eqb, ne-eqb, lt-ltb, le-ltb, le-leb, lt-leb, ltb-true, not-false}
+use borrow.Author.Tests.{eq-eqb, ne-eqb, lt-ltb, le-ltb, le-leb, lt-leb, leb-false, ltb-true, not-false}
 use Rattle.laws.specs.Lists.{table, gather}
 use Rattle.laws.proofs.Tests.{both, passed}
 use Rattle.text.specs.Scanning.{Put}
@@ -19,6 +19,7 @@ use Rattle.description.specs.declared.Parsed.{Parsed}
 use Rattle.description.specs.Reader.{readText}
 use Rattle.waits.specs.declared.Quote.{Quote}
 use Rattle.quote.specs.Answers.{bytes64, pairBytes, pairRefusal, waitRefusal, waitOutput}
+use Rattle.waits.specs.Waits.{quotedWait, serveOf}
 use Rattle.waits.specs.Parts.{figuresOf}
 use Rattle.quote.specs.Calls.{quoteRefusal, quoteOf}
 
@@ -32,6 +33,10 @@ module _ (b : Board) (m s : ℕ) where
   pub pair-past : b .«master_count» ≤ m → 11 ≡ pairRefusal b m s
   unfolding pairRefusal
   pair-past h = rw (le-leb (b .«master_count») m h)
+
+  pub pair-master : pairRefusal b m s ≡ 0 → m < b .«master_count»
+  unfolding pairRefusal
+  pair-master e = leb-false (b .«master_count») m (passed (leb (b .«master_count») m) 10 _ e .0)
 
   pub pair-known : pairRefusal b m s ≡ 0 → s < b .«slave_count»
   unfolding pairRefusal connected
@@ -64,6 +69,12 @@ module _ (b : Board) (m s : ℕ) {n : ℕ} (e : n ≡ checkBoard b) where
         → record { number = 0; wait = q .wait; serve = q .serve } ≡ quoteOf b m s
     unfolding quoteOf quoteRefusal figuresOf
     quote-taken z r = rw (← e, eq-eqb n 0 none, ← f, eq-eqb k 0 z, r)
+
+-- a connected pair of an accepted board has its figures
+pub quote-connected : (b : Board) (m s : ℕ) → checkBoard b ≡ 0 → m < b .«master_count» → connected b m s ≡ true
+    → quoteOf b m s ≡ record { number = 0; wait = quotedWait b m s; serve = serveOf b m s }
+unfolding quoteOf quoteRefusal pairRefusal
+quote-connected b m s ok h e = rw (ok, lt-leb (b .«master_count») m h, e)
 
 -- the wait call, from what the reader answers
 module _ (text : List ℕ) (m s : ℕ) (out : List ℕ) {p : Parsed} (e : p ≡ readText text) where
