@@ -367,9 +367,15 @@ module _ (b : Board) (legal : Legal b) (m : ℕ) (hm : m < b .«master_count») 
           (subst (λ (n : ℕ). By (names m) n (answers cs)) v
           (rest (K - 1) stands (subst (λ (u : World). Waiting (K - 1) (u .state)) (sym e) (a .1))) (omega arith))
 
-  pub finish-within : (cs : List Call) (w : World) (K : ℕ) → 1 ≤ own → Standing b legal w → Waiting K (w .state) → History b w cs
+  finish-within : (cs : List Call) (w : World) (K : ℕ) → 1 ≤ own → Standing b legal w → Waiting K (w .state) → History b w cs
       → By (names m) (K + own) (answers cs)
   unfolding History answers
   finish-within [] w K o x y h = λ l. absurd (omega arith)
   finish-within (c ∷ cs) w K o x y h =
       finish-step c cs w K o x y (came b w c (h .0)) (h .1) (λ k u v. finish-within cs (next w c) k o u v (h .1))
+
+  -- within K clocks and L more, where the transfer lasts no longer than L
+  pub finish-by : (cs : List Call) (w : World) (K L : ℕ) → 1 ≤ own → own ≤ L → Standing b legal w → Waiting K (w .state)
+      → History b w cs → By (names m) (K + L) (answers cs)
+  finish-by cs w K L o l x y h k =
+      any-more (names m) (K + own) (K + L) (answers cs) (omega arith) (finish-within cs w K o x y h (omega arith))

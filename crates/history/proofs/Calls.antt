@@ -1,24 +1,27 @@
 -- A call of a history, by cases: refused, a post taken, a clock taken; what each leaves and what each answers.
 -- Assumes nothing.
 use mathlib.Core.Path.{_≡_, refl, sym, subst₃, _∙_}
-use mathlib.Core.Bool.{Bool, true, false}
+use mathlib.Core.Bool.{Bool, true, false, cond, true≢false}
 use mathlib.Core.List.{List, _∷_}
 use mathlib.Core.Logic.{_⊎_, ⊎-elim, _≢_}
 use Prim.Native.Nat.{ℕ}
+use native.Mathlib.Omega.{arith}
 use lib.Dec.{eqb}
 use lib.ListN.{length}
 use borrow.Author.Tests.{eqb-true, eqb-false, eq-eqb, ne-eqb}
+use Rattle.laws.specs.Bits.{bit}
+use Rattle.laws.proofs.BitLaws.{bit-above}
 use Rattle.board.specs.declared.Board.{Board}
 use Rattle.moves.specs.Bytes.{Store, posted}
 use Rattle.state.specs.declared.State.{State}
 use Rattle.state.specs.declared.Clocked.{Clocked}
 use Rattle.state.specs.Posting.{Request, transferOf}
 use Rattle.state.specs.Control.{stateAfter, linesOf}
-use Rattle.state.specs.Clocking.{clockedOf}
+use Rattle.state.specs.Clocking.{clockedOf, refusedClock}
 use Rattle.state.specs.Carrying.{storeAfter}
 use Rattle.state.specs.Posting.{stateWith}
 use Rattle.fabric.specs.Calls.{World, postRefusal, post, bufferAfterPost, clockRefusal, clock, storeAfterClock}
-use Rattle.history.specs.Claim.{Call, posts, clocks, numberAnswered, Handed, leaves, next, answers, Reference, Order, seenAll, fedPost, fed}
+use Rattle.history.specs.Claim.{Call, posts, clocks, numberAnswered, Handed, leaves, next, answers, names, Reference, Order, seenAll, fedPost, fed}
 
 -- what a post that is taken leaves
 abbrev pub withPost : World → Request → World
@@ -60,6 +63,16 @@ clock-number b st d = go (eqb (clockRefusal b st d) 0) refl
     go : (c : Bool) → eqb (clockRefusal b st d) 0 ≡ c → clock b st d .number ≡ clockRefusal b st d
     go true e = rw e (sym (eqb-true (clockRefusal b st d) 0 e))
     go false e = rw e
+
+-- a clock whose mask names a master was not refused
+pub named-taken : (b : Board) (st : State) (d : Store) (m : ℕ) → names m (clock b st d) ≡ true → clockRefusal b st d ≡ 0
+unfolding names clock
+named-taken b st d m = go (eqb (clockRefusal b st d) 0) refl
+  where
+    go : (c : Bool) → eqb (clockRefusal b st d) 0 ≡ c
+        → bit (cond c (clockedOf b st) (refusedClock (clockRefusal b st d) st) .mask) m ≡ true → clockRefusal b st d ≡ 0
+    go true e n = eqb-true (clockRefusal b st d) 0 e
+    go false e n = absurd (true≢false (sym n ∙ bit-above 0 0 m (omega arith) (omega arith)))
 
 -- how a call of a history came: f is what follows it
 pub data Came (b : Board) (w : World) (c : Call) : Type 0 where

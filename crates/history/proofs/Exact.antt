@@ -2,13 +2,11 @@
 -- Assumes nothing.
 use mathlib.Core.Path.{_≡_, refl, sym, ap, subst, _∙_}
 use mathlib.Core.Bool.{true, false}
-use mathlib.Core.List.{List}
 use mathlib.Core.Logic.{_⊎_, inl, inr}
-use Prim.Native.Nat.{ℕ, _+_, _≤_, _<_}
+use Prim.Native.Nat.{ℕ, _≤_, _<_}
 use native.Mathlib.Decide.{ℕ-discrete}
 use native.Mathlib.Omega.{arith}
 use lib.Dec.{ltb}
-use lib.ListN.{length, take}
 use borrow.Author.Tests.{ltb-true}
 use Rattle.laws.proofs.Tests.{both}
 use Rattle.board.specs.declared.Board.{Board}
@@ -26,7 +24,7 @@ use Rattle.waits.specs.Waits.{quotedWait}
 use Rattle.bounds.proofs.Order.{between}
 use Rattle.bounds.proofs.Credit.{credit, credit-zero}
 use Rattle.bounds.proofs.Potential.{quoted-between}
-use Rattle.history.specs.Claim.{Call, Start, History, after, answers, shows, any, slaveFor, Accepted, afterPosting}
+use Rattle.history.specs.Claim.{Start, Lent, History, after, slaveFor, waitFor, Accepted, afterPosting, Exact}
 use Rattle.history.proofs.Pairs.{sharesOf, singleOf, serveOf, wait-quoted}
 use Rattle.history.proofs.SlaveClock.{potAt}
 use Rattle.history.proofs.Calls.{withPost, post-leaves}
@@ -55,9 +53,14 @@ module _ (b : Board) (legal : Legal b) (s : ℕ) (hs : s < b .«slave_count») (
       transfer-with (w .state) m (transferFor b s m (dueAt b s (w .state) m)) (x .stands .sound .transfers)
       (omega (arith, legal .fewMasters))
 
+  -- it is for slave s
+  for-slave : slaveFor b asked ≡ s
+  unfolding slaveFor requestFor
+  for-slave = selects-target b legal m (slaveAt b s .base) s (base-selects b legal s hs m hm has)
+
   -- and has the quoted wait before it
-  wait-whole : potAt b legal s hs m (stateWith (w .state) m (transferFor b s m (dueAt b s (w .state) m))) ≡ quotedWait b m s
-  unfolding stateWith
+  wait-whole : potAt b legal s hs m (stateWith (w .state) m (transferFor b s m (dueAt b s (w .state) m))) ≡ waitFor b asked
+  unfolding stateWith waitFor requestFor
   wait-whole =
       let o = slotAt (w .state) s .owner in
       omega (
@@ -72,9 +75,10 @@ module _ (b : Board) (legal : Legal b) (s : ℕ) (hs : s < b .«slave_count») (
         quoted-between (b .«master_count») (sharesOf b legal s hs) (singleOf b legal s hs) (serveOf b legal s hs)
             m hm,
         wait-quoted b legal s hs m,
+        ap (quotedWait b m) for-slave,
       )
 
-  starts : Tracked b legal s hs m hm (quotedWait b m s) (withPost w asked .state)
+  starts : Tracked b legal s hs m hm (waitFor b asked) (withPost w asked .state)
   unfolding stateWith requestFor transferFor
   starts = record {
     sound = stands .sound;
@@ -92,36 +96,32 @@ module _ (b : Board) (legal : Legal b) (s : ℕ) (hs : s < b .«slave_count») (
           (ap (λ (t : Transfer). t .held) (transfer-with-other (w .state) m (transferFor b s m (dueAt b s (w .state) m)) j q)
           ∙ x .free j)
 
-pub exact-history : (b : Board) → Legal b → (w : World) → Start b w → (m s : ℕ) → m < b .«master_count» → connected b m s ≡ true
-    → (before : List Call) × (q : Request) × (calls : List Call)
-    × History b w before × Accepted b (after w before) q × (q .master ≡ m) × (slaveFor b q ≡ s)
-    × History b (afterPosting b (after w before) q) calls
-    × (length (answers calls) ≡ quotedWait b m s + 1)
-    × (any (shows m) (take (quotedWait b m s) (answers calls)) ≡ false)
-    × (any (shows m) (answers calls) ≡ true)
-unfolding connected reset Accepted post afterPosting slaveFor requestFor
-exact-history b legal w x m s hm c =
+pub exact-history : (b : Board) → Legal b → (w : World) (m s : ℕ) → Start b w → Lent b w → m < b .«master_count»
+    → connected b m s ≡ true → Exact b w m s
+unfolding connected reset Accepted post afterPosting requestFor
+exact-history b legal w m s x lent hm c =
     let p = both (ltb s (b .«slave_count»)) (ltb 0 (sharesAt b m s)) c in
     let hs = ltb-true s (b .«slave_count») (p .0) in
     let has = ltb-true 0 (sharesAt b m s) (p .1) in
     let ok = x .accepted in
-    let l = lead b legal s hs m ok hm has w x in
+    let l = lead b legal s hs m ok hm has w x lent in
     let u = after w (l .calls) in
     let q = asked b legal s hs m hm has u (l .end) in
     let t = taken b legal s hs m hm has u (l .end) in
     let e = post-accepted b legal ok u q (l .end .stands) t in
     let r =
-    runs b legal s hs m hm ok (quotedWait b m s) (withPost u q) (stands b legal s hs m hm has u (l .end))
-    (starts b legal s hs m hm has u (l .end)) in (
-      l .calls,
-      q,
-      r .calls,
-      l .history,
-      e,
-      refl,
-      selects-target b legal m (slaveAt b s .base) s (base-selects b legal s hs m hm has),
-      subst (λ (v : World). History b v (r .calls)) (sym (post-leaves b u q e)) (r .history),
-      r .count,
-      r .before,
-      r .then,
-    )
+    runs b legal s hs m hm ok (waitFor b q) (withPost u q) (stands b legal s hs m hm has u (l .end))
+    (starts b legal s hs m hm has u (l .end)) in
+    record {
+      before = l .calls;
+      request = q;
+      calls = r .calls;
+      earlier = l .history;
+      accepted = e;
+      master = refl;
+      slave = for-slave b legal s hs m hm has u (l .end);
+      later = subst (λ (v : World). History b v (r .calls)) (sym (post-leaves b u q e)) (r .history);
+      clocks = r .count;
+      waits = r .before;
+      starts = r .then;
+    }

@@ -27,7 +27,7 @@ use Rattle.state.proofs.CycleLaws.{leftOf, left-resting}
 use Rattle.state.proofs.StateLaws.{slot-after, transfer-with, transfer-with-other, transfer-reset, slot-reset}
 use Rattle.state.proofs.DecodeLaws.{requests-not}
 use Rattle.bounds.proofs.Order.{chosen-nobody}
-use Rattle.history.specs.Claim.{Start}
+use Rattle.history.specs.Claim.{Start, Lent}
 use Rattle.state.proofs.StepLaws.{grant-serving, grant-given, step-rests}
 use Rattle.history.proofs.SlaveClock.{Acting, leftAt, potAt, leftNow}
 use Rattle.history.proofs.SlaveClock.{acts, owner-after, left-after, nearer}
@@ -160,7 +160,7 @@ module _ (b : Board) (legal : Legal b) (s : ℕ) (hs : s < b .«slave_count») (
     alone-lead zero w x = last-clock w x
     alone-lead (suc l) w x = one-clock l w x (alone-lead l (withClock b w))
 
-    module _ (hm : m < b .«master_count») (has : 1 ≤ sharesAt b m s) (w : World) (x : Start b w) where
+    module _ (hm : m < b .«master_count») (has : 1 ≤ sharesAt b m s) (w : World) (x : Start b w) (lent : Lent b w) where
       first : w .state ≡ stateAtReset b
       first = start-state b w x
 
@@ -171,7 +171,7 @@ module _ (b : Board) (legal : Legal b) (s : ℕ) (hs : s < b .«slave_count») (
       rests = rw (first, slot-reset b s hs (legal .fewSlaves))
 
       abbrev start : Standing b legal w
-      start = start-stands b legal w x
+      start = start-stands b legal w x lent
 
       taken : Taken b (w .state) (requestFor b s m 1)
       taken = request-taken b legal s hs (w .state) m 1 hm has (all-free m)

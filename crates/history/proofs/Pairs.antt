@@ -17,6 +17,7 @@ use Rattle.board.proofs.RuleLaws.{width-bound, burst-bound, span-bound}
 use Rattle.geometry.specs.declared.Transfer.{Transfer}
 use Rattle.geometry.specs.Accesses.{ratio, waitOf, ownLength}
 use Rattle.geometry.proofs.AccessLaws.{accesses-le}
+use Rattle.state.proofs.DecodeLaws.{Accepted}
 use Rattle.waits.specs.Waits as waits
 use Rattle.bounds.proofs.Credit.{credit, credit-zero, credit-suc}
 use Rattle.bounds.proofs.Potential.{quoted}
@@ -37,10 +38,18 @@ unfolding waits.mostBeats
 beats-most ma sl k h l f = let d : k ≤ sl .span / ma .width = le-div-iff-mul-le h .1 f in omega arith
 
 -- the own length of a transfer of k beats
-pub long-serve : (ma : Master) (sl : Slave) (t : Transfer) → t .beats ≤ waits.mostBeats ma sl
+long-serve : (ma : Master) (sl : Slave) (t : Transfer) → t .beats ≤ waits.mostBeats ma sl
     → ownLength ma sl t ≤ waits.serve ma sl (waits.longestAccess sl)
 unfolding ownLength waits.serve
 long-serve ma sl t h = mul-le-mul (accesses-le ma sl t (waits.mostBeats ma sl) h) (wait-longest sl t)
+
+-- an accepted transfer lasts no longer than the longest
+pub accepted-long : (b : Board) → Legal b → (j : ℕ) → j < b .«master_count» → (t : Transfer) (s : ℕ) → Accepted b j t s
+    → ownLength (masterAt b j) (slaveAt b s) t ≤ waits.serve (masterAt b j) (slaveAt b s) (waits.longestAccess (slaveAt b s))
+accepted-long b legal j hj t s a =
+    let w = width-bound (masterAt b j .width) (legal .master j hj .width) in
+    let f : t .beats * masterAt b j .width ≤ slaveAt b s .span = omega (arith, a .low, a .end) in
+    long-serve (masterAt b j) (slaveAt b s) t (beats-most (masterAt b j) (slaveAt b s) (t .beats) (w .0) (a .few) f)
 
 pub long-single : (ma : Master) (sl : Slave) (t : Transfer) → t .beats ≤ 1
     → ownLength ma sl t ≤ waits.single ma sl (waits.longestAccess sl)

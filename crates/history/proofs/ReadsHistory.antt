@@ -34,10 +34,11 @@ use Rattle.state.proofs.Sound.{Sound}
 use Rattle.state.proofs.StateLaws.{transfer-reset, slot-reset, mask-bit, mask-bit-past}
 use Rattle.state.proofs.StateLaws.{transfer-with, transfer-with-other, slot-with}
 use Rattle.state.proofs.SoundLaws.{post-sound}
-use Rattle.history.specs.Claim.{Call, next, after, History, Start}
+use Rattle.history.specs.Claim.{Call, next, after, History, Start, Lent}
 use Rattle.history.specs.Claim.{names, Reference, referenceAt, bytesIn, Order, seenAll, fedPost, fed}
-use Rattle.history.proofs.Calls.{withPost, withClock, Came, refused, postTaken, clockTaken, came, clock-stored, clock-answers}
-use Rattle.history.proofs.Standing.{Standing, Taken, post-taken, start-checked, start-state, start-stands, post-stands, clock-stands, clock-free}
+use Rattle.history.proofs.Calls.{withPost, withClock, Came, refused, postTaken, clockTaken, came, clock-stored, clock-answers, named-taken}
+use Rattle.history.proofs.Lengths.{clock-lent, lent-before}
+use Rattle.history.proofs.Standing.{Standing, Taken, post-taken, start-state, start-stands, post-stands, clock-stands}
 use Rattle.history.proofs.ReadsServing.{bytesHeld, endOf, Asked, served-kept}
 use Rattle.history.proofs.ReadsSlave.{Wants, Right, SameMaster, asked-kept}
 use Rattle.history.proofs.ReadsClock.{Agreed, lies, clock-right, clock-read}
@@ -185,10 +186,10 @@ pub record Good (b : Board) (legal : Legal b) (w : World) (r : Reference) : Type
   pub stands : Standing b legal w
   pub right : Agreed b (w .state) (w .store) r
 
-pub start-good : (b : Board) (legal : Legal b) (w : World) → Start b w → Good b legal w (referenceAt (w .store .memory))
-start-good b legal w s = record {
-  stands = start-stands b legal w s;
-  right = rw (start-state b w s) (reset-right b legal (w .store) (s .memory) (s .buffer));
+pub start-good : (b : Board) (legal : Legal b) (w : World) → Start b w → Lent b w → Good b legal w (referenceAt (w .store .memory))
+start-good b legal w s lent = record {
+  stands = start-stands b legal w s lent;
+  right = rw (start-state b w s) (reset-right b legal (w .store) (lent .memory) (lent .buffer));
 }
 
 module _ (b : Board) (legal : Legal b) where
@@ -246,10 +247,12 @@ pub reads-right : (b : Board) → Legal b → (w : World) (calls : List Call) (o
     names m a ≡ true → r .request m .write ≡ false
     → take (bytesIn b (r .request m)) (drop (partOf m) (storeAfterClock b (u .state) (u .store) .buffer)) ≡ r .given m
 unfolding names
-reads-right b legal w calls orders last m s h =
+reads-right b legal w calls orders last m s h n =
     let f = fed b orders (referenceAt (w .store .memory)) calls in
-    let g = history-good b legal orders calls w (referenceAt (w .store .memory)) (start-good b legal w s) h in
     let u = after w calls in
-    let free = clock-free b legal (start-checked b w s) u (g .stands) in
+    let free = named-taken b (u .state) (u .store) m n in
+    let lent = lent-before b calls w h (clock-lent b u free) in
+    let g = history-good b legal orders calls w (referenceAt (w .store .memory)) (start-good b legal w s lent) h in
+    let named-now : bit (maskOf b (u .state)) m ≡ true = rw (clock-answers b u free) at n in
     rw (clock-answers b u free, clock-stored b u free)
-    (λ n. clock-read b legal (u .state) (g .stands .sound) last (u .store) f m (g .right) (named b (u .state) m n))
+    (clock-read b legal (u .state) (g .stands .sound) last (u .store) f m (g .right) (named b (u .state) m named-now))

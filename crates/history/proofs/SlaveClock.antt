@@ -3,13 +3,12 @@
 use mathlib.Core.Path.{_≡_, refl, sym, ap, subst, subst₃, _∙_}
 use mathlib.Core.Bool.{Bool, true, false, true≢false, false≢true}
 use mathlib.Core.Logic.{_⊎_, inl, inr, ⊎-elim, _≢_}
-use Prim.Native.Nat.{ℕ, suc, _+_, _-_, _*_, _≤_, _<_}
+use Prim.Native.Nat.{ℕ, suc, _+_, _-_, _≤_, _<_}
 use native.Mathlib.Decide.{ℕ-discrete}
 use native.Mathlib.Omega.{arith}
 use Rattle.board.specs.declared.Board.{Board}
 use Rattle.board.specs.Records.{masterAt, slaveAt}
 use Rattle.board.specs.Legal.{Legal}
-use Rattle.board.proofs.RuleLaws.{width-bound}
 use Rattle.geometry.specs.declared.Transfer.{Transfer}
 use Rattle.geometry.specs.Accesses.{accesses, waitOf, ownLength}
 use Rattle.arbiter.specs.declared.Grant.{Grant}
@@ -28,7 +27,7 @@ use Rattle.state.proofs.DecodeLaws.{Accepted, accepted-at, requests-held, reque
 use Rattle.bounds.proofs.Order.{between}
 use Rattle.bounds.proofs.Credit.{credit, credit-zero}
 use Rattle.bounds.proofs.Potential.{pot, some-grant, grant-turn, grant-falls, grant-next}
-use Rattle.history.proofs.Pairs.{sharesOf, singleOf, serveOf, beats-most, long-serve, long-single}
+use Rattle.history.proofs.Pairs.{sharesOf, singleOf, serveOf, accepted-long, long-single}
 
 -- the clocks left of what slave s serves
 abbrev pub leftAt : Board → State → ℕ → ℕ
@@ -87,12 +86,9 @@ module _ (b : Board) (legal : Legal b) (st : State) (sound : Sound b st) (s : �
   pub asks-fit : (j : ℕ) → j < masters → requests b st s j ≡ true
       → (1 ≤ shares j) × (long j ≤ serve j) × (beats j ≤ 1 → long j ≤ single j)
   asks-fit j hj q =
-      let a = asks-accepted j q in
-      let w = width-bound (masterAt b j .width) (legal .master j hj .width) in
-      let f : beats j * masterAt b j .width ≤ slaveAt b s .span = omega (arith, a .low, a .end) in (
+      let a = asks-accepted j q in (
         a .shares,
-        long-serve (masterAt b j) (slaveAt b s) (transferAt st j)
-            (beats-most (masterAt b j) (slaveAt b s) (beats j) (w .0) (a .few) f),
+        accepted-long b legal j hj (transferAt st j) s a,
         long-single (masterAt b j) (slaveAt b s) (transferAt st j),
       )
 

@@ -33,7 +33,7 @@ use Rattle.state.proofs.StateLaws.{slot-with, transfer-with-other, slot-reset}
 use Rattle.state.proofs.DecodeLaws.{requests-held}
 use Rattle.state.proofs.SoundLaws.{sound-test, reset-sound, post-sound, clock-sound, grant-sound, served-kept}
 use Rattle.bounds.proofs.Credit.{credit-zero}
-use Rattle.history.specs.Claim.{Call, Start, History, next, after}
+use Rattle.history.specs.Claim.{Call, Start, Lent, History, next, after}
 use Rattle.history.proofs.Pairs.{singleOf, serveOf}
 use Rattle.history.proofs.SlaveClock.{leftAt, InTurn, Paced, Acting, step-serving, pace-after}
 use Rattle.history.proofs.Calls.{withPost, withClock, Came, refused, postTaken, clockTaken, came}
@@ -156,9 +156,9 @@ module _ (b : Board) (legal : Legal b) where
 
   -- ---- from the reset on
 
-  pub start-stands : (w : World) → Start b w → Standing b legal w
+  pub start-stands : (w : World) → Start b w → Lent b w → Standing b legal w
   unfolding InTurn
-  start-stands w x = record {
+  start-stands w x lent = record {
     sound = subst (Sound b) (sym first) (reset-sound b legal);
     paced = λ s hs.
         let e : slotAt (w .state) s ≡ _ = ap (λ (y : State). slotAt y s) first ∙ slot-reset b s hs (legal .fewSlaves) in
@@ -169,8 +169,8 @@ module _ (b : Board) (legal : Legal b) where
           credit-zero (singleOf b legal s hs o) (serveOf b legal s hs o) (slotAt (w .state) s .remaining)
               (ap (λ (y : Slot). y .remaining) e),
         );
-    memory = x .memory;
-    buffer = x .buffer;
+    memory = lent .memory;
+    buffer = lent .buffer;
   }
     where
       first : w .state ≡ stateAtReset b

@@ -22,6 +22,9 @@ use Rattle.state.specs.Records.{noLine}
 use Rattle.state.specs.Posting.{Request, transferOf}
 use Rattle.fabric.specs.Calls.{World, reset, post, bufferAfterPost, clock, storeAfterClock}
 use Rattle.waits.specs.Waits.{quotedWait}
+use Rattle.description.specs.Writer.{writeText}
+use Rattle.quote.specs.Calls.{quoteOf}
+use Rattle.history.specs.WaitCall.{WaitAnswered}
 
 -- ---- the list
 
@@ -62,10 +65,13 @@ unfoldable pub History : Board → World → List Call → Type 0
 History b w [] = Unit {0}
 History b w (c ∷ cs) = ((numberAnswered c ≢ 0) ⊎ Handed b w c) × History b (next w c) cs
 
--- "A history starts at a reset not refused"; the memory and the buffer lent are of their exact lengths
+-- "A history starts at a reset not refused", whatever memory and buffer are lent
 pub record Start (b : Board) (w : World) : Type 0 where
   pub accepted : reset b .number ≡ 0
   pub state : w .state ≡ reset b .state
+
+-- the memory and the buffer lent are of their exact lengths
+pub record Lent (b : Board) (w : World) : Type 0 where
   pub memory : length (w .store .memory) ≡ memoryLength b
   pub buffer : length (w .store .buffer) ≡ bufferLength
 
@@ -103,10 +109,11 @@ Accepted b w q = post b (w .state) (w .store .buffer) q .number ≡ 0
 unfoldable pub afterPosting : Board → World → Request → World
 afterPosting b w q = leaves w (posts b (w .state) (w .store .buffer) q)
 
--- "let w be the pair's quoted wait"
+-- "let w be the pair's quoted wait": the w of every part of the claim
 unfoldable pub waitFor : Board → Request → ℕ
 waitFor b q = quotedWait b (q .master) (slaveFor b q)
 
+-- "own length"
 unfoldable pub lengthOf : Board → Request → ℕ
 lengthOf b q = ownLength (masterAt b (q .master)) (slaveAt b (slaveFor b q)) (transferOf q)
 
@@ -198,6 +205,30 @@ fed b orders r (clocks b′ st d ∷ cs) =
 
 -- ---- the claim
 
+-- a history in which a transfer of master m at slave s has its first cycle at clock w + 1, with the w of the claim, and none
+-- before: it waits exactly w
+pub record Exact (b : Board) (start : World) (m s : ℕ) : Type 0 where
+  pub before : List Call
+  pub request : Request
+  pub calls : List Call
+  pub earlier : History b start before
+  pub accepted : Accepted b (after start before) request
+  pub master : request .master ≡ m
+  pub slave : slaveFor b request ≡ s
+  pub later : History b (afterPosting b (after start before) request) calls
+  pub clocks : length (answers calls) ≡ waitFor b request + 1
+  pub waits : any (shows m) (take (waitFor b request) (answers calls)) ≡ false
+  pub starts : any (shows m) (answers calls) ≡ true
+
+-- what the wait calls answer for the pair of a request: `quote_of` on the board, `fabric_wait` on the writer's text of it
+pub record Figures (b : Board) (q : Request) : Type 0 where
+  pub number : quoteOf b (q .master) (slaveFor b q) .number ≡ 0
+  pub wait : quoteOf b (q .master) (slaveFor b q) .wait ≡ waitFor b q
+  -- "the longest transfer ("serve")": this one is no longer
+  pub serve : lengthOf b q ≤ quoteOf b (q .master) (slaveFor b q) .serve
+  pub text : (out : List ℕ) → 16 ≤ length out
+      → WaitAnswered (writeText b) (q .master) (slaveFor b q) (waitFor b q) (quoteOf b (q .master) (slaveFor b q) .serve) out
+
 pub record Demand3 (b : Board) : Type 0 where
   -- "the first cycle is no later than clock w + 1 .. once the history has that clock"
   pub within : (w : World) (before : List Call) (q : Request) (calls : List Call) → Start b w → History b w before
@@ -209,14 +240,13 @@ pub record Demand3 (b : Board) : Type 0 where
       → Accepted b (after w before) q → History b (afterPosting b (after w before) q) calls
       → waitFor b q + lengthOf b q ≤ length (answers calls)
       → any (names (q .master)) (take (waitFor b q + lengthOf b q) (answers calls)) ≡ true
-  -- tight: for each connected pair a history in which a transfer has its first cycle at clock w + 1 exactly
-  pub exact : (w : World) → Start b w → (m s : ℕ) → m < b .«master_count» → connected b m s ≡ true
-      → (before : List Call) × (q : Request) × (calls : List Call)
-      × History b w before × Accepted b (after w before) q × (q .master ≡ m) × (slaveFor b q ≡ s)
-      × History b (afterPosting b (after w before) q) calls
-      × (length (answers calls) ≡ quotedWait b m s + 1)
-      × (any (shows m) (take (quotedWait b m s) (answers calls)) ≡ false)
-      × (any (shows m) (answers calls) ≡ true)
+  -- tight: each connected pair has a transfer that waits exactly w
+  pub exact : (w : World) (m s : ℕ) → Start b w → Lent b w → m < b .«master_count» → connected b m s ≡ true → Exact b w m s
+  -- "which the wait call answers": for every request that is accepted, wherever it is posted
+  pub quoted : (w : World) (q : Request) → Accepted b w q → Figures b q
+  -- each connected pair has a transfer that lasts exactly its serve
+  pub longest : (w : World) (m s : ℕ) → Start b w → Lent b w → m < b .«master_count» → connected b m s ≡ true
+      → (q : Request) × Accepted b w q × (q .master ≡ m) × (slaveFor b q ≡ s) × (lengthOf b q ≡ quoteOf b m s .serve)
   -- "As the finishing clock leaves it, the front of its master's part .. equals what the read's step gave."
   -- with any orders in the clocks before, and any order, last, in the finishing clock
   pub reads : (w : World) (calls : List Call) (orders : ℕ → Order) (last : Order) (m : ℕ) → Start b w → History b w calls
@@ -226,7 +256,7 @@ pub record Demand3 (b : Board) : Type 0 where
       names m a ≡ true → r .request m .write ≡ false
       → take (bytesIn b (r .request m)) (drop (partOf m) (storeAfterClock b (u .state) (u .store) .buffer)) ≡ r .given m
   -- a call handed what the history left is refused for nothing of 2 to 9
-  pub served : (w : World) (calls : List Call) (q : Request) → Start b w → History b w calls
+  pub served : (w : World) (calls : List Call) (q : Request) → Start b w → Lent b w → History b w calls
       → let u = after w calls in
       (clock b (u .state) (u .store) .number ≡ 0)
       × ((post b (u .state) (u .store .buffer) q .number ≡ 0) ⊎ (11 ≤ post b (u .state) (u .store .buffer) q .number))

@@ -1,0 +1,118 @@
+-- Demand 3 and the wait call: the call answers the w of the claim, no accepted transfer lasts longer than its serve, and one of
+-- each connected pair lasts exactly so long.
+-- Assumes nothing.
+use mathlib.Core.Path.{_≡_, refl, sym, ap, _∙_}
+use mathlib.Core.Bool.{true}
+use Prim.Native.Nat.{ℕ, _≤_, _<_}
+use native.Mathlib.Omega.{arith}
+use lib.Dec.{ltb}
+use borrow.Author.Tests.{ltb-true}
+use Rattle.laws.proofs.Tests.{both}
+use Rattle.board.specs.declared.Board.{Board}
+use Rattle.board.specs.Records.{masterAt, slaveAt, sharesAt, connected}
+use Rattle.board.specs.Items.{checkBoard}
+use Rattle.board.specs.Legal.{Legal}
+use Rattle.geometry.specs.declared.Transfer.{Transfer}
+use Rattle.geometry.specs.Decoding.{selects}
+use Rattle.geometry.specs.Accesses.{ownLength}
+use Rattle.state.specs.declared.State.{State}
+use Rattle.state.specs.Records.{transferAt}
+use Rattle.state.specs.Posting.{Request, transferOf}
+use Rattle.fabric.specs.Calls.{World, post}
+use Rattle.state.proofs.DecodeLaws.{selects-target}
+use Rattle.state.proofs.StateLaws.{transfer-reset}
+use Rattle.waits.specs.Waits.{quotedWait, serveOf}
+use Rattle.quote.specs.declared.Quoted.{Quoted}
+use Rattle.quote.specs.Calls.{quoteOf}
+use Rattle.quote.proofs.AnswerLaws.{quote-connected}
+use Rattle.history.specs.Claim as claim
+use Rattle.history.specs.Claim.{Start, Lent, slaveFor, waitFor, lengthOf, Figures}
+use Rattle.history.proofs.Pairs.{accepted-long}
+use Rattle.history.proofs.Standing.{Taken, post-taken, start-stands, start-state}
+use Rattle.history.proofs.Safe.{fits}
+use Rattle.history.proofs.ExactRequests.{requestFor, transferFor, last-serve, base-selects}
+use Rattle.history.proofs.ExactCalls.{post-accepted}
+use Rattle.history.proofs.ExactRuns.{request-taken}
+use Rattle.history.proofs.WaitCall.{connected-within, written-answered}
+
+module _ (b : Board) (legal : Legal b) (ok : checkBoard b ≡ 0) where
+  module _ (w : World) (q : Request) (accepted : claim.Accepted b w q) where
+    taken : Taken b (w .state) q
+    unfolding claim.Accepted post
+    taken = post-taken b (w .state) (w .store .buffer) q accepted
+
+    joined : connected b (q .master) (slaveFor b q) ≡ true
+    unfolding slaveFor selects
+    joined = both (connected b (q .master) (slaveFor b q)) _ (fits b legal (w .state) q taken .selected) .0
+
+    answer : quoteOf b (q .master) (slaveFor b q)
+        ≡ record { number = 0; wait = quotedWait b (q .master) (slaveFor b q); serve = serveOf b (q .master) (slaveFor b q) }
+    answer = quote-connected b (q .master) (slaveFor b q) ok (taken .master) joined
+
+    -- the wait that is quoted is the w of the claim
+    wait-is : quotedWait b (q .master) (slaveFor b q) ≡ waitFor b q
+    unfolding waitFor
+    wait-is = refl
+
+    -- "A single lasts at most .., the longest transfer ..": no accepted transfer lasts longer
+    length-within : lengthOf b q ≤ serveOf b (q .master) (slaveFor b q)
+    unfolding lengthOf slaveFor serveOf
+    length-within =
+        omega (
+          arith,
+          accepted-long b legal (q .master) (taken .master) (transferOf q) (slaveFor b q) (fits b legal (w .state) q taken),
+        )
+
+    pub figures : Figures b q
+    figures =
+        let e = ap (λ (a : Quoted). a .serve) answer in
+        record {
+          number = ap (λ (a : Quoted). a .number) answer;
+          wait = ap (λ (a : Quoted). a .wait) answer ∙ wait-is;
+          serve = rw e length-within;
+          text = λ out room.
+              rw (e, ← wait-is)
+              (written-answered b ok (q .master) (slaveFor b q) out (taken .master) joined room);
+        }
+
+  -- ---- one transfer as long as that
+
+  module _ (w : World) (m s : ℕ) (start : Start b w) (lent : Lent b w) (hm : m < b .«master_count») (c : connected b m s ≡ true) where
+    hs : s < b .«slave_count»
+    hs = connected-within b m s c
+
+    has : 1 ≤ sharesAt b m s
+    unfolding connected
+    has = ltb-true 0 (sharesAt b m s) (both (ltb s (b .«slave_count»)) (ltb 0 (sharesAt b m s)) c .1)
+
+    -- the longest transfer of m at s, posted after the reset
+    abbrev last : Request
+    last = requestFor b s m 0
+
+    last-taken : Taken b (w .state) last
+    last-taken =
+        request-taken b legal s hs (w .state) m 0 hm has
+        (ap (λ (st : State). transferAt st m .held) (start-state b w start) ∙ ap (λ (t : Transfer). t .held) (transfer-reset b m))
+
+    last-slave : slaveFor b last ≡ s
+    unfolding slaveFor requestFor
+    last-slave = selects-target b legal m (slaveAt b s .base) s (base-selects b legal s hs m hm has)
+
+    last-long : lengthOf b last ≡ serveOf b m s
+    unfolding lengthOf serveOf requestFor transferFor
+    last-long =
+        omega (
+          arith,
+          ap (λ (k : ℕ). ownLength (masterAt b m) (slaveAt b k) (transferFor b s m 0)) last-slave,
+          last-serve b legal s hs m 0 refl,
+        )
+
+    pub longest : (q : Request) × claim.Accepted b w q × (q .master ≡ m) × (slaveFor b q ≡ s) × (lengthOf b q ≡ quoteOf b m s .serve)
+    unfolding claim.Accepted post requestFor
+    longest = (
+      last,
+      post-accepted b legal ok w last (start-stands b legal w start lent) last-taken,
+      refl,
+      last-slave,
+      last-long ∙ sym (ap (λ (a : Quoted). a .serve) (quote-connected b m s ok hm c)),
+    )
