@@ -7,6 +7,7 @@ ghost use Rattle.streams.specs.Calls.{told, Call};
 ghost use Rattle.streams.specs.Reading.{Gathered};
 use libc::EAGAIN;
 use libc::EINTR;
+use libc::types::timespec;
 
 // How a reading went: the bytes stand in front of `end`. `ended`: a read answered 0, the end of the input. `failed`: a read
 // failed for good, and errno says why. Neither: the room is full.
@@ -45,9 +46,18 @@ fn judge(got: isize, error: i32) -> Told
     Told::Failed
 }
 
-// Sleeps for about a millisecond.
+fn millisecond() -> timespec {
+    timespec {
+        tv_sec: 0,
+        tv_nsec: 1000000,
+    }
+}
+
+// Sleeps for a millisecond, or until a signal comes.
 fn pause() {
-    libc::sched_yield();
+    let asked = millisecond();
+    let mut left = millisecond();
+    libc::nanosleep(&asked, &mut left);
 }
 
 // One read into the front of `room`. errno is taken before another call can change it.
