@@ -75,22 +75,25 @@ module _ (got error : ℤ) (f : SFits w64 got) where
   told-nothing = nothing got error f
 
 -- the tests of errno, of a call that failed
-module _ (got error : ℤ) (f : SFits w64 got) (g : SFits w32 error) (h : ltZ (pos 0) (toZ w64 (ofZ w64 got)) ≡ false) (e : ofZ w64 got ≡ 0 → ⊥) where
-  failure : told got error ≡ told (negsuc 0) error
-  failure = refused got error (subst (λ (z : ℤ). ltZ (pos 0) z ≡ false) (toZ-ofZ f) h) e
+module _
+    (got error : ℤ) (f : SFits w64 got) (g : SFits w32 error) (h : ltZ (pos 0) (toZ w64 (ofZ w64 got)) ≡ false)
+    (e : ofZ w64 got ≡ 0 → ⊥)
+  where
+    failure : told got error ≡ told (negsuc 0) error
+    failure = refused got error (subst (λ (z : ℤ). ltZ (pos 0) z ≡ false) (toZ-ofZ f) h) e
 
-  pub told-again : ofZ w32 error ≡ interrupted → Again ≡ told got error
-  unfolding told
-  told-again a = rw (failure, is-yes interrupted error g (omega arith) a)
+    pub told-again : ofZ w32 error ≡ interrupted → Again ≡ told got error
+    unfolding told
+    told-again a = rw (failure, is-yes interrupted error g (omega arith) a)
 
-  pub told-later : (ofZ w32 error ≡ interrupted → ⊥) → ofZ w32 error ≡ unready → Later ≡ told got error
-  unfolding told
-  told-later a b = rw (failure, is-no interrupted error a, is-yes unready error g (omega arith) b)
+    pub told-later : (ofZ w32 error ≡ interrupted → ⊥) → ofZ w32 error ≡ unready → Later ≡ told got error
+    unfolding told
+    told-later a b = rw (failure, is-no interrupted error a, is-yes unready error g (omega arith) b)
 
-  pub told-failed :
-      (ofZ w32 error ≡ interrupted → ⊥) → (ofZ w32 error ≡ unready → ⊥) → Failed ≡ told got error
-  unfolding told
-  told-failed a b = rw (failure, is-no interrupted error a, is-no unready error b)
+    pub told-failed :
+        (ofZ w32 error ≡ interrupted → ⊥) → (ofZ w32 error ≡ unready → ⊥) → Failed ≡ told got error
+    unfolding told
+    told-failed a b = rw (failure, is-no interrupted error a, is-no unready error b)
 
 -- a call, from what `libc` says of its answer and what is told of that
 pub call-told :

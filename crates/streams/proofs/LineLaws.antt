@@ -30,7 +30,9 @@ holds-put before bytes after at r h p =
     let m : length (take at before ++ take room bytes) ≡ r = simp length-append (omega (arith, p .end)) in
     let l : length after ≡ length before = ap length (p .bytes) ∙ length-sets before at (take room bytes) in
     record {
-      same = ap (take r) e ∙ take-at (take at before ++ take room bytes) _ r m ∙ sym (take-front (length after) (take at before) bytes room (omega arith));
+      same =
+          ap (take r) e ∙ take-at (take at before ++ take room bytes) _ r m
+          ∙ sym (take-front (length after) (take at before) bytes room (omega arith));
       fits = (omega (arith, p .end), sym (length-take-le r after (omega (arith, p .end))));
     }
 

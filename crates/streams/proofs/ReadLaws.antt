@@ -11,14 +11,12 @@ use lib.ListN.{length, take, drop, length-append}
 use lib.Seq.{length-take-le, take-append-le, take-append-add}
 use borrow.Rule.Slice.PartMut.{putMid, same-len-mid}
 use Rattle.laws.proofs.TextLists.{part-rest-length}
-use Rattle.io.specs.Counts.{Counts}
 use Rattle.libc.specs.Io.{Moved}
 use Rattle.streams.specs.Calls.{interrupted, unready, is, retried, told, Call}
 use Rattle.streams.specs.Reading.{
   Answer,
   gave,
   failed,
-  answered,
   given,
   gathered,
   Standing,
@@ -27,10 +25,12 @@ use Rattle.streams.specs.Reading.{
   going,
   standing,
   Lent,
+  outcomeOf,
   mostReads,
   Marks,
   Gathered,
 }
+use Rattle.streams.specs.declared.Got.{Got}
 use Rattle.streams.specs.declared.Told.{Told}
 use Rattle.streams.specs.declared.Told.the-variants.{Bytes, Nothing, Again, Later, Failed}
 
@@ -104,7 +104,8 @@ lent-more room (y ∷ ys) x h l s p =
     let e : length (gathered (y ∷ ys)) ≡ length (given y) + length (gathered ys) =
     ap length (gathered-on y ys g) ∙ length-append (given y) (gathered ys)
     in
-    (l .0, l .1, inl g, lent-more (room - length (given y)) ys x (sym (standing-on y ys g) ∙ h) (l .3) (omega arith) (omega arith))
+    let more = lent-more (room - length (given y)) ys x (sym (standing-on y ys g) ∙ h) (l .3) in
+    (l .0, l .1, inl g, more (omega arith) (omega arith))
 
 -- ---- one read
 
@@ -122,6 +123,11 @@ behind end Nothing = end
 behind end Again = end
 behind end Later = end
 behind end Failed = end
+
+-- a read's answer, by what it left in the room that it was lent
+unfoldable answered : ℤ → ℤ → List ℕ → Answer
+answered (pos n) error room = gave (take n room)
+answered (negsuc n) error room = failed error
 
 -- r tells of the answer a of a read into a room
 record Tells (room : List ℕ) (a : Answer) (end : ℕ) (r : Told) : Type 0 where
@@ -200,7 +206,9 @@ module _
     (into : List ℕ) (end reads : ℕ) (room : List ℕ) (g : Reached going into end reads) (h : end < length into)
     (l : length room ≡ length (take (length into - end) (drop end into))) (left : reads ≡ 0 → ⊥)
   where
-    reached-more : (a : Answer) (r : Told) → Tells room a end r → Reached (stands r) (with-room into end room) (behind end r) (reads - 1)
+    reached-more :
+        (a : Answer) (r : Told) → Tells room a end r
+        → Reached (stands r) (with-room into end room) (behind end r) (reads - 1)
     reached-more a r t =
         let m : length room ≡ length into - end = l ∙ part-rest-length into end in
         let n : length (gathered (g .answers)) ≡ end = ap length (sym (g .handed)) ∙ length-take-le end into (g .within) in
@@ -227,40 +235,40 @@ module _
         subst
         (λ (t : Told). Reached (stands t) (with-room into end room) (behind end t) (reads - 1))
         (sym (k .tells))
-        (reached-more (answered (k .got) (k .error) room) (told (k .got) (k .error)) (tells-of room end (k .got) (k .error) (k .moved)))
+        (reached-more _ _ (tells-of room end (k .got) (k .error) (k .moved)))
 
 -- ---- a reading that is over
 
--- the bytes in front of `end`
-module _ {s : Standing} (into : List ℕ) (end reads : ℕ) (g : Reached s into end reads) where
-  fits : Counts end into
-  fits = (g .within, sym (length-take-le end into (g .within)))
-
+module _ {s : Standing} (into : List ℕ) (end reads : ℕ) (g : Reached s into end reads) (r : Got) where
   over :
-      (e f : Bool) → Marks s (length (g .answers)) (length into) (record { end = end; ended = e; failed = f })
-      → Gathered into (record { end = end; ended = e; failed = f })
-  over e f m =
-      record {
+      (e f : Bool) → r ≡ outcomeOf end e f → Marks s (length (g .answers)) (length into) (outcomeOf end e f)
+      → Gathered into r
+  over e f o m =
+      subst
+      (Gathered into)
+      (sym o)
+      (record {
         answers = g .answers;
         handed = g .handed;
         lent = g .lent;
         marks = rw (g .stands) m;
-        fits = fits;
-      }
+        fits = (g .within, sym (length-take-le end into (g .within)));
+      })
 
 -- by the end of the input, by a failure, by the last of the reads, by a full room
-pub over-ended : (into : List ℕ) (end reads : ℕ) → Reached ended into end reads → Gathered into (record { end = end; ended = true; failed = false })
-unfolding Marks
-over-ended into end reads g = over into end reads g true false (refl, refl)
+module _ (into : List ℕ) (end reads : ℕ) (r : Got) where
+  pub over-ended : Reached ended into end reads → r ≡ outcomeOf end true false → Gathered into r
+  unfolding Marks
+  over-ended g o = over into end reads g r true false o (refl, refl)
 
-pub over-failed : (into : List ℕ) (end reads : ℕ) → Reached broken into end reads → Gathered into (record { end = end; ended = false; failed = true })
-unfolding Marks
-over-failed into end reads g = over into end reads g false true (refl, refl)
+  pub over-failed : Reached broken into end reads → r ≡ outcomeOf end false true → Gathered into r
+  unfolding Marks
+  over-failed g o = over into end reads g r false true o (refl, refl)
 
-pub over-spent : (into : List ℕ) (end reads : ℕ) → Reached going into end reads → reads ≡ 0 → Gathered into (record { end = end; ended = false; failed = true })
-unfolding Marks
-over-spent into end reads g e = over into end reads g false true (refl, omega (arith, g .counted))
+  pub over-spent : Reached going into end reads → reads ≡ 0 → r ≡ outcomeOf end false true → Gathered into r
+  unfolding Marks
+  over-spent g h o = over into end reads g r false true o (refl, omega (arith, g .counted))
 
-pub over-full : (into : List ℕ) (end reads : ℕ) → Reached going into end reads → length into ≤ end → Gathered into (record { end = end; ended = false; failed = false })
-unfolding Marks
-over-full into end reads g h = over into end reads g false false (refl, omega (arith, g .within))
+  pub over-full : Reached going into end reads → length into ≤ end → r ≡ outcomeOf end false false → Gathered into r
+  unfolding Marks
+  over-full g h o = over into end reads g r false false o (refl, omega (arith, g .within))

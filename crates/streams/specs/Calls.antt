@@ -34,7 +34,8 @@ told (pos zero) error = Nothing
 told (pos (suc n)) error = Bytes (suc n)
 told (negsuc n) error = cond (is interrupted error) Again (cond (is unready error) Later Failed)
 
--- r tells of a call that was lent `bytes`: of an answer and an errno, of which `libc::read` and `libc::write` say no more
+-- r tells of a call that was lent `bytes`. Of its answer `libc` promises only that it is -1 or at most their number, and of errno
+-- nothing.
 pub record Call (bytes : List ℕ) (r : Told) : Type 0 where
   pub got : ℤ
   pub error : ℤ

@@ -1,12 +1,12 @@
 -- What the reads of an input hand on: the bytes that they gave, up to the first that gave none. Only that one is the end of the
 -- input: a read that fails is tried again, or the reading has failed.
 -- Assumes nothing.
-use mathlib.Core.Bool.{true, false, cond}
+use mathlib.Core.Bool.{Bool, true, false, cond}
 use mathlib.Core.List.{List, [], _∷_, _++_}
 use mathlib.Core.Logic.{_⊎_}
 use mathlib.Core.Path.{_≡_}
 use Prim.Native.Nat.{ℕ, _-_, _^_, _≤_, _<_}
-use lib.IntN.{ℤ, pos, negsuc}
+use lib.IntN.{ℤ}
 use lib.ListN.{length, take}
 use Rattle.io.specs.Counts.{Counts}
 use Rattle.streams.specs.Calls.{retried}
@@ -16,11 +16,6 @@ use Rattle.streams.specs.declared.Got.{Got}
 pub data Answer : Type 0 where
   gave : List ℕ → Answer
   failed : ℤ → Answer
-
--- a read's answer, by what it left in the room that it was lent
-unfoldable pub answered : ℤ → ℤ → List ℕ → Answer
-answered (pos n) error room = gave (take n room)
-answered (negsuc n) error room = failed error
 
 -- the bytes that an answer gave
 unfoldable pub given : Answer → List ℕ
@@ -54,6 +49,10 @@ Lent room [] = Unit {0}
 Lent room (answer ∷ rest) =
     (0 < room) × (length (given answer) ≤ room) × (standing (answer ∷ []) ≡ going ⊎ rest ≡ [])
     × Lent (room - length (given answer)) rest
+
+-- a reading's end and its two marks
+abbrev pub outcomeOf : ℕ → Bool → Bool → Got
+outcomeOf end e f = record { end = end; ended = e; failed = f }
 
 -- the most reads that a reading makes
 abbrev pub mostReads : ℕ

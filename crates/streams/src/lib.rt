@@ -4,7 +4,7 @@ mod lines;
 
 ghost use mathlib.Core.Path.{_≡_};
 ghost use Rattle.streams.specs.Calls.{told, Call};
-ghost use Rattle.streams.specs.Reading.{Gathered};
+ghost use Rattle.streams.specs.Reading.{outcomeOf, Gathered};
 use libc::EAGAIN;
 use libc::EINTR;
 use libc::types::timespec;
@@ -78,6 +78,16 @@ fn write_once(fd: i32, bytes: &[u8]) -> Told
     judge(got, error)
 }
 
+fn outcome(end: usize, ended: bool, failed: bool) -> Got
+    ensures { λ r. ⌜ r ≡ outcomeOf end ended failed ⌝ }
+{
+    Got {
+        end: end,
+        ended: ended,
+        failed: failed,
+    }
+}
+
 // Reads until `into` is full, a read answers 0 or a read fails for good. EINTR and EAGAIN are tried again, EAGAIN after a short
 // sleep. Each read goes behind the bytes read before it, into room for a byte at least: a read that is lent no room answers 0
 // too. Nothing says that an input ends, so the reads are counted, and running out of them is a failure.
@@ -88,39 +98,19 @@ pub fn read_all(fd: i32, into: &mut [u8]) -> Got
     let mut end = 0;
     while end < into.len() {
         if reads == 0 {
-            return Got {
-                end: end,
-                ended: false,
-                failed: true,
-            };
+            return outcome(end, false, true);
         }
         reads -= 1;
         let r = read_once(fd, &mut into[end..]);
         match r {
             Told::Bytes(n) => end += n,
-            Told::Nothing => {
-                return Got {
-                    end: end,
-                    ended: true,
-                    failed: false,
-                };
-            }
+            Told::Nothing => return outcome(end, true, false),
             Told::Again => {}
             Told::Later => pause(),
-            Told::Failed => {
-                return Got {
-                    end: end,
-                    ended: false,
-                    failed: true,
-                };
-            }
+            Told::Failed => return outcome(end, false, true),
         }
     }
-    Got {
-        end: end,
-        ended: false,
-        failed: false,
-    }
+    outcome(end, false, false)
 }
 
 // Writes all of `bytes`, with EINTR and EAGAIN as `read_all` has them. false: a write failed for good, and errno says why, or it

@@ -21,12 +21,28 @@ returns-3 c =
 returns-4 : tie.Need-returns-4
 returns-4 c =
     let s = c .before .before .before .before in
-    told-later _ _ (s .fits .got) (s .fits .error) (c .before .before .before .if1 .left) (c .before .before .if2 .left) (c .before .if3 .left) (c .if4 .taken)
+    told-later
+    _
+    _
+    (s .fits .got)
+    (s .fits .error)
+    (c .before .before .before .if1 .left)
+    (c .before .before .if2 .left)
+    (c .before .if3 .left)
+    (c .if4 .taken)
 
 returns-5 : tie.Need-returns-5
 returns-5 c =
     let s = c .before .before .before .before in
-    told-failed _ _ (s .fits .got) (s .fits .error) (c .before .before .before .if1 .left) (c .before .before .if2 .left) (c .before .if3 .left) (c .if4 .left)
+    told-failed
+    _
+    _
+    (s .fits .got)
+    (s .fits .error)
+    (c .before .before .before .if1 .left)
+    (c .before .before .if2 .left)
+    (c .before .if3 .left)
+    (c .if4 .left)
 
 pub judge-spec : {M : Type 1} → statement M
 judge-spec = tie.close (tie.spec cast-t4 returns returns-2 returns-3 returns-4 returns-5)

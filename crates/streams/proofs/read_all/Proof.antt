@@ -1,4 +1,5 @@
--- `streams::read_all` meets its contract: each pass adds the answer of one read to those before it. The measure is the reads that are left.
+-- `streams::read_all` meets its contract: each pass adds the answer of one read to those before it. The measure is the reads
+-- that are left.
 -- Assumes nothing.
 use mathlib.Core.List.{List}
 use mathlib.Core.Path.{_≡_, refl, subst, _∙_}
@@ -8,7 +9,19 @@ use lib.ListN.{length}
 use borrow.Author.Needs.{needs}
 use Rattle.streams.specs.Reading.{going}
 use Rattle.streams.specs.declared.Told.{Told}
-use Rattle.streams.proofs.ReadLaws.{Reached, reached-none, reached-next, with-room, length-with, stands, behind, over-ended, over-failed, over-spent, over-full}
+use Rattle.streams.proofs.ReadLaws.{
+  Reached,
+  reached-none,
+  reached-next,
+  with-room,
+  length-with,
+  stands,
+  behind,
+  over-ended,
+  over-failed,
+  over-spent,
+  over-full,
+}
 use Rattle.streams.proofs.read_all.Statement.{statement}
 use Rattle.streams.proofs.read_all.Tie as tie
 
@@ -18,7 +31,7 @@ Inv-loop fd into₀ reads₀ end₀ into reads end = (length into ≡ length int
 abbrev μ-loop : tie.MeasureT-loop
 μ-loop fd into₀ reads₀ end₀ into reads end = reads
 
--- where a read's call comes back, and the loop's own place
+-- From where a read has come back: the place of the loop, what it told, and the room with what it was lent.
 abbrev top : tie.After-slice-known2 Inv-loop μ-loop → tie.At-loop Inv-loop μ-loop
 top c = c .before .before .before .before .before .before
 
@@ -58,11 +71,14 @@ next c t e =
 loop-holds : tie.Need-loop-holds Inv-loop μ-loop
 loop-holds c = (refl, reached-none _)
 
+outcome-requires : tie.Need-outcome-requires Inv-loop μ-loop
+outcome-requires c κs = search needs
+
 same-length : tie.Need-same-length Inv-loop μ-loop
 same-length c = search needs
 
 returns : tie.Need-returns Inv-loop μ-loop
-returns c = over-spent _ _ _ (c .before .before .loop .inv .1) (c .if1 .taken)
+returns c = over-spent _ _ _ _ (c .before .before .before .loop .inv .1) (c .before .if1 .taken) (c .outcome .ensures)
 
 sub-reads : tie.Need-sub-reads Inv-loop μ-loop
 sub-reads c = search needs
@@ -83,7 +99,7 @@ enum-known-r : tie.Need-enum-known-r Inv-loop μ-loop
 enum-known-r c = search needs
 
 add-end : tie.Need-add-end Inv-loop μ-loop
-add-end c = let d = c .before .before .before in let w = next d _ (c .before .r .given .1) .within in record { fits = omega (arith, w, kept d) }
+add-end c = let d = c .before .before .before in omega (arith, next d _ (c .before .r .given .1) .within, kept d)
 
 loop-less : tie.Need-loop-less Inv-loop μ-loop
 loop-less c = search needs
@@ -94,11 +110,14 @@ loop-again c = let d = c .before .before .before in (kept d ∙ top d .loop .inv
 enum-told : tie.Need-enum-told Inv-loop μ-loop
 enum-told c = search needs
 
+outcome-requires-2 : tie.Need-outcome-requires-2 Inv-loop μ-loop
+outcome-requires-2 c κs = search needs
+
 same-length-2 : tie.Need-same-length-2 Inv-loop μ-loop
 same-length-2 c = search needs
 
 returns-2 : tie.Need-returns-2 Inv-loop μ-loop
-returns-2 c = over-ended _ _ _ (next (c .before .before) _ (c .enum-told .given .1))
+returns-2 c = over-ended _ _ _ _ (next (c .before .before .before) _ (c .before .enum-told .given .1)) (c .outcome2 .ensures)
 
 enum-told-2 : tie.Need-enum-told-2 Inv-loop μ-loop
 enum-told-2 c = search needs
@@ -124,17 +143,23 @@ loop-again-3 c = let d = c .before .before .before in (kept d ∙ top d .loop .i
 enum-told-4 : tie.Need-enum-told-4 Inv-loop μ-loop
 enum-told-4 c = search needs
 
+outcome-requires-3 : tie.Need-outcome-requires-3 Inv-loop μ-loop
+outcome-requires-3 c κs = search needs
+
 same-length-3 : tie.Need-same-length-3 Inv-loop μ-loop
 same-length-3 c = search needs
 
 returns-3 : tie.Need-returns-3 Inv-loop μ-loop
-returns-3 c = over-failed _ _ _ (next (c .before .before) _ (c .enum-told4 .given .1))
+returns-3 c = over-failed _ _ _ _ (next (c .before .before .before) _ (c .before .enum-told4 .given .1)) (c .outcome3 .ensures)
+
+outcome-requires-4 : tie.Need-outcome-requires-4 Inv-loop μ-loop
+outcome-requires-4 c κs = search needs
 
 same-length-4 : tie.Need-same-length-4 Inv-loop μ-loop
 same-length-4 c = search needs
 
 returns-4 : tie.Need-returns-4 Inv-loop μ-loop
-returns-4 c = over-full _ _ _ (c .before .loop .inv .1) (omega arith)
+returns-4 c = over-full _ _ _ _ (c .before .before .loop .inv .1) (omega arith) (c .outcome4 .ensures)
 
 pub read-all-spec : {M : Type 1} → statement M
 read-all-spec =
@@ -143,6 +168,7 @@ read-all-spec =
     Inv-loop
     μ-loop
     loop-holds
+    outcome-requires
     same-length
     returns
     sub-reads
@@ -155,6 +181,7 @@ read-all-spec =
     loop-less
     loop-again
     enum-told
+    outcome-requires-2
     same-length-2
     returns-2
     enum-told-2
@@ -165,7 +192,9 @@ read-all-spec =
     loop-less-3
     loop-again-3
     enum-told-4
+    outcome-requires-3
     same-length-3
     returns-3
+    outcome-requires-4
     same-length-4
     returns-4)

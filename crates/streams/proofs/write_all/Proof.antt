@@ -16,7 +16,8 @@ abbrev μ-loop : tie.MeasureT-loop
 -- what a write took is within the bytes
 within :
     (c : tie.After-r Inv-loop μ-loop)
-    → c .before .before .before .before .before .before .loop .from + c .r .given .0 .0 ≤ length (c .before .before .before .before .before .before .before .before .args .bytes .now)
+    → c .before .before .before .before .before .before .loop .from + c .r .given .0 .0
+    ≤ length (c .before .before .before .before .before .before .before .before .args .bytes .now)
 within c =
     call-within
     (c .before .before .before .before .before .before .before .before .args .bytes .now)

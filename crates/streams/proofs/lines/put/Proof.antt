@@ -21,7 +21,9 @@ same-length : tie.Need-same-length
 same-length c = search needs
 
 returns : tie.Need-returns
-returns c = holds-put _ _ _ _ _ (c .before .before .before .before .before .before .before .before .pre) (c .before .before .put-bytes .ensures)
+returns c =
+    let start = c .before .before .before .before .before .before .before .before in
+    holds-put _ _ _ _ _ (start .pre) (c .before .before .put-bytes .ensures)
 
 put-bytes-requires-2 : tie.Need-put-bytes-requires-2
 put-bytes-requires-2 c κs = search needs
@@ -30,7 +32,9 @@ same-length-2 : tie.Need-same-length-2
 same-length-2 c = search needs
 
 returns-2 : tie.Need-returns-2
-returns-2 c = holds-all _ _ _ _ _ (c .before .before .before .before .before .before .before .pre) (omega arith) (c .before .before .put-bytes2 .ensures)
+returns-2 c =
+    let start = c .before .before .before .before .before .before .before in
+    holds-all _ _ _ _ _ (start .pre) (omega arith) (c .before .before .put-bytes2 .ensures)
 
 pub put-spec : {M : Type 1} → statement M
 put-spec =
