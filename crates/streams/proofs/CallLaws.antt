@@ -49,13 +49,14 @@ bytes (pos zero) error h = absurd (false≢true h)
 bytes (pos (suc n)) error h = refl
 bytes (negsuc n) error h = absurd (false≢true h)
 
-nothing : (got error : ℤ) → SFits w64 got → ofZ w64 got ≡ 0 → Nothing ≡ told got error
+-- the test for 0
+pub told-nothing : (got error : ℤ) → SFits w64 got → ofZ w64 got ≡ 0 → Nothing ≡ told got error
 unfolding told
-nothing (pos zero) error f e = refl
-nothing (pos (suc n)) error f e = absurd (omega arith)
-nothing (negsuc n) error f e = absurd (let g : n < 2 ^ 63 = f .sfits in omega arith)
+told-nothing (pos zero) error f e = refl
+told-nothing (pos (suc n)) error f e = absurd (omega arith)
+told-nothing (negsuc n) error f e = absurd (let g : n < 2 ^ 63 = f .sfits in omega arith)
 
--- the tests of the answer
+-- the test for an answer above 0, as the code makes it
 module _ (got error : ℤ) (f : SFits w64 got) where
   pub count-fits :
       ltZ (pos 0) (toZ w64 (ofZ w64 got)) ≡ true
@@ -70,9 +71,6 @@ module _ (got error : ℤ) (f : SFits w64 got) where
       ltZ (pos 0) (toZ w64 (ofZ w64 got)) ≡ true → Bytes (natAbs (toZ w64 (ofZ w64 got))) ≡ told got error
   told-bytes =
       subst (λ (z : ℤ). ltZ (pos 0) z ≡ true → Bytes (natAbs z) ≡ told got error) (sym (toZ-ofZ f)) (bytes got error)
-
-  pub told-nothing : ofZ w64 got ≡ 0 → Nothing ≡ told got error
-  told-nothing = nothing got error f
 
 -- the tests of errno, of a call that failed
 module _
