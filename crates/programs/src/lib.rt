@@ -1,0 +1,71 @@
+// What the programs have in common: what the words behind a program's name ask for, the version, and the line on standard error
+// that tells of output that could not be written.
+use libc::STDOUT_FILENO;
+
+// What a program is asked for: its help, its version, or to run on the words from a place on. Wrong: none of these.
+pub enum Request {
+    Help,
+    Version,
+    Run(usize),
+    Wrong,
+}
+
+// To run on `operands` words, which stand from `first` on; the program's name is word 0.
+fn run_from(first: usize, operands: usize) -> Request {
+    let count = os::arg_count();
+    if first <= count {
+        if count - first == operands {
+            return Request::Run(first);
+        }
+    }
+    Request::Wrong
+}
+
+// An option that is asked for by itself.
+fn alone(request: Request) -> Request {
+    if os::arg_count() == 2 {
+        return request;
+    }
+    Request::Wrong
+}
+
+// What the words ask of a program that runs on so many of them. A first word that begins with `-` is an option, and `--` ends the
+// options. Of a word that is too long to be handed out the first byte still tells that it is one.
+pub fn asked(operands: usize) -> Request {
+    let mut word = io::buffer();
+    let length = os::arg(1, &mut word);
+    if word[0] != b'-' {
+        return run_from(1, operands);
+    }
+    let option = &word[..length];
+    if text::same_bytes(option, b"--") {
+        return run_from(2, operands);
+    }
+    if text::same_bytes(option, b"-h") | text::same_bytes(option, b"--help") {
+        return alone(Request::Help);
+    }
+    if text::same_bytes(option, b"--version") {
+        return alone(Request::Version);
+    }
+    Request::Wrong
+}
+
+// Tells, straight after what was to be printed, where standard output did not take it.
+pub fn printed(program: &[u8], taken: bool) -> bool {
+    if !taken {
+        streams::report(program, b"standard output");
+    }
+    taken
+}
+
+// Prints bytes on standard output.
+pub fn print(program: &[u8], bytes: &[u8]) -> bool {
+    printed(program, streams::write_all(STDOUT_FILENO, bytes))
+}
+
+pub fn print_version(program: &[u8]) {
+    let taken = print(program, program);
+    if taken {
+        print(program, b" (Zelgwy) 1.0\n");
+    }
+}
