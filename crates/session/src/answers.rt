@@ -22,10 +22,9 @@ pub fn flush(out: &[u8], run: Run) -> Run
     if run.broken {
         return next;
     }
-    if io::write_all(libc::STDOUT_FILENO, &out[..n]) {
+    if programs::print(b"simulate", &out[..n]) {
         return next;
     }
-    os::fail(b"standard output");
     next.broken = true;
     next.over = true;
     next

@@ -14,11 +14,9 @@ pub use answers::put_hex;
 pub use answers::put_line;
 pub use answers::put_state;
 pub use explain::call;
-pub use input::Got;
 pub use input::INPUT;
 pub use input::line_of;
 pub use input::next_line;
-pub use input::read_all;
 
 // Where a run stands.
 pub struct Run {
@@ -29,6 +27,8 @@ pub struct Run {
     // What is read of the script and not run yet stands in the input from `from` to `end`.
     pub from: usize,
     pub end: usize,
+    // Whether a read has answered that the script ends: none is made after it.
+    pub ended: bool,
     // Whether a line was found there, where it starts and stops, and whether the run ends with it.
     pub found: bool,
     pub start: usize,
@@ -52,6 +52,7 @@ pub fn first_run(memory: usize) -> Run
         buffer_lent: 4096,
         from: 0,
         end: 0,
+        ended: false,
         found: false,
         start: 0,
         stop: 0,

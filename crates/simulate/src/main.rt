@@ -7,71 +7,83 @@ mod world;
 
 use libc::STDERR_FILENO;
 use libc::STDOUT_FILENO;
+use programs::Request;
 
-fn usage(fd: i32) {
-    io::write_all(fd, b"usage: simulate BOARD < SCRIPT\n");
+fn usage(fd: i32) -> bool {
+    streams::write_all(fd, b"usage: simulate BOARD < SCRIPT\n")
 }
 
 // What the numbers mean that the calls answer.
 fn help() {
-    usage(STDOUT_FILENO);
-    io::write_all(
-        STDOUT_FILENO,
-        b"Runs the script's lines on the board and prints what each call answers, a refusal by its number:\n",
-    );
-    refusals::list(STDOUT_FILENO, 18);
+    let taken = usage(STDOUT_FILENO)
+        && streams::write_all(
+            STDOUT_FILENO,
+            b"Runs the script's lines on the board and prints what each call answers, a refusal by its number:\n",
+        )
+        && refusals::list(STDOUT_FILENO, 18);
+    programs::printed(b"simulate", taken);
 }
 
 // The board is refused: its number on standard output, the line and the cause on standard error.
 fn refuse(path: &[u8], text: &[u8]) {
     let r = description::refused_at(text);
-    io::write_all(STDOUT_FILENO, b"refused,");
-    io::print_decimal(STDOUT_FILENO, r.number as u64);
-    io::write_all(STDOUT_FILENO, b"\n");
+    programs::printed(b"simulate", refusals::print(r.number));
     io::write_all(STDERR_FILENO, b"simulate: ");
     io::write_all(STDERR_FILENO, path);
     io::write_all(STDERR_FILENO, b": ");
     refusals::explain(r);
 }
 
-// The file's bytes, up to one more than a description may have: the reader refuses a longer one by its length.
-fn simulate(fd: i32, path: &[u8]) {
-    let mut text = [0u8; 8193];
-    let got = session::read_all(fd, &mut text);
-    if got.failed {
-        os::fail(path);
-        return;
-    }
-    let n = session::place(got.end, &text);
-    let parsed = description::read(&text[..n]);
+// Runs the script on the board that a text describes.
+fn simulate(path: &[u8], text: &[u8]) {
+    let parsed = description::read(text);
     if parsed.number != 0 {
-        refuse(path, &text[..n]);
+        refuse(path, text);
         return;
     }
     let board = parsed.board;
-    run::run_script(&text[..n], board);
+    run::run_script(text, board);
+}
+
+// Reads the board's file, up to one byte more than a description may have: the reader refuses a longer one by its length. A
+// program that is started with standard input, output or error closed has that number for the file. It is open for reading only,
+// and closed before the script is read and anything is printed, so that it is neither read nor written for one of those.
+fn simulate_file(path: &[u8]) {
+    let fd = os::open_read(path);
+    if fd < 0 {
+        streams::report(b"simulate", path);
+        return;
+    }
+    let mut text = [0u8; 8193];
+    let got = streams::read_all(fd, &mut text);
+    if got.failed {
+        streams::report(b"simulate", path);
+        return;
+    }
+    libc::close(fd);
+    let n = got.end;
+    simulate(path, &text[..n]);
+}
+
+// The word at a place names the board's file.
+fn simulate_word(i: usize) {
+    let mut path = io::buffer();
+    let length = os::arg(i, &mut path);
+    if os::errno() != 0 {
+        streams::report(b"simulate", b"BOARD");
+        return;
+    }
+    simulate_file(&path[..length]);
 }
 
 fn main() {
-    if os::arg_count() != 2 {
-        usage(STDERR_FILENO);
-        return;
+    let request = programs::asked(1);
+    match request {
+        Request::Help => help(),
+        Request::Version => programs::print_version(b"simulate"),
+        Request::Run(i) => simulate_word(i),
+        Request::Wrong => {
+            usage(STDERR_FILENO);
+        }
     }
-    let mut path = io::buffer();
-    let length = os::arg(1, &mut path);
-    if os::errno() != 0 {
-        os::fail(b"BOARD");
-        return;
-    }
-    if text::same_bytes(&path[..length], b"--help") {
-        help();
-        return;
-    }
-    let fd = os::open_read(&path[..length]);
-    if fd < 0 {
-        os::fail(&path[..length]);
-        return;
-    }
-    simulate(fd, &path[..length]);
-    libc::close(fd);
 }

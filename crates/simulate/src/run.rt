@@ -195,7 +195,7 @@ pub fn run_script(text: &[u8], board: Board) {
     let mut passes = u64::MAX;
     while 0 < passes {
         passes -= 1;
-        w.run = session::next_line(&mut input, w.run);
+        w.run = session::next_line(&mut input, &out, w.run);
         w = run_line(
             w,
             &input,
