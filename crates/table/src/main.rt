@@ -1,26 +1,21 @@
 // Reads a description on standard input, and prints its table, or its refusal, on standard output. What the refusal means goes
 // to standard error: standard output is read by other programs.
 use libc::STDERR_FILENO;
+use libc::STDIN_FILENO;
 use libc::STDOUT_FILENO;
+use programs::Request;
 
-fn usage(fd: i32) {
-    io::write_all(fd, b"usage: table < BOARD\n");
-    io::write_all(
-        fd,
-        b"Prints master,slave,wait,serve of every connected pair, or refused, and a number:\n",
-    );
-    refusals::list(fd, 7);
+fn usage(fd: i32) -> bool {
+    streams::write_all(fd, b"usage: table < BOARD\n")
+        && streams::write_all(
+            fd,
+            b"Prints master,slave,wait,serve of every connected pair, or refused, and a number:\n",
+        )
+        && refusals::list(fd, 7)
 }
 
-// How the program is called, on standard output where it was asked for.
 fn help() {
-    let mut word = io::buffer();
-    let length = os::arg(1, &mut word);
-    if text::same_bytes(&word[..length], b"--help") {
-        usage(STDOUT_FILENO);
-        return;
-    }
-    usage(STDERR_FILENO);
+    programs::printed(b"table", usage(STDOUT_FILENO));
 }
 
 // Says at which line a text is refused, and why.
@@ -32,17 +27,34 @@ fn explain(text: &[u8]) {
     }
 }
 
-fn main() {
-    if 1 < os::arg_count() {
-        help();
-        return;
-    }
+// Prints what the text describes.
+fn print(text: &[u8]) {
+    let mut page = [0; tables::LONGEST_TABLE];
+    let length = tables::print_page(text, &mut page);
+    programs::print(b"table", &page[..length]);
+    explain(text);
+}
+
+fn table() {
     // One byte more than a description may have: a longer text is then refused as such.
     let mut text = [0; 8193];
-    let mut page = [0; tables::LONGEST_TABLE];
-    let n = io::read_full(0, &mut text);
-    let p = tables::print_table(&text[..n], &mut page);
-    let length = p.length;
-    io::write_all(1, &page[..length]);
-    explain(&text[..n]);
+    let got = streams::read_all(STDIN_FILENO, &mut text);
+    if got.failed {
+        streams::report(b"table", b"standard input");
+        return;
+    }
+    let n = got.end;
+    print(&text[..n]);
+}
+
+fn main() {
+    let request = programs::asked(0);
+    match request {
+        Request::Help => help(),
+        Request::Version => programs::print_version(b"table"),
+        Request::Run(_) => table(),
+        Request::Wrong => {
+            usage(STDERR_FILENO);
+        }
+    }
 }
