@@ -1,15 +1,17 @@
 // Reads records from standard input, each a decimal length, a line feed and that many bytes of a description. Prints for
-// each the number that the reader answers and, where that is 0, the writer's text of the board. A damaged record ends it.
+// each the number that the reader answers and, where that is 0, the writer's text of the board. A damaged record ends it. Where
+// the input cannot be read, or the answers cannot be printed, standard error says so.
 ghost use Prim.Native.Nat.{_+_, _≤_};
 ghost use lib.ListN.{length};
 use libc::STDIN_FILENO;
-use libc::STDOUT_FILENO;
 use text::Number;
 
-// What is still to be taken of a piece of the input: its bytes from `at` up to `end`.
+// What is still to be taken of a piece of the input: its bytes from `at` up to `end`. Whether no further piece is to be read,
+// since the input has ended or cannot be read.
 struct Input {
     at: usize,
     end: usize,
+    last: bool,
 }
 
 // What a record's first line says, and the input behind it.
@@ -25,6 +27,12 @@ struct Body {
     input: Input,
 }
 
+// Where the next answer goes, and whether what stood there before could be printed.
+struct Room {
+    made: bool,
+    at: usize,
+}
+
 // Whether there can be a further record, how many bytes of the output are filled, and the input behind the last record.
 struct Progress {
     going: bool,
@@ -37,11 +45,23 @@ fn refill(piece: &mut [u8], input: Input) -> Input
     requires { ⌜ input .end ≤ length (now piece) ⌝ }
     ensures { λ r. ⌜ r .end ≤ length (now (piece .exit)) ⌝ }
 {
-    if input.at < input.end {
+    if input.last | (input.at < input.end) {
         return input;
     }
-    let end = io::read_full(STDIN_FILENO, &mut *piece);
-    Input { at: 0, end: end }
+    let got = streams::read_all(STDIN_FILENO, &mut *piece);
+    if got.failed {
+        streams::report(b"texts", b"standard input");
+        return Input {
+            at: 0,
+            end: 0,
+            last: true,
+        };
+    }
+    Input {
+        at: 0,
+        end: got.end,
+        last: got.ended,
+    }
 }
 
 // Takes the line of a record's length: at most 10 digits and the line feed. One that the input ends in is no length.
@@ -59,10 +79,7 @@ fn take_head(piece: &mut [u8], first: Input) -> Head
         if end <= at {
             break;
         }
-        input = Input {
-            at: at + 1,
-            end: end,
-        };
+        input.at = at + 1;
         if piece[at] == b'\n' {
             return Head {
                 length: text::parse_number(&line[..kept]),
@@ -110,10 +127,7 @@ fn take_body(piece: &mut [u8], first: Input, size: u64, into: &mut [u8]) -> Body
             };
         }
         kept = keep(&mut *into, kept, piece[at]);
-        input = Input {
-            at: at + 1,
-            end: end,
-        };
+        input.at = at + 1;
         left -= 1;
     }
     Body {
@@ -124,16 +138,22 @@ fn take_body(piece: &mut [u8], first: Input, size: u64, into: &mut [u8]) -> Body
 }
 
 // Writes the output that is filled, where an answer might find no room behind it: a short line and at most 8,192 bytes.
-fn make_room(out: &[u8], filled: usize) -> usize
+fn make_room(out: &[u8], filled: usize) -> Room
     requires { ⌜ 8300 ≤ length (now out) ⌝ }
     requires { ⌜ filled ≤ length (now out) ⌝ }
-    ensures { λ r. ⌜ r + 8300 ≤ length (now (out .entry)) ⌝ }
+    ensures { λ r. ⌜ r .at + 8300 ≤ length (now (out .entry)) ⌝ }
 {
     if 8300 <= out.len() - filled {
-        return filled;
+        return Room {
+            made: true,
+            at: filled,
+        };
     }
-    io::write_all(STDOUT_FILENO, &out[..filled]);
-    0
+    let printed = programs::print(b"texts", &out[..filled]);
+    Room {
+        made: printed,
+        at: 0,
+    }
 }
 
 // Puts the answer for a description into the output from `at` on; the answer is the place behind it. A board that was read is
@@ -178,8 +198,15 @@ fn answer_record(piece: &mut [u8], record: &mut [u8], out: &mut [u8], p: Progres
         };
     }
     let kept = body.kept;
-    let at = make_room(&*out, p.filled);
-    let next = put_answer(&mut *out, at, &record[..kept]);
+    let room = make_room(&*out, p.filled);
+    if !room.made {
+        return Progress {
+            going: false,
+            filled: 0,
+            input: behind_body,
+        };
+    }
+    let next = put_answer(&mut *out, room.at, &record[..kept]);
     Progress {
         going: true,
         filled: next,
@@ -196,7 +223,11 @@ fn answer_records(piece: &mut [u8], record: &mut [u8], out: &mut [u8]) -> usize
     let mut p = Progress {
         going: true,
         filled: 0,
-        input: Input { at: 0, end: 0 },
+        input: Input {
+            at: 0,
+            end: 0,
+            last: false,
+        },
     };
     let mut turns = u64::MAX;
     while turns > 0 {
@@ -215,5 +246,5 @@ fn main() {
     let mut record = [0u8; 8193];
     let mut out = io::large_buffer();
     let filled = answer_records(&mut piece, &mut record, &mut out);
-    io::write_all(STDOUT_FILENO, &out[..filled]);
+    programs::print(b"texts", &out[..filled]);
 }

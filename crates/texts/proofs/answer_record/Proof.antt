@@ -35,15 +35,6 @@ returns-2 c = search needs
 make-room-requires : tie.Need-make-room-requires
 make-room-requires c κs = search needs
 
-slice-reshare-prefix-put-answer : tie.Need-slice-reshare-prefix-put-answer
-slice-reshare-prefix-put-answer c = search needs
-
-slice-aggregate-put-answer : tie.Need-slice-aggregate-put-answer
-slice-aggregate-put-answer c = rw length-take (omega arith)
-
-put-answer-requires : tie.Need-put-answer-requires
-put-answer-requires c κs = search needs
-
 same-length-4 : tie.Need-same-length-4
 same-length-4 c = search needs
 
@@ -55,6 +46,27 @@ same-length-6 c = search needs
 
 returns-3 : tie.Need-returns-3
 returns-3 c = search needs
+
+slice-reshare-prefix-put-answer : tie.Need-slice-reshare-prefix-put-answer
+slice-reshare-prefix-put-answer c = search needs
+
+slice-aggregate-put-answer : tie.Need-slice-aggregate-put-answer
+slice-aggregate-put-answer c = rw length-take (omega arith)
+
+put-answer-requires : tie.Need-put-answer-requires
+put-answer-requires c κs = search needs
+
+same-length-7 : tie.Need-same-length-7
+same-length-7 c = search needs
+
+same-length-8 : tie.Need-same-length-8
+same-length-8 c = search needs
+
+same-length-9 : tie.Need-same-length-9
+same-length-9 c = search needs
+
+returns-4 : tie.Need-returns-4
+returns-4 c = search needs
 
 pub answer-record-spec : {M : Type 1} → statement M
 answer-record-spec =
@@ -70,10 +82,14 @@ answer-record-spec =
     same-length-3
     returns-2
     make-room-requires
-    slice-reshare-prefix-put-answer
-    slice-aggregate-put-answer
-    put-answer-requires
     same-length-4
     same-length-5
     same-length-6
-    returns-3)
+    returns-3
+    slice-reshare-prefix-put-answer
+    slice-aggregate-put-answer
+    put-answer-requires
+    same-length-7
+    same-length-8
+    same-length-9
+    returns-4)

@@ -23,14 +23,17 @@ slice-aggregate-answer-records-3 c = search needs
 answer-records-requires : tie.Need-answer-records-requires
 answer-records-requires c κs = search needs
 
+slice-aggregate-print : tie.Need-slice-aggregate-print
+slice-aggregate-print c = search needs
+
 array-share-prefix-out : tie.Need-array-share-prefix-out
 array-share-prefix-out c = search needs
 
-slice-aggregate-write-all : tie.Need-slice-aggregate-write-all
-slice-aggregate-write-all c = rw length-take (omega arith)
+slice-aggregate-print-2 : tie.Need-slice-aggregate-print-2
+slice-aggregate-print-2 c = rw length-take (omega arith)
 
-write-all-requires : tie.Need-write-all-requires
-write-all-requires c κs = search needs
+print-requires : tie.Need-print-requires
+print-requires c κs = search needs
 
 returns : tie.Need-returns
 returns c = search needs
@@ -45,7 +48,8 @@ main-spec =
     slice-aggregate-answer-records-2
     slice-aggregate-answer-records-3
     answer-records-requires
+    slice-aggregate-print
     array-share-prefix-out
-    slice-aggregate-write-all
-    write-all-requires
+    slice-aggregate-print-2
+    print-requires
     returns)

@@ -11,15 +11,25 @@ sub-if1 c = search needs
 returns : tie.Need-returns
 returns c = search needs
 
-slice-aggregate-write-all : tie.Need-slice-aggregate-write-all
-slice-aggregate-write-all c = rw length-take (omega arith)
+slice-aggregate-print : tie.Need-slice-aggregate-print
+slice-aggregate-print c = search needs
 
-write-all-requires : tie.Need-write-all-requires
-write-all-requires c κs = search needs
+slice-aggregate-print-2 : tie.Need-slice-aggregate-print-2
+slice-aggregate-print-2 c = rw length-take (omega arith)
+
+print-requires : tie.Need-print-requires
+print-requires c κs = search needs
 
 returns-2 : tie.Need-returns-2
 returns-2 c = search needs
 
 pub make-room-spec : {M : Type 1} → statement M
 make-room-spec =
-    tie.close (tie.spec sub-if1 returns slice-aggregate-write-all write-all-requires returns-2)
+    tie.close
+    (tie.spec
+    sub-if1
+    returns
+    slice-aggregate-print
+    slice-aggregate-print-2
+    print-requires
+    returns-2)

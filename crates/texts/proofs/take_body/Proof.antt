@@ -35,8 +35,8 @@ slice-read-keep c = search needs
 keep-requires : tie.Need-keep-requires Inv-loop μ-loop
 keep-requires c κs = search needs
 
-add-t17 : tie.Need-add-t17 Inv-loop μ-loop
-add-t17 c = search needs
+add-input : tie.Need-add-input Inv-loop μ-loop
+add-input c = search needs
 
 sub-left : tie.Need-sub-left Inv-loop μ-loop
 sub-left c = search needs
@@ -69,7 +69,7 @@ take-body-spec =
     returns
     slice-read-keep
     keep-requires
-    add-t17
+    add-input
     sub-left
     loop-less
     loop-again

@@ -22,8 +22,8 @@ loop-holds c = search needs
 refill-requires : tie.Need-refill-requires Inv-loop μ-loop
 refill-requires c κs = search needs
 
-add-t11 : tie.Need-add-t11 Inv-loop μ-loop
-add-t11 c = search needs
+add-input : tie.Need-add-input Inv-loop μ-loop
+add-input c = search needs
 
 slice-read-if2 : tie.Need-slice-read-if2 Inv-loop μ-loop
 slice-read-if2 c = search needs
@@ -78,7 +78,7 @@ take-head-spec =
     μ-loop
     loop-holds
     refill-requires
-    add-t11
+    add-input
     slice-read-if2
     array-share-prefix-line
     slice-aggregate-parse-number
