@@ -15,6 +15,9 @@
 extern "C" {
 #endif
 
+/* The version of this header and of the library. */
+#define FABRIC_VERSION "1.0"
+
 /* The bytes that fabric_wait writes: wait, then serve, 8 each, lowest byte first. */
 #define FABRIC_WAIT_BYTES 16
 

@@ -4,26 +4,80 @@
  *   plan BOARD MASTER SLAVE
  *
  * prints `wait,W` and `serve,S`, in clocks, or `refused,N` with exit status 1.
- * Exit status 2: wrong arguments, or a file that cannot be read.
+ * Exit status 2: wrong arguments, a file that cannot be read, or output that cannot be written.
  */
+#define _POSIX_C_SOURCE 200809L
 #include <errno.h>
+#include <fcntl.h>
 #include <inttypes.h>
+#include <poll.h>
 #include <stdio.h>
-#include <stdlib.h>
 #include <string.h>
+#include <unistd.h>
 
 #include "fabric.h"
 
 /* One byte more than a description may have: a longer file is then refused as such. */
 #define TEXT_ROOM 8193
 
-static int usage(void)
+/* What keeps plan from answering: the stream or the file, and errno's text. */
+static int failed(const char *what)
 {
-    fprintf(stderr, "usage: plan BOARD MASTER SLAVE\n"
-                    "  BOARD   a file with a board description\n"
-                    "  MASTER  the master's number, from 0\n"
-                    "  SLAVE   the slave's number, from 0\n");
+    fprintf(stderr, "plan: %s: %s\n", what, strerror(errno));
     return 2;
+}
+
+/* Whether a call that failed is to be made again: after a signal at once, on a descriptor that does not wait once it is ready. */
+static int again(int descriptor, short event)
+{
+    struct pollfd ready = {descriptor, event, 0};
+
+    if (errno == EINTR)
+        return 1;
+    if (errno != EAGAIN)
+        return 0;
+    poll(&ready, 1, -1);
+    return 1;
+}
+
+/* Prints a text on standard output, and answers `status`, or 2 where it cannot be written. */
+static int print(const char *text, int status)
+{
+    size_t left = strlen(text);
+
+    while (left > 0) {
+        ssize_t put = write(STDOUT_FILENO, text, left);
+
+        if (put > 0) {
+            text += put;
+            left -= (size_t)put;
+        } else if (put == 0 || !again(STDOUT_FILENO, POLLOUT)) {
+            return failed("standard output");
+        }
+    }
+    return status;
+}
+
+/* Reads up to `room` bytes of a file, all where it has no more. Only a read that answers 0 is the file's end. -1: it failed. */
+static ssize_t read_file(const char *name, uint8_t *text, size_t room)
+{
+    size_t length = 0;
+    int file = open(name, O_RDONLY);
+
+    if (file < 0)
+        return -1;
+    while (length < room) {
+        ssize_t got = read(file, text + length, room - length);
+
+        if (got == 0)
+            break;
+        if (got > 0)
+            length += (size_t)got;
+        else if (!again(file, POLLIN))
+            return -1;
+    }
+    close(file);
+    return (ssize_t)length;
 }
 
 /* A decimal number of 32 bits; 0 where the word is none. */
@@ -54,33 +108,48 @@ static uint64_t figure(const uint8_t *bytes)
     return value;
 }
 
-int main(int count, char **words)
+/* The figures of a pair of the board in a file. */
+static int plan(const char *board, uint32_t master, uint32_t slave)
 {
     uint8_t text[TEXT_ROOM];
     uint8_t out[FABRIC_WAIT_BYTES];
-    uint32_t master, slave, refusal;
-    size_t length;
-    FILE *file;
+    char lines[64];
+    uint32_t refusal;
+    ssize_t length = read_file(board, text, sizeof text);
 
-    if (count != 4 || !number_of(words[2], &master) || !number_of(words[3], &slave))
-        return usage();
-    file = fopen(words[1], "rb");
-    if (file == NULL) {
-        fprintf(stderr, "plan: %s: %s\n", words[1], strerror(errno));
-        return 2;
-    }
-    length = fread(text, 1, sizeof text, file);
-    if (ferror(file)) {
-        fprintf(stderr, "plan: %s: %s\n", words[1], strerror(errno));
-        fclose(file);
-        return 2;
-    }
-    fclose(file);
-    refusal = fabric_wait(text, length, master, slave, out, sizeof out);
+    if (length < 0)
+        return failed(board);
+    refusal = fabric_wait(text, (size_t)length, master, slave, out, sizeof out);
     if (refusal != FABRIC_TAKEN) {
-        printf("refused,%" PRIu32 "\n", refusal);
-        return 1;
+        snprintf(lines, sizeof lines, "refused,%" PRIu32 "\n", refusal);
+        return print(lines, 1);
     }
-    printf("wait,%" PRIu64 "\nserve,%" PRIu64 "\n", figure(out), figure(out + 8));
-    return 0;
+    snprintf(lines, sizeof lines, "wait,%" PRIu64 "\nserve,%" PRIu64 "\n", figure(out), figure(out + 8));
+    return print(lines, 0);
+}
+
+/* An option is the first word, where it begins with `-`; `--` ends the options. */
+int main(int count, char **words)
+{
+    static const char usage[] = "usage: plan BOARD MASTER SLAVE\n"
+                                "  BOARD   a file with a board description\n"
+                                "  MASTER  the master's number, from 0\n"
+                                "  SLAVE   the slave's number, from 0\n";
+    const char *option = count > 1 && words[1][0] == '-' ? words[1] : "";
+    uint32_t master, slave;
+
+    if (count == 2 && (strcmp(option, "-h") == 0 || strcmp(option, "--help") == 0))
+        return print(usage, 0);
+    if (count == 2 && strcmp(option, "--version") == 0)
+        return print("plan (Zelgwy) " FABRIC_VERSION "\n", 0);
+    if (strcmp(option, "--") == 0) {
+        option = "";
+        words++;
+        count--;
+    }
+    if (*option != '\0' || count != 4 || !number_of(words[2], &master) || !number_of(words[3], &slave)) {
+        fputs(usage, stderr);
+        return 2;
+    }
+    return plan(words[1], master, slave);
 }

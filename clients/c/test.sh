@@ -63,15 +63,60 @@ serve,$serve" "$described" "$master" "$slave"
 done
 [ "$pairs" -gt 500 ] || { echo "only $pairs pairs were tried"; failed=1; }
 
+# says TEXT: what plan printed on standard error the last time
+says() {
+    if [ "$(cat "$work/errors")" != "$1" ]; then
+        echo "plan did not say '$1' but:"
+        cat "$work/errors"
+        failed=1
+    fi
+}
+
+# options: the help, the version and the end of the options
+usage='usage: plan BOARD MASTER SLAVE
+  BOARD   a file with a board description
+  MASTER  the master'"'"'s number, from 0
+  SLAVE   the slave'"'"'s number, from 0'
+version=$(sed -n 's/^#define FABRIC_VERSION "\(.*\)"$/\1/p' "$root/include/fabric.h")
+for option in -h --help; do
+    expect 0 "$usage" "$option"
+    says ''
+done
+expect 0 "plan (Zelgwy) $version" --version
+says ''
+expect 0 "wait,6
+serve,32" -- "$board" 0 0
+says ''
+
 # wrong arguments: the usage, and nothing else
-expect 2 ""
-expect 2 "" "$board" 0
-expect 2 "" "$board" 0 0 0
-expect 2 "" "$board" -1 0
-expect 2 "" "$board" 0 4294967296
-expect 2 "" "$board" 0 ""
-grep -q '^usage: plan BOARD MASTER SLAVE' "$work/errors" || { echo "no usage"; failed=1; }
+wrong() {
+    expect 2 "" "$@"
+    says "$usage"
+}
+wrong
+wrong ""
+wrong --
+wrong "$board" 0
+wrong "$board" 0 0 0
+wrong -- "$board" 0
+wrong -- "$board" 0 0 0
+wrong "$board" -1 0
+wrong "$board" 0 4294967296
+wrong "$board" 0 ""
+wrong --help "$board" 0 0
+wrong --version "$board" 0 0
+for option in - -x --helpful ---; do
+    wrong "$option"
+    wrong "$option" 0 0
+done
+
+# files that are not there or cannot be read
 expect 2 "" "$work/absent" 0 0
+says "plan: $work/absent: No such file or directory"
+expect 2 "" -- -x 0 0
+says "plan: -x: No such file or directory"
+expect 2 "" "$work" 0 0
+says "plan: $work: Is a directory"
 
 "$work/slices" || failed=1
 # the header serves C++ as well
