@@ -1,6 +1,6 @@
 #!/bin/sh
-# Runs table and simulate on boards that are refused, and simulate on scripts with refused calls, and compares what they write
-# on standard output and on standard error, byte for byte, with the text that stands here.
+# Runs table and simulate on boards that are refused, simulate on scripts with refused calls, and both with options, and compares
+# what they write on standard output and on standard error, byte for byte, with the text that stands here.
 set -eu
 
 root=$(CDPATH= cd -- "$(dirname -- "$0")/.." && pwd)
@@ -205,7 +205,8 @@ cmp -s output output.expected || {
     diff output.expected output || :
 }
 
-# How the programs are called.
+# How the programs are called. The version is that of the C header.
+version=$(sed -n 's/^#define FABRIC_VERSION "\(.*\)"$/\1/p' "$root/include/fabric.h")
 meanings="  1 text over 8192 bytes; $line
   2 at the end, no master or no slave; line kind out of order or over the count
   3 value outside its list or range
@@ -217,8 +218,16 @@ usage="usage: table < BOARD
 Prints master,slave,wait,serve of every connected pair, or refused, and a number:
 $meanings"
 run table board.txt "$usage" '' --help
+run table board.txt "$usage" '' -h
+run table board.txt "table (Zelgwy) $version" '' --version
+run table board.txt 'master,slave,wait,serve
+0,0,0,8' '' --
 run table board.txt '' "$usage" board.txt
-run simulate script.txt "usage: simulate BOARD < SCRIPT
+run table board.txt '' "$usage" ''
+run table board.txt '' "$usage" -- board.txt
+run table board.txt '' "$usage" --help --help
+run table board.txt '' "$usage" --version --help
+help="usage: simulate BOARD < SCRIPT
 Runs the script's lines on the board and prints what each call answers, a refusal by its number:
 $meanings
   8 memory or buffer not of its exact length
@@ -231,9 +240,34 @@ $meanings
   15 lanes not legal, or a burst without all lanes
   16 no connected slave there
   17 burst passes the slave's end
-  18 data not beats times width bytes" '' --help
-run simulate script.txt '' 'usage: simulate BOARD < SCRIPT'
-run simulate script.txt '' 'absent.txt: No such file or directory' absent.txt
+  18 data not beats times width bytes"
+run simulate script.txt "$help" '' --help
+run simulate script.txt "$help" '' -h
+run simulate script.txt "simulate (Zelgwy) $version" '' --version
+printf 'wait,0,0\n' > wait.txt
+cp board.txt ./--help
+cp board.txt ./--
+run simulate wait.txt 'wait,0,0,8' '' -- board.txt
+run simulate wait.txt 'wait,0,0,8' '' -- --help
+run simulate wait.txt 'wait,0,0,8' '' -- --
+run simulate wait.txt 'wait,0,0,8' '' ./--help
+usage_line='usage: simulate BOARD < SCRIPT'
+run simulate script.txt '' "$usage_line"
+run simulate script.txt '' "$usage_line" --
+run simulate script.txt '' "$usage_line" board.txt board.txt
+run simulate script.txt '' "$usage_line" -- board.txt board.txt
+run simulate script.txt '' "$usage_line" board.txt --help
+run simulate script.txt '' "$usage_line" --help board.txt
+run simulate script.txt '' "$usage_line" --version board.txt
+# A word of 5,000 bytes is no option, and no file has such a name.
+for word in - -x -hh --h --helpful --Version --version=1 --- "-$(printf '%04999d' 0)"; do
+    run table board.txt '' "$usage" "$word"
+    run simulate script.txt '' "$usage_line" "$word"
+done
+run simulate script.txt '' 'simulate: BOARD: File name too long' "$(printf '%05000d' 0)"
+run simulate script.txt '' 'simulate: absent.txt: No such file or directory' absent.txt
+run simulate script.txt '' 'simulate: -x: No such file or directory' -- -x
+run simulate script.txt '' 'simulate: : No such file or directory' ''
 
 echo "explain: $runs runs, $different differences"
 [ "$different" -eq 0 ]

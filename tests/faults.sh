@@ -1,0 +1,252 @@
+#!/bin/sh
+# Runs the programs and the planning tool where a read or a write fails, is interrupted, would have to wait or moves few bytes,
+# and where a standard stream is closed. Compares what they write on standard output and on standard error, byte for byte, with
+# the text that stands here. An input that cannot be read is never taken for one that ends, and no output is lost without a word.
+set -eu
+
+root=$(CDPATH= cd -- "$(dirname -- "$0")/.." && pwd)
+library=$root/target/staticlib/libquote.a
+work=$(mktemp -d)
+trap 'rm -rf "$work"' EXIT
+[ -f "$library" ] || {
+    echo "faults: no $library (rt staticlib quote)" >&2
+    exit 2
+}
+for program in table simulate texts; do
+    [ -x "$root/target/bin/$program" ] || {
+        echo "faults: $program is not built (rt check $program)" >&2
+        exit 2
+    }
+    ln -s "$root/target/bin/$program" "$work/$program"
+done
+gcc="gcc -std=c11 -O2 -Wall -Wextra -Werror"
+$gcc -shared -fPIC -o "$work/faults.so" "$root/tests/faults.c"
+$gcc -o "$work/pipes" "$root/tests/pipes.c"
+$gcc -I"$root/include" -o "$work/plan" "$root/clients/c/plan.c" "$library"
+cd "$work"
+cp "$root/boards/document01.txt" board.txt
+: > none
+runs=0
+different=0
+eintr=4
+eio=5
+eagain=11
+
+# What is tried: a command, its input, the file with all that it prints, and its exit status where it prints that.
+subject() {
+    command=$1 input=$2 whole=$3 status=${4-0}
+    name=${command%% *}
+}
+
+# Runs the subject: what goes wrong (see faults.c), redirections of its own, the file with the standard output expected, the
+# standard error expected (without the last line feed). Where something is expected there plan ends with status 2.
+try() {
+    expected=0
+    [ "$name" != plan ] || expected=${4:+2}
+    printf '%s' "${4:+$4
+}" > error.expected
+    got=0
+    eval "env $1 LD_PRELOAD=./faults.so ./$command < $input > output 2> error 3>&- $2" || got=$?
+    runs=$((runs + 1))
+    if [ "$got" -eq "${expected:-$status}" ] && cmp -s output "$3" && cmp -s error error.expected; then
+        return 0
+    fi
+    different=$((different + 1))
+    echo "faults: $command < $input $2 ($1), status $got"
+    diff "$3" output | head -n 5 || :
+    diff error.expected error || :
+}
+
+# The reads of a descriptor, 5 bytes at most in each: the descriptor, its name in a report, the file that is read. The last of the
+# reads answers that the input ends, and none is made behind it.
+reads() {
+    reading="FAULT_CALL=read FAULT_FD=$1"
+    last=$((($(wc -c < "$3") + 4) / 5 + 1))
+    for at in 1 $((last / 2 + 1)) "$last"; do
+        fault="$reading FAULT_MOST=5 FAULT_AT=$at"
+        try "$fault FAULT_ERRNO=$eio" '' none "$name: $2: Input/output error"
+        try "$fault FAULT_ERRNO=$eintr" '' "$whole" ''
+        try "$fault FAULT_ERRNO=$eagain FAULT_TIMES=3" '' "$whole" ''
+    done
+    try "$reading FAULT_MOST=5 FAULT_AT=$((last + 1)) FAULT_ERRNO=$eio" '' "$whole" ''
+    try "$reading FAULT_MOST=1" '' "$whole" ''
+}
+
+# The writes to standard output, and how many bytes the first two of at most 7 move where that is not 14.
+writes() {
+    writing="FAULT_CALL=write FAULT_FD=1"
+    head -c "${1-14}" "$whole" > part
+    for at in 1 3; do
+        try "$writing FAULT_MOST=7 FAULT_AT=$at FAULT_ERRNO=$eintr" '' "$whole" ''
+        try "$writing FAULT_MOST=7 FAULT_AT=$at FAULT_ERRNO=$eagain FAULT_TIMES=3" '' "$whole" ''
+    done
+    try "$writing FAULT_MOST=1" '' "$whole" ''
+    try "$writing FAULT_AT=1 FAULT_ERRNO=$eio" '' none "$name: standard output: Input/output error"
+    try "$writing FAULT_MOST=7 FAULT_AT=3 FAULT_ERRNO=$eio" '' part "$name: standard output: Input/output error"
+    try '' '> /dev/full' none "$name: standard output: No space left on device"
+    try '' '>&-' none "$name: standard output: Bad file descriptor"
+}
+
+# Standard input that is a directory, closed, or open for writing only; standard error closed.
+streams() {
+    try '' '< .' none "$name: standard input: Is a directory"
+    try '' '<&-' none "$name: standard input: Bad file descriptor"
+    try '' '<&- >&-' none "$name: standard input: Bad file descriptor"
+    try '' '0> other' none "$name: standard input: Bad file descriptor"
+    try '' '2>&-' "$whole" ''
+}
+
+# The subject between two pipes that do not wait, the first of which pauses behind so many lines.
+through_pipes() {
+    runs=$((runs + 1))
+    # shellcheck disable=SC2086
+    ./pipes "$1" ./$command < "$input" > output 2> error || :
+    if cmp -s output "$whole" && cmp -s error none; then
+        return 0
+    fi
+    different=$((different + 1))
+    echo "faults: $command between pipes"
+    diff "$whole" output | head -n 5 || :
+    cat error
+}
+
+# table
+cat > page <<'PAGE'
+master,slave,wait,serve
+0,0,6,32
+1,0,36,2
+PAGE
+subject table board.txt page
+reads 0 'standard input' board.txt
+writes
+streams
+through_pipes 4
+./table --help > help
+./table --version > version
+subject 'table --help' none help
+writes
+subject 'table --version' none version
+writes 12
+
+# Of a text that fills the room no more is read. What is refused is explained also where the refusal's line cannot be printed.
+printf '%08193d' 0 > long.txt
+echo refused,1 > refused
+subject table long.txt refused
+long='refusal 1: text over 8192 bytes'
+try "FAULT_CALL=read FAULT_FD=0 FAULT_AT=2 FAULT_ERRNO=$eio" '' refused "table: $long"
+try '' '> /dev/full' none "table: standard output: No space left on device
+table: $long"
+
+# simulate: its board, which it opens as descriptor 3, and its script
+cat > script.txt <<'SCRIPT'
+reset
+post,0,read,4096,15,1,-
+clock,2
+wait,1,0
+SCRIPT
+cat > answers <<'ANSWERS'
+reset,0
+post,0
+clock,0,0
+slave,0,1,0,0,3,2,0
+clock,0,0
+slave,0,2,0,0,3,2,0
+wait,0,36,2
+ANSWERS
+subject 'simulate board.txt' script.txt answers
+reads 3 board.txt board.txt
+reads 0 'standard input' script.txt
+writes
+streams
+through_pipes 2
+runs=$((runs + 1))
+cmp -s board.txt "$root/boards/document01.txt" || {
+    different=$((different + 1))
+    echo 'faults: the board was written to'
+}
+./simulate --help > help
+./simulate --version > version
+subject 'simulate --help' none help
+writes
+subject 'simulate --version' none version
+writes 8
+subject 'simulate .' script.txt none
+try '' '' none 'simulate: .: Is a directory'
+subject 'simulate long.txt' script.txt refused
+try '' '<&-' refused "simulate: long.txt: $long"
+try '' '2>&-' refused ''
+try '' '> /dev/full' none "simulate: standard output: No space left on device
+simulate: long.txt: $long"
+
+# An unfinished last line is run where the script ends, and not where it cannot be read.
+printf 'reset\nwait,1,0' > unended.txt
+printf 'reset,0\nwait,0,36,2\n' > both
+subject 'simulate board.txt' unended.txt both
+reads 0 'standard input' unended.txt
+
+# A script of 20,000 lines of 9 bytes. The first 131,200 bytes have 14,577 lines, and 7 bytes of the next one.
+seq 20000 | sed 's/.*/wait,0,0/' > waits.txt
+seq 20000 | sed 's/.*/wait,0,6,32/' > all
+head -n 14577 all > first
+subject 'simulate board.txt' waits.txt all
+failed='simulate: standard input: Input/output error'
+reading='FAULT_CALL=read FAULT_FD=0'
+try "$reading FAULT_AT=1 FAULT_ERRNO=$eio" '' none "$failed"
+try "$reading FAULT_AT=2 FAULT_ERRNO=$eio" '' first "$failed"
+try "$reading FAULT_AT=3 FAULT_ERRNO=$eio" '' first "$failed"
+try "$reading FAULT_AT=4 FAULT_ERRNO=$eio" '' all ''
+try "$reading FAULT_AT=2 FAULT_ERRNO=$eintr" '' all ''
+try "$reading FAULT_MOST=1000 FAULT_AT=132 FAULT_ERRNO=$eio" '' none "$failed"
+try "$reading FAULT_MOST=1000 FAULT_AT=150 FAULT_ERRNO=$eio" '' first "$failed"
+try "$reading FAULT_MOST=1000 FAULT_AT=150 FAULT_ERRNO=$eagain" '' all ''
+through_pipes 100
+{ cat first && echo "$failed"; } > ordered
+try "$reading FAULT_AT=2 FAULT_ERRNO=$eio" '2>&1' ordered ''
+head -c 60000 all > part
+try 'FAULT_CALL=write FAULT_FD=1 FAULT_MOST=60000 FAULT_AT=2' '' part 'simulate: standard output: Input/output error'
+
+# texts
+{ wc -c < board.txt && cat board.txt && printf '11\nmaster,4,8\n'; } > records
+{ echo read,0 && cat board.txt && echo read,2; } > read
+subject texts records read
+reads 0 'standard input' records
+writes
+streams
+through_pipes 3
+
+# 1,000 records of 73 bytes: the first 65,536 have 897 of them, and 55 bytes of the next one.
+seq 1000 | while read -r _; do head -n 6 records; done > records.many
+seq 1000 | while read -r _; do head -n 6 read; done > all
+head -n $((897 * 6)) all > first
+subject texts records.many all
+failed='texts: standard input: Input/output error'
+try "$reading FAULT_AT=1 FAULT_ERRNO=$eio" '' none "$failed"
+try "$reading FAULT_AT=2 FAULT_ERRNO=$eio" '' first "$failed"
+try "$reading FAULT_AT=3 FAULT_ERRNO=$eio" '' first "$failed"
+try "$reading FAULT_AT=4 FAULT_ERRNO=$eio" '' all ''
+try 'FAULT_CALL=write FAULT_FD=1 FAULT_AT=1' '' none 'texts: standard output: Input/output error'
+through_pipes 1
+
+# plan
+printf 'wait,6\nserve,32\n' > figures
+subject 'plan board.txt 0 0' none figures
+reads 3 board.txt board.txt
+writes
+try '' '<&-' figures ''
+try '' '2>&-' figures ''
+subject 'plan long.txt 0 0' none refused 1
+try '' '' refused ''
+try '' '> /dev/full' none 'plan: standard output: No space left on device'
+subject 'plan . 0 0' none none
+try '' '' none 'plan: .: Is a directory'
+subject 'plan absent.txt 0 0' none none
+try '' '' none 'plan: absent.txt: No such file or directory'
+./plan --help > help
+./plan --version > version
+subject 'plan --help' none help
+writes
+subject 'plan --version' none version
+writes
+
+echo "faults: $runs runs, $different differences"
+[ "$different" -eq 0 ]
