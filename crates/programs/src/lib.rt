@@ -1,5 +1,7 @@
 // What the programs have in common: what the words behind a program's name ask for, the version, and the line on standard error
 // that tells of output that could not be written.
+ghost use mathlib.Core.Path.{_≡_};
+ghost use Rattle.programs.specs.Options.{optionOf};
 use libc::STDOUT_FILENO;
 
 // What a program is asked for: its help, its version, or to run on the words from a place on. Wrong: none of these.
@@ -8,6 +10,14 @@ pub enum Request {
     Version,
     Run(usize),
     Wrong,
+}
+
+// An option, the end of the options, or a word that is neither.
+enum Word {
+    Help,
+    Version,
+    End,
+    Unknown,
 }
 
 // To run on `operands` words, which stand from `first` on; the program's name is word 0.
@@ -29,6 +39,22 @@ fn alone(request: Request) -> Request {
     Request::Wrong
 }
 
+// What a word says that begins with `-`.
+fn option_of(word: &[u8]) -> Word
+    ensures { λ r. ⌜ r ≡ optionOf (now (word .entry)) ⌝ }
+{
+    if text::same_bytes(word, b"-h") | text::same_bytes(word, b"--help") {
+        return Word::Help;
+    }
+    if text::same_bytes(word, b"--version") {
+        return Word::Version;
+    }
+    if text::same_bytes(word, b"--") {
+        return Word::End;
+    }
+    Word::Unknown
+}
+
 // What the words ask of a program that runs on so many of them. A first word that begins with `-` is an option, and `--` ends the
 // options. Of a word that is too long to be handed out the first byte still tells that it is one.
 pub fn asked(operands: usize) -> Request {
@@ -37,17 +63,13 @@ pub fn asked(operands: usize) -> Request {
     if word[0] != b'-' {
         return run_from(1, operands);
     }
-    let option = &word[..length];
-    if text::same_bytes(option, b"--") {
-        return run_from(2, operands);
+    let option = option_of(&word[..length]);
+    match option {
+        Word::Help => alone(Request::Help),
+        Word::Version => alone(Request::Version),
+        Word::End => run_from(2, operands),
+        Word::Unknown => Request::Wrong,
     }
-    if text::same_bytes(option, b"-h") | text::same_bytes(option, b"--help") {
-        return alone(Request::Help);
-    }
-    if text::same_bytes(option, b"--version") {
-        return alone(Request::Version);
-    }
-    Request::Wrong
 }
 
 // Tells, straight after what was to be printed, where standard output did not take it.
