@@ -1,4 +1,6 @@
 // Reads the script.
+ghost use mathlib.Core.Path.{_≡_};
+ghost use mathlib.Core.Bool.{true, false};
 ghost use Prim.Native.Nat.{_+_, _≤_};
 ghost use lib.ListN.{length};
 use crate::ROOM;
@@ -35,11 +37,14 @@ fn last_line(run: Run, n: usize) -> Run {
 
 // After a read behind the first `kept` bytes of the input, which are an unfinished line; `end` is where the bytes end now. A
 // script that cannot be read has no further line, the unfinished one included.
-fn after_read(run: Run, got: Got, kept: usize, end: usize) -> Run {
+fn after_read(run: Run, got: Got, kept: usize, end: usize) -> Run
+    ensures { λ r. ⌜ (got .failed ≡ true → (r .found ≡ false) × (r .over ≡ true)) ⌝ }
+{
     let mut next = run;
     next.from = 0;
     next.end = end;
     next.ended = got.ended;
+    next.found = false;
     if got.failed {
         streams::report(b"simulate", b"standard input");
         next.over = true;
@@ -63,8 +68,8 @@ fn read_more(input: &mut [u8], out: &[u8; ROOM], run: Run, from: usize, end: usi
         return last_line(run, kept);
     }
     let mut written = answers::flush(out, run);
-    written.found = false;
     if written.over {
+        written.found = false;
         return written;
     }
     let got = streams::read_all(STDIN_FILENO, &mut input[kept..]);
