@@ -178,40 +178,30 @@ fn answer_record(piece: &mut [u8], record: &mut [u8], out: &mut [u8], p: Progres
     requires { ⌜ (p .input .end ≤ length (now piece)) × (p .filled ≤ length (now out)) ⌝ }
     ensures { λ r. ⌜ (r .input .end ≤ length (now (piece .exit))) × (r .filled ≤ length (now (out .exit))) ⌝ }
 {
+    let mut next = p;
+    next.going = false;
     let head = take_head(&mut *piece, p.input);
-    let length = head.length;
     let behind_head = head.input;
+    next.input = behind_head;
+    let length = head.length;
     let Number::Value(size) = length else {
-        return Progress {
-            going: false,
-            filled: p.filled,
-            input: behind_head,
-        };
+        return next;
     };
     let body = take_body(&mut *piece, behind_head, size, &mut *record);
     let behind_body = body.input;
+    next.input = behind_body;
     if !body.whole {
-        return Progress {
-            going: false,
-            filled: p.filled,
-            input: behind_body,
-        };
+        return next;
+    }
+    let room = make_room(&*out, p.filled);
+    next.filled = room.at;
+    if !room.made {
+        return next;
     }
     let kept = body.kept;
-    let room = make_room(&*out, p.filled);
-    if !room.made {
-        return Progress {
-            going: false,
-            filled: 0,
-            input: behind_body,
-        };
-    }
-    let next = put_answer(&mut *out, room.at, &record[..kept]);
-    Progress {
-        going: true,
-        filled: next,
-        input: behind_body,
-    }
+    next.filled = put_answer(&mut *out, room.at, &record[..kept]);
+    next.going = true;
+    next
 }
 
 // Answers every record, up to the input's end. Nothing says that an input ends, so the turns are counted down from a number
