@@ -5,7 +5,7 @@ ghost use Rattle.programs.specs.Options.{optionOf};
 use libc::STDOUT_FILENO;
 
 // What a program is asked for: its help, its version, or to run on the words from a place on. Wrong: none of these.
-pub enum Request {
+pub enum Mode {
     Help,
     Version,
     Run(usize),
@@ -21,22 +21,22 @@ enum Word {
 }
 
 // To run on `operands` words, which stand from `first` on; the program's name is word 0.
-fn run_from(first: usize, operands: usize) -> Request {
+fn run_from(first: usize, operands: usize) -> Mode {
     let count = os::arg_count();
     if first <= count {
         if count - first == operands {
-            return Request::Run(first);
+            return Mode::Run(first);
         }
     }
-    Request::Wrong
+    Mode::Wrong
 }
 
 // An option that is asked for by itself.
-fn alone(request: Request) -> Request {
+fn alone(mode: Mode) -> Mode {
     if os::arg_count() == 2 {
-        return request;
+        return mode;
     }
-    Request::Wrong
+    Mode::Wrong
 }
 
 // What a word says that begins with `-`.
@@ -57,7 +57,7 @@ fn option_of(word: &[u8]) -> Word
 
 // What the words ask of a program that runs on so many of them. A first word that begins with `-` is an option, and `--` ends the
 // options. Of a word that is too long to be handed out the first byte still tells that it is one.
-pub fn asked(operands: usize) -> Request {
+pub fn asked(operands: usize) -> Mode {
     let mut word = io::buffer();
     let length = os::arg(1, &mut word);
     if word[0] != b'-' {
@@ -65,10 +65,10 @@ pub fn asked(operands: usize) -> Request {
     }
     let option = option_of(&word[..length]);
     match option {
-        Word::Help => alone(Request::Help),
-        Word::Version => alone(Request::Version),
+        Word::Help => alone(Mode::Help),
+        Word::Version => alone(Mode::Version),
         Word::End => run_from(2, operands),
-        Word::Unknown => Request::Wrong,
+        Word::Unknown => Mode::Wrong,
     }
 }
 

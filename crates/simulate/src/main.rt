@@ -7,7 +7,7 @@ mod world;
 
 use libc::STDERR_FILENO;
 use libc::STDOUT_FILENO;
-use programs::Request;
+use programs::Mode;
 
 fn usage(fd: i32) -> bool {
     streams::write_all(fd, b"usage: simulate BOARD < SCRIPT\n")
@@ -77,12 +77,12 @@ fn simulate_word(i: usize) {
 }
 
 fn main() {
-    let request = programs::asked(1);
-    match request {
-        Request::Help => help(),
-        Request::Version => programs::print_version(b"simulate"),
-        Request::Run(i) => simulate_word(i),
-        Request::Wrong => {
+    let mode = programs::asked(1);
+    match mode {
+        Mode::Help => help(),
+        Mode::Version => programs::print_version(b"simulate"),
+        Mode::Run(i) => simulate_word(i),
+        Mode::Wrong => {
             usage(STDERR_FILENO);
         }
     }

@@ -3,7 +3,7 @@
 use libc::STDERR_FILENO;
 use libc::STDIN_FILENO;
 use libc::STDOUT_FILENO;
-use programs::Request;
+use programs::Mode;
 
 fn usage(fd: i32) -> bool {
     streams::write_all(fd, b"usage: table < BOARD\n")
@@ -48,12 +48,12 @@ fn table() {
 }
 
 fn main() {
-    let request = programs::asked(0);
-    match request {
-        Request::Help => help(),
-        Request::Version => programs::print_version(b"table"),
-        Request::Run(_) => table(),
-        Request::Wrong => {
+    let mode = programs::asked(0);
+    match mode {
+        Mode::Help => help(),
+        Mode::Version => programs::print_version(b"table"),
+        Mode::Run(_) => table(),
+        Mode::Wrong => {
             usage(STDERR_FILENO);
         }
     }
