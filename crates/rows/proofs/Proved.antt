@@ -33,7 +33,7 @@ use Rattle.fabric.specs.Calls.{reset, wrongWords, requestRefusal, refusalBy, po
 use Rattle.waits.specs.Waits as quoted
 use Rattle.quote.specs.Calls.{quoteRefusal, quoteOf}
 use Rattle.quote.specs.Answers.{bytes64, pairBytes, pairRefusal, waitRefusal, waitOutput}
-use Rattle.tables.specs.Tables.{heading, pairLine, pairLines, tableText, refusedText, printed}
+use Rattle.tables.specs.Tables.{heading, pairLine, pairLines, tableText, tableOf, refusedText, printed}
 use Rattle.rows.specs.Runs.{runs, started, lineNow, phases, grants}
 use Rattle.rows.specs.Examples.{readAnswers, slaveAnswers, Examples}
 use Rattle.rows.specs.Rows.{boardText, sharesText, tableOutput, Rows}
@@ -56,7 +56,7 @@ unfolding
     finished maskOf transferAfter stateAfter linesOf carriesOut carried carriedBy storeAfter
     ownedBy stateAtReset reset wrongWords requestRefusal refusalBy postRefusal stateWith post bufferAfterPost clockRefusal clock storeAfterClock
     quoted.longestAccess quoted.mostBeats quoted.single quoted.serve quoted.turn quoted.otherTurn quoted.turnsOf quoted.quotedWait quoted.serveOf
-    heading pairLine pairLines tableText refusedText printed runs started afterPost afterClock lineNow phases grants
+    heading pairLine pairLines tableText tableOf refusedText printed runs started afterPost afterClock lineNow phases grants
     boardText sharesText tableOutput
     itemText itemsText writeText bytes64 pairBytes pairRefusal waitRefusal waitOutput quoteRefusal quoteOf readAnswers slaveAnswers
 proved = (

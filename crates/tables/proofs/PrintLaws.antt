@@ -1,11 +1,11 @@
--- What is printed: its parts, how long it can be, and the page that is made aside.
+-- How long a table can be, how a print ends, and the page that the table program prints.
 -- Assumes nothing.
 use mathlib.Core.Path.{_≡_, refl, ap, sym, _∙_}
-use mathlib.Core.Bool.{Bool, true, false, cond}
+use mathlib.Core.Bool.{Bool, true, false, cond, not}
 use mathlib.Core.List.{List, [], _∷_, _++_}
-use Prim.Native.Nat.{ℕ, _≤_, _<_}
+use Prim.Native.Nat.{ℕ, _+_, _≤_, _<_}
 use native.Mathlib.Omega.{arith}
-use lib.Dec.{ltb, eqb}
+use lib.Dec.{ltb, eqb, lit≤}
 use lib.ListN.{length, take, drop, length-append}
 use lib.Seq.{take-at}
 use borrow.Author.Tests.{eq-eqb, ne-eqb, lt-ltb, le-ltb, eqb-true, eqb-false}
@@ -25,18 +25,9 @@ use Rattle.description.specs.Reader.{readText}
 use Rattle.description.proofs.Trip.{read-accepted}
 use Rattle.tables.specs.declared.Printed.{Printed}
 use Rattle.waits.specs.Waits.{quotedWait, serveOf}
-use Rattle.tables.specs.Tables.{heading, pairLine, pairLines, tableText, refusedText, printed, printAnswer, printOutput}
+use Rattle.tables.specs.Tables.{heading, pairLine, pairLines, tableText, tableOf, printRefusal, printAnswer, printOutput}
+use Rattle.tables.specs.Tables.{refusedText, printed, Page}
 use Rattle.waits.proofs.SumLaws.{gather-le}
-
--- what is printed, from what the reader answers
-module _ (text : List ℕ) {p : Parsed} (e : p ≡ readText text) where
-  pub printed-refused : (p .number ≡ 0 → ⊥) → printed text ≡ lineText (bytesOf "refused") (p .number ∷ [])
-  unfolding printed refusedText
-  printed-refused h = rw (← e, ne-eqb (p .number) 0 h)
-
-  pub printed-table : p .number ≡ 0 → printed text ≡ heading ++ pairLines (p .board)
-  unfolding printed tableText
-  printed-table h = rw (← e, eq-eqb (p .number) 0 h)
 
 -- how long it can be: a master has one digit, a slave two, a figure 20
 line-long : (m s w v : ℕ) → m < 8 → s < 16 → length (lineText (digits m) (s ∷ w ∷ v ∷ [])) ≤ 47
@@ -79,70 +70,135 @@ pairs-long b legal =
     ) in
     omega (arith, legal .fewMasters, gather-le (λ m. gather (pairLine b m) (b .«slave_count»)) 752 (b .«master_count») row)
 
-pub table-long : (text : List ℕ) {p : Parsed} → p ≡ readText text → p .number ≡ 0 → length (pairLines (p .board)) ≤ 6016
-table-long text e none =
-    rw e (pairs-long (readText text .board) (read-legal text (rw e at none)))
-
 heading-length : length heading ≡ 24
 unfolding heading bytesOf
 heading-length = refl
 
-pub refused-long : (n : ℕ) → length (lineText (bytesOf "refused") (n ∷ [])) ≤ 29
-unfolding bytesOf
-refused-long n = omega (arith, line-length (bytesOf "refused") (n ∷ []), fields-long (n ∷ []))
+-- the table of a text that is not refused
+pub table-long : (text : List ℕ) → readText text .number ≡ 0 → length (tableOf text) ≤ 6040
+unfolding tableOf tableText
+table-long text none =
+    omega (
+      arith,
+      length-append heading (pairLines (readText text .board)),
+      heading-length,
+      pairs-long (readText text .board) (read-legal text none),
+    )
 
-pub printed-long : (text : List ℕ) → length (printed text) ≤ 6040
-printed-long text = go (eqb (readText text .number) 0) refl
+-- an output of so many bytes has room for every table: `print_table` refuses what the reader refuses, and no more
+print-room : (text out : List ℕ) → 6040 ≤ length out → printRefusal text out ≡ readText text .number
+unfolding printRefusal
+print-room text out h = go (eqb (readText text .number) 0) refl
   where
-    go : (t : Bool) → eqb (readText text .number) 0 ≡ t → length (printed text) ≤ 6040
+    go : (t : Bool) → eqb (readText text .number) 0 ≡ t
+        → cond (not t) (readText text .number) (cond (ltb (length out) (length (tableOf text))) 10 0) ≡ readText text .number
     go true e =
-        rw (printed-table text refl (eqb-true _ _ e))
-        (omega (
-          arith,
-          length-append heading (pairLines (readText text .board)),
-          heading-length,
-          pairs-long (readText text .board) (read-legal text (eqb-true _ _ e)),
-        ))
-    go false e =
-        rw (printed-refused text refl (eqb-false _ _ e)) (omega (arith, refused-long (readText text .number)))
+        let none = eqb-true _ _ e in
+        let g : length (tableOf text) ≤ length out = omega (arith, table-long text none) in
+        rw (le-ltb (length out) (length (tableOf text)) g) (sym none)
+    go false e = refl
 
--- the page that is made aside, and what is handed back
-module _ (text : List ℕ) {blank page : List ℕ} {n : ℕ} (x : Put blank 0 (printed text) page n) (room : 6040 ≤ length blank) where
-  page-end : n ≡ length (printed text)
-  page-end = omega (arith, x .end)
+-- what is promised of the answer r and of the output after
+abbrev pub Prints : List ℕ → List ℕ → ℕ → Printed → List ℕ → Type 0
+Prints text out most r after =
+    (r ≡ printAnswer text out) × ((after ≡ printOutput text out) × (most ≤ length out → r .number ≡ readText text .number))
 
-  pub page-within : n ≤ length page
-  page-within = omega (arith, page-end, put-length x, printed-long text)
+-- the third promise follows from the first
+promised : (text out : List ℕ) {r : Printed} {after : List ℕ} → r ≡ printAnswer text out → after ≡ printOutput text out
+    → Prints text out 6040 r after
+unfolding printAnswer
+promised text out e f = (e, (f, λ h. ap (λ (r : Printed). r .number) e ∙ print-room text out h))
 
-  page-text : take n page ≡ printed text
-  page-text =
-      ap (take n) (put-front x (omega (arith, printed-long text)))
-      ∙ take-at (printed text) (drop (length (printed text)) blank) n (sym page-end)
+-- the three ways that a print ends
+module _ (text : List ℕ) {p : Parsed} (e : p ≡ readText text) where
+  number-is : p .number ≡ readText text .number
+  number-is = ap (λ (q : Parsed). q .number) e
 
-  module _ (out : List ℕ) where
-    pub print-short : length out < n
-        → (record { number = 10; length = 0 } ≡ printAnswer text out) × (out ≡ printOutput text out)
-    unfolding printAnswer printOutput
-    print-short h =
-        let e = lt-ltb (length out) (length (printed text)) (omega (arith, page-end)) in
-        (rw e, rw e)
+  pub text-refused : (out : List ℕ) → (p .number ≡ 0 → ⊥) → Prints text out 6040 (record { number = p .number; length = 0 }) out
+  unfolding printAnswer printOutput printRefusal
+  text-refused out h =
+      let z = ne-eqb (p .number) 0 h in
+      promised text out (rw (← number-is, z, z)) (rw (← number-is, z, z))
 
-    pub print-all : n ≤ length out → {o : List ℕ} {t : ℕ} → Put out 0 (take n page) o t
-        → (record { number = 0; length = n } ≡ printAnswer text out) × (o ≡ printOutput text out)
-    unfolding printAnswer printOutput
-    print-all h y =
-        let l : length (printed text) ≤ length out = omega (arith, page-end) in
-        let e = le-ltb (length out) (length (printed text)) l in
-        (rw (e, page-end), rw e (put-front (rw page-text at y) l))
+  module _ (none : p .number ≡ 0) where
+    accepted : readText text .number ≡ 0
+    accepted = sym number-is ∙ none
 
--- so many bytes as were written stand in the output
-pub print-fits : (text out : List ℕ) {r : Printed} {o : List ℕ}
-    → (r ≡ printAnswer text out) × (o ≡ printOutput text out) → r .length ≤ length o
-unfolding printAnswer printOutput
-print-fits text out e = rw (e .0, e .1) (go (ltb (length out) (length (printed text))))
-  where
-    go : (t : Bool)
-        → cond {A = Printed} t (record { number = 10; length = 0 }) (record { number = 0; length = length (printed text) }) .length
-        ≤ length (cond t out (printed text ++ drop (length (printed text)) out))
-    go true = omega arith
-    go false = omega (arith, length-append (printed text) (drop (length (printed text)) out))
+    table-is : tableText (p .board) ≡ tableOf text
+    unfolding tableOf
+    table-is = ap (λ (q : Parsed). tableText (q .board)) e
+
+    pub table-fits : length (tableText (p .board)) ≤ 6040
+    table-fits = omega (arith, ap length table-is, table-long text accepted)
+
+    -- the page that the table is made on
+    module _ {blank page : List ℕ} {n : ℕ} (x : Put blank 0 (tableText (p .board)) page n) (room : 6040 ≤ length blank) where
+      page-end : n ≡ length (tableOf text)
+      page-end = omega (arith, x .end, ap length table-is)
+
+      pub page-within : n ≤ length page
+      page-within = omega (arith, page-end, put-length x, table-long text accepted)
+
+      page-text : take n page ≡ tableOf text
+      page-text =
+          ap (take n) (put-front x (omega (arith, table-fits)))
+          ∙ take-at (tableText (p .board)) _ n (sym (page-end ∙ ap length (sym table-is)))
+          ∙ table-is
+
+      module _ (out : List ℕ) where
+        pub room-refused : length out < n → Prints text out 6040 (record { number = 10; length = 0 }) out
+        unfolding printAnswer printOutput printRefusal
+        room-refused h =
+            let z = lt-ltb (length out) (length (tableOf text)) (omega (arith, page-end)) in
+            promised text out (rw (accepted, z)) (rw (accepted, z))
+
+        pub table-printed : n ≤ length out → {o : List ℕ} {t : ℕ} → Put out 0 (take n page) o t
+            → Prints text out 6040 (record { number = 0; length = n }) o
+        unfolding printAnswer printOutput printRefusal
+        table-printed h y =
+            let l : length (tableOf text) ≤ length out = omega (arith, page-end) in
+            let z = le-ltb (length out) (length (tableOf text)) l in
+            promised text out (rw (accepted, z, page-end)) (rw (accepted, z) (put-front (rw page-text at y) l))
+
+-- a page whose front is a text
+page-front : (text page line before : List ℕ) (n : ℕ) → page ≡ line ++ drop (length line) before → n ≡ length line
+    → line ≡ printed text → Page text page n
+page-front text page line before n e l f =
+    let t : take n page ≡ line = ap (take n) e ∙ take-at line (drop (length line) before) n (sym l) in
+    record {
+      within = omega (arith, ap length e, length-append line (drop (length line) before));
+      counted = l ∙ sym (ap length t);
+      front = t ∙ f;
+    }
+
+-- a page of so many bytes, and what a print made of it: the table, or nothing, and then the refusal's line has room
+module _ (text page : List ℕ) (room : 6040 ≤ length page) {r : Printed} {after : List ℕ} (e : Prints text page 6040 r after) where
+  number-read : r .number ≡ readText text .number
+  number-read = e .1 .1 room
+
+  refusal-is : printRefusal text page ≡ r .number
+  refusal-is = print-room text page room ∙ sym number-read
+
+  pub page-table : r .number ≡ 0 → Page text after (r .length)
+  unfolding printed printAnswer printOutput
+  page-table none =
+      page-front text after (tableOf text) page (r .length)
+      (e .1 .0 ∙ rw (refusal-is, none))
+      (ap (λ (q : Printed). q .length) (e .0) ∙ rw (refusal-is, none))
+      (rw (← number-read, none))
+
+  module _ (some : r .number ≡ 0 → ⊥) where
+    page-kept : after ≡ page
+    unfolding printOutput
+    page-kept = e .1 .0 ∙ rw (refusal-is, ne-eqb (r .number) 0 some)
+
+    -- a line with a word of so many bytes and the number
+    pub line-room : (word : List ℕ) → length word ≤ 7 → 0 + length (lineText word (r .number ∷ [])) ≤ length after
+    line-room word h = omega (arith, ap length page-kept, line-length word (r .number ∷ []), fields-long (r .number ∷ []))
+
+    pub page-refused : {o : List ℕ} {n : ℕ} → Put after 0 (lineText (bytesOf "refused") (r .number ∷ [])) o n → Page text o n
+    unfolding printed refusedText bytesOf
+    page-refused {o} {n} x =
+        page-front text o (lineText (bytesOf "refused") (r .number ∷ [])) after n
+        (put-front x (omega (arith, line-room (bytesOf "refused") (lit≤ tt)))) (omega (arith, x .end))
+        (rw (← number-read, ne-eqb (r .number) 0 some))

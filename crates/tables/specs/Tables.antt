@@ -1,10 +1,11 @@
--- What the table program prints, and what `print_table` answers.
+-- A board's table, what `print_table` answers, and what the table program prints.
 -- Assumes nothing.
-use mathlib.Core.Bool.{cond}
+use mathlib.Core.Path.{_≡_}
+use mathlib.Core.Bool.{cond, not}
 use mathlib.Core.List.{List, [], _∷_, _++_}
-use Prim.Native.Nat.{ℕ}
+use Prim.Native.Nat.{ℕ, _≤_}
 use lib.Dec.{ltb, eqb}
-use lib.ListN.{length, drop}
+use lib.ListN.{length, take, drop}
 use Rattle.laws.specs.Bytes.{bytesOf}
 use Rattle.laws.specs.Lists.{gather}
 use Rattle.text.specs.Digits.{digits, lineText}
@@ -30,21 +31,38 @@ pairLines b = gather (λ m. gather (pairLine b m) (b .«slave_count»)) (b .«ma
 unfoldable pub tableText : Board → List ℕ
 tableText b = heading ++ pairLines b
 
+-- the table of the board that a text describes
+unfoldable pub tableOf : List ℕ → List ℕ
+tableOf text = tableText (readText text .board)
+
+-- 1 to 7, then 10: "output shorter than what is to be written"
+unfoldable pub printRefusal : List ℕ → List ℕ → ℕ
+printRefusal text out =
+    let n = readText text .number in
+    cond (not (eqb n 0)) n (cond (ltb (length out) (length (tableOf text))) 10 0)
+
+-- what `print_table` answers
+unfoldable pub printAnswer : List ℕ → List ℕ → Printed
+printAnswer text out = record {
+  number = printRefusal text out;
+  length = cond (eqb (printRefusal text out) 0) (length (tableOf text)) 0;
+}
+
+-- the lent output on return: "in a longer one the bytes behind stay unchanged"
+unfoldable pub printOutput : List ℕ → List ℕ → List ℕ
+printOutput text out =
+    cond (eqb (printRefusal text out) 0) (tableOf text ++ drop (length (tableOf text)) out) out
+
 -- "For a refused text it prints `refused,`, the number and a line feed."
 unfoldable pub refusedText : ℕ → List ℕ
 refusedText n = lineText (bytesOf "refused") (n ∷ [])
 
 -- what the table program prints
 unfoldable pub printed : List ℕ → List ℕ
-printed text = let r = readText text in cond (eqb (r .number) 0) (tableText (r .board)) (refusedText (r .number))
+printed text = let n = readText text .number in cond (eqb n 0) (tableOf text) (refusedText n)
 
--- 10: "output shorter than what is to be written"
-unfoldable pub printAnswer : List ℕ → List ℕ → Printed
-printAnswer text out =
-    cond (ltb (length out) (length (printed text))) (record { number = 10; length = 0 })
-    (record { number = 0; length = length (printed text) })
-
--- the lent output on return: "in a longer one the bytes behind stay unchanged"
-unfoldable pub printOutput : List ℕ → List ℕ → List ℕ
-printOutput text out =
-    cond (ltb (length out) (length (printed text))) out (printed text ++ drop (length (printed text)) out)
+-- a page whose first n bytes are that. `counted` follows from `within`; with both at hand `&page[..n]` needs no proof file.
+pub record Page (text page : List ℕ) (n : ℕ) : Type 0 where
+  pub within : n ≤ length page
+  pub counted : n ≡ length (take n page)
+  pub front : take n page ≡ printed text

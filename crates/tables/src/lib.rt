@@ -7,7 +7,8 @@ ghost use mathlib.Core.Path.{_≡_};
 ghost use Prim.Native.Nat.{_+_, _≤_};
 ghost use lib.ListN.{length};
 ghost use Rattle.text.specs.Scanning.{Put};
-ghost use Rattle.tables.specs.Tables.{pairLines, printed, printAnswer, printOutput};
+ghost use Rattle.description.specs.Reader.{readText};
+ghost use Rattle.tables.specs.Tables.{pairLines, tableText, printAnswer, printOutput, Page};
 ghost use Rattle.tables.specs.Lines.{quoteLine, lineAmong};
 
 // A refusal's number and 0, or 0 and the count of bytes written.
@@ -73,29 +74,34 @@ fn put_pairs(out: &mut [u8], at: usize, b: Board) -> usize
 // The longest table: the heading's 24 bytes, and 47 for each of 128 pairs.
 pub const LONGEST_TABLE: usize = 6040;
 
-// Writes what the table program prints for a text.
-fn put_printed(out: &mut [u8], text: &[u8]) -> usize
-    requires { ⌜ 6040 ≤ length (now out) ⌝ }
-    ensures { λ r. ⌜ Put (now (out .entry)) 0 (printed (now (text .entry))) (now (out .exit)) r ⌝ }
+// Writes a board's table at the front of out.
+fn put_table(out: &mut [u8], b: Board) -> usize
+    requires { ⌜ length (tableText b) ≤ length (now out) ⌝ }
+    ensures { λ r. ⌜ Put (now (out .entry)) 0 (tableText b) (now (out .exit)) r ⌝ }
 {
-    let p = description::read(text);
-    if p.number != 0 {
-        let numbers = [p.number as u64];
-        return text::put_line(&mut *out, 0, b"refused", &numbers);
-    }
-    let b = p.board;
     let at = text::put_bytes(&mut *out, 0, b"master,slave,wait,serve\n");
     put_pairs(&mut *out, at, b)
 }
 
-// The table of the board that a text describes, or its refusal, at the front of out. It is made aside, so that out stays as
-// it was where it is too short.
+// The table of the board that a text describes, at the front of out. It is made aside, so that out stays as it was where it is
+// too short. An output of LONGEST_TABLE bytes has room for every table.
 pub fn print_table(text: &[u8], out: &mut [u8]) -> Printed
-    ensures { λ r. ⌜ r ≡ printAnswer (now (text .entry)) (now (out .entry)) ⌝ }
-    ensures { λ r. ⌜ now (out .exit) ≡ printOutput (now (text .entry)) (now (out .entry)) ⌝ }
+    ensures answer { λ r. ⌜ r ≡ printAnswer (now (text .entry)) (now (out .entry)) ⌝ }
+    ensures output { λ r. ⌜ now (out .exit) ≡ printOutput (now (text .entry)) (now (out .entry)) ⌝ }
+    ensures room { λ r. do
+      ⌜ ((← ⟦LONGEST_TABLE⟧ .entry) ≤ length (now (out .entry))
+          → r .number ≡ readText (now (text .entry)) .number) ⌝ }
 {
+    let p = description::read(text);
+    if p.number != 0 {
+        return Printed {
+            number: p.number,
+            length: 0,
+        };
+    }
+    let b = p.board;
     let mut page = [0; LONGEST_TABLE];
-    let n = put_printed(&mut page, text);
+    let n = put_table(&mut page, b);
     if out.len() < n {
         return Printed {
             number: 10,
@@ -107,4 +113,17 @@ pub fn print_table(text: &[u8], out: &mut [u8]) -> Printed
         number: 0,
         length: n,
     }
+}
+
+// What the table program prints for a text, at the front of the page: the table, or the line that says what the text is
+// refused with. The answer is the count of bytes.
+pub fn print_page(text: &[u8], page: &mut [u8; LONGEST_TABLE]) -> usize
+    ensures { λ r. ⌜ Page (now (text .entry)) (now (page .exit)) r ⌝ }
+{
+    let p = print_table(text, &mut *page);
+    if p.number == 0 {
+        return p.length;
+    }
+    let numbers = [p.number as u64];
+    text::put_line(&mut *page, 0, b"refused", &numbers)
 }
