@@ -47,11 +47,11 @@ ratio-pos ma sl h = go (ltb (sl .width) (ma .width)) refl
     go true e = le-div-iff-mul-le h .1 (omega (arith, one-mul (sl .width), ltb-true (sl .width) (ma .width) e))
     go false e = omega arith
 
-pub ratio-le : (ma : Master) (sl : Slave) → ma .width ≤ 255 → ratio ma sl ≤ 255
+pub ratio-le : (ma : Master) (sl : Slave) (w : ℕ) → 1 ≤ w → ma .width ≤ w → ratio ma sl ≤ w
 unfolding ratio
-ratio-le ma sl h = go (ltb (sl .width) (ma .width))
+ratio-le ma sl w some h = go (ltb (sl .width) (ma .width))
   where
-    go : (c : Bool) → cond c (ma .width / sl .width) 1 ≤ 255
+    go : (c : Bool) → cond c (ma .width / sl .width) 1 ≤ w
     go true = omega (arith, div-le-self (ma .width) (sl .width))
     go false = omega arith
 

@@ -1,15 +1,14 @@
 -- What the quoted figures say to a planner: turns, singles, the longest transfer; how large they get; their 16 bytes.
 -- Assumes nothing.
 use mathlib.Core.Path.{_≡_, refl, sym, ap, _∙_}
-use mathlib.Core.Bool.{Bool, true, false, cond, not, _&&_}
+use mathlib.Core.Bool.{cond, not, _&&_}
 use mathlib.Core.List.{List, _++_, append-assoc}
-use Prim.Native.Nat.{ℕ, zero, suc, _+_, _-_, _*_, _/_, _%_, _^_, _≤_, _<_}
+use Prim.Native.Nat.{ℕ, zero, suc, _+_, _-_, _*_, _/_, _%_, _^_, _<_}
 use native.Mathlib.Nat.{mul-assoc, mul-comm, add-mul, pow-suc, suc-mul, div-add-mod', div-div-eq-div-mul, mod-eq-of-lt}
 use native.Mathlib.Omega.{arith}
 use lib.Dec.{eqb}
 use lib.ListN.{length, drop, List·getD-append}
 use lib.Seq.{drop-at}
-use borrow.Author.Tests.{eqb-true, eqb-false}
 use Rattle.laws.specs.Lists.{sum}
 use Rattle.laws.proofs.FillLaws.{sum-same}
 use Rattle.laws.proofs.TableLaws.{length-table, getD-table}
@@ -18,12 +17,10 @@ use Rattle.board.specs.declared.Slave.{Slave}
 use Rattle.board.specs.declared.Board.{Board}
 use Rattle.board.specs.Records.{masterAt, slaveAt, sharesAt, connected}
 use Rattle.board.specs.Legal.{Legal}
-use Rattle.board.proofs.RuleLaws.{width-bound, burst-bound}
 use Rattle.geometry.specs.Accesses.{ratio}
 use Rattle.waits.specs.Waits.{longestAccess, mostBeats, single, serve, turn, otherTurn, turnsOf, quotedWait, serveOf}
 use Rattle.quote.specs.Answers.{bytes64, spelled, pairBytes}
-use Rattle.waits.proofs.Bounds.{serve-le, turn-le}
-use Rattle.waits.proofs.SumLaws.{sum-le}
+use Rattle.waits.proofs.Bounds.{wait-small, serve-small}
 
 -- the wait is the sum of the turns of all other masters connected to the slave
 pub wait-turns : (b : Board) (m s : ℕ)
@@ -58,43 +55,11 @@ module _ (ma : Master) (sl : Slave) (v : ℕ) where
 
 -- the figures of a legal board fit 64 bits
 module _ (b : Board) (legal : Legal b) (m s : ℕ) (hm : m < b .«master_count») (hs : s < b .«slave_count») where
-  v-le : longestAccess (slaveAt b s) ≤ 4294967296
-  unfolding longestAccess
-  v-le = let l = legal .slave s hs in omega (arith, l .readWait, l .writeWait)
-
-  width-le : (k : ℕ) → k < b .«master_count» → masterAt b k .width ≤ 255
-  width-le k h = omega (arith, width-bound (masterAt b k .width) (legal .master k h .width) .1)
-
-  burst-le : (k : ℕ) → k < b .«master_count» → masterAt b k .burst ≤ 255
-  burst-le k h = omega (arith, burst-bound (masterAt b k .burst) (legal .master k h .burst) .1)
-
-  shares-le : (k : ℕ) → k < b .«master_count» → sharesAt b k s ≤ 255
-  shares-le k h = go (eqb (sharesAt b k s) 0) refl
-    where
-      go : (t : Bool) → eqb (sharesAt b k s) 0 ≡ t → sharesAt b k s ≤ 255
-      go true e = omega (arith, eqb-true (sharesAt b k s) 0 e)
-      go false e =
-          let i : 16 * k + s < 128 = omega (arith, legal .fewMasters, legal .fewSlaves) in
-          omega (arith, legal .shares (16 * k + s) i (eqb-false _ _ e) .0)
-
-  other-le : (k : ℕ) → k < b .«master_count» → otherTurn b (longestAccess (slaveAt b s)) m s k ≤ 2 ^ 50
-  unfolding otherTurn
-  other-le k h = go (connected b k s && not (eqb k m))
-    where
-      go : (t : Bool)
-          → cond t (turn (masterAt b k) (slaveAt b s) (sharesAt b k s) (longestAccess (slaveAt b s))) 0 ≤ 2 ^ 50
-      go true =
-          turn-le (masterAt b k) (slaveAt b s) (longestAccess (slaveAt b s)) (width-le k h) (burst-le k h) v-le (sharesAt b k s)
-          (shares-le k h)
-      go false = omega arith
-
   pub wait-fits : quotedWait b m s < 2 ^ 64
-  unfolding quotedWait turnsOf
-  wait-fits = omega (arith, sum-le (otherTurn b (longestAccess (slaveAt b s)) m s) (2 ^ 50) (b .«master_count») other-le, legal .fewMasters)
+  wait-fits = omega (arith, wait-small b legal s hs m)
 
   pub serve-fits : serveOf b m s < 2 ^ 64
-  unfolding serveOf
-  serve-fits = omega (arith, serve-le (masterAt b m) (slaveAt b s) (longestAccess (slaveAt b s)) (width-le m hm) (burst-le m hm) v-le)
+  serve-fits = omega (arith, serve-small b legal s hs m hm)
 
 -- one byte more of a number
 mod-more : (n b : ℕ) → n % (b * 256) ≡ n % b + n / b % 256 * b

@@ -3,18 +3,18 @@
 use mathlib.Core.Path.{_≡_, refl, ap, sym, _∙_}
 use mathlib.Core.Bool.{Bool, true, false, cond, not}
 use mathlib.Core.List.{List, [], _∷_, _++_}
-use Prim.Native.Nat.{ℕ, _+_, _≤_, _<_}
+use Prim.Native.Nat.{ℕ, zero, suc, _+_, _-_, _*_, _^_, _≤_, _<_}
 use native.Mathlib.Omega.{arith}
 use lib.Dec.{ltb, eqb, lit≤}
 use lib.ListN.{length, take, drop, length-append}
 use lib.Seq.{take-at}
-use borrow.Author.Tests.{eq-eqb, ne-eqb, lt-ltb, le-ltb, eqb-true, eqb-false}
+use borrow.Author.Tests.{ne-eqb, lt-ltb, le-ltb, ltb-true, ltb-false, eqb-true}
 use Rattle.laws.specs.Bytes.{bytesOf}
 use Rattle.laws.specs.Lists.{gather}
 use Rattle.text.specs.Digits.{digits, fieldsText, lineText}
 use Rattle.text.specs.Fields.{comma}
 use Rattle.text.specs.Scanning.{Put}
-use Rattle.text.proofs.Decimal.{digits-most, digits-long, fields-long, line-length}
+use Rattle.text.proofs.Decimal.{digits-small-length, digits-most, fields-long, line-length}
 use Rattle.text.proofs.Puts.{put-front, put-length}
 use Rattle.board.specs.declared.Board.{Board}
 use Rattle.board.specs.Records.{connected}
@@ -27,56 +27,82 @@ use Rattle.tables.specs.declared.Printed.{Printed}
 use Rattle.waits.specs.Waits.{quotedWait, serveOf}
 use Rattle.tables.specs.Tables.{heading, pairLine, pairLines, tableText, tableOf, printRefusal, printAnswer, printOutput}
 use Rattle.tables.specs.Tables.{refusedText, printed, Page}
+use Rattle.tables.specs.Longest.{longestTable}
 use Rattle.waits.proofs.SumLaws.{gather-le}
+use Rattle.waits.proofs.Bounds.{wait-small, serve-small}
 
--- how long it can be: a master has one digit, a slave two, a figure 20
-line-long : (m s w v : ℕ) → m < 8 → s < 16 → length (lineText (digits m) (s ∷ w ∷ v ∷ [])) ≤ 47
+-- a line: a master has one digit, a wait at most 7, a serve 6
+line-long : (m s w v : ℕ) → m < 8 → w < 10 ^ 7 → v < 10 ^ 6
+    → length (lineText (digits m) (s ∷ w ∷ v ∷ [])) ≤ 18 + length (digits s)
 unfolding fieldsText
-line-long m s w v hm hs =
+line-long m s w v hm hw hv =
     omega (
       arith,
       line-length (digits m) (s ∷ w ∷ v ∷ []),
       digits-most 0 m (omega arith),
-      digits-most 1 s (omega arith),
-      digits-long w,
-      digits-long v,
+      digits-most 6 w hw,
+      digits-most 5 v hv,
       length-append (digits s) (comma ∷ (digits w ++ (comma ∷ (digits v ++ [])))),
       length-append (digits w) (comma ∷ (digits v ++ [])),
       length-append (digits v) [],
     )
 
-pair-long : (b : Board) (m s : ℕ) → m < 8 → s < 16 → length (pairLine b m s) ≤ 47
-unfolding pairLine
-pair-long b m s hm hs = go (connected b m s)
+-- a slave has one digit below 10, and from there on two
+slave-digits : (s : ℕ) → s < 16 → length (digits s) + (s - 10) ≤ 1 + (suc s - 10)
+slave-digits s h = go (ltb s 10) refl
   where
-    go : (t : Bool) → length (cond t (lineText (digits m) (s ∷ quotedWait b m s ∷ serveOf b m s ∷ [])) []) ≤ 47
-    go true = line-long m s (quotedWait b m s) (serveOf b m s) hm hs
-    go false = omega arith
+    go : (t : Bool) → ltb s 10 ≡ t → length (digits s) + (s - 10) ≤ 1 + (suc s - 10)
+    go true e = omega (arith, ltb-true s 10 e, digits-small-length s (ltb-true s 10 e))
+    go false e = omega (arith, ltb-false s 10 e, digits-most 1 s (omega arith))
+
+-- the lines of a legal board
+module _ (b : Board) (legal : Legal b) where
+  pair-long : (m s : ℕ) → m < b .«master_count» → s < b .«slave_count» → length (pairLine b m s) ≤ 18 + length (digits s)
+  unfolding pairLine
+  pair-long m s hm hs = go (connected b m s)
+    where
+      go : (t : Bool)
+          → length (cond t (lineText (digits m) (s ∷ quotedWait b m s ∷ serveOf b m s ∷ [])) []) ≤ 18 + length (digits s)
+      go true =
+          line-long m s (quotedWait b m s) (serveOf b m s) (omega (arith, legal .fewMasters)) (wait-small b legal s hs m)
+          (serve-small b legal s hs m hm)
+      go false = omega arith
+
+  -- of the first n slaves
+  row-long : (m n : ℕ) → m < b .«master_count» → n ≤ b .«slave_count» → length (gather (pairLine b m) n) ≤ 19 * n + (n - 10)
+  unfolding gather
+  row-long m zero hm h = omega arith
+  row-long m (suc n) hm h =
+      omega (
+        arith,
+        length-append (gather (pairLine b m) n) (pairLine b m n),
+        row-long m n hm (omega arith),
+        pair-long m n hm (omega arith),
+        slave-digits n (omega (arith, legal .fewSlaves)),
+      )
+
+  pairs-long : length (pairLines b) ≤ 8 * (10 * 19 + 6 * 20)
+  unfolding pairLines
+  pairs-long =
+      let row : (m : ℕ) → m < b .«master_count» → length (gather (pairLine b m) (b .«slave_count»)) ≤ 10 * 19 + 6 * 20 =
+      λ m h. omega (arith, row-long m (b .«slave_count») h (omega arith), legal .fewSlaves) in
+      omega (
+        arith,
+        legal .fewMasters,
+        gather-le (λ m. gather (pairLine b m) (b .«slave_count»)) (10 * 19 + 6 * 20) (b .«master_count») row,
+      )
 
 -- a text that is not refused reads to a legal board
 read-legal : (text : List ℕ) → readText text .number ≡ 0 → Legal (readText text .board)
 read-legal text e = accepted-legal (readText text .board) (read-accepted text e)
-
-pairs-long : (b : Board) → Legal b → length (pairLines b) ≤ 6016
-unfolding pairLines
-pairs-long b legal =
-    let row : (m : ℕ) → m < b .«master_count» → length (gather (pairLine b m) (b .«slave_count»)) ≤ 752 =
-    λ m h.
-    omega (
-      arith,
-      legal .fewMasters,
-      legal .fewSlaves,
-      gather-le (pairLine b m) 47 (b .«slave_count») (λ s l. pair-long b m s (omega (arith, legal .fewMasters)) (omega (arith, legal .fewSlaves))),
-    ) in
-    omega (arith, legal .fewMasters, gather-le (λ m. gather (pairLine b m) (b .«slave_count»)) 752 (b .«master_count») row)
 
 heading-length : length heading ≡ 24
 unfolding heading bytesOf
 heading-length = refl
 
 -- the table of a text that is not refused
-pub table-long : (text : List ℕ) → readText text .number ≡ 0 → length (tableOf text) ≤ 6040
-unfolding tableOf tableText
+pub table-long : (text : List ℕ) → readText text .number ≡ 0 → length (tableOf text) ≤ longestTable
+unfolding tableOf tableText longestTable
 table-long text none =
     omega (
       arith,
@@ -85,8 +111,8 @@ table-long text none =
       pairs-long (readText text .board) (read-legal text none),
     )
 
--- an output of so many bytes has room for every table: `print_table` refuses what the reader refuses, and no more
-print-room : (text out : List ℕ) → 6040 ≤ length out → printRefusal text out ≡ readText text .number
+-- an output of `longestTable` bytes has room for every table: `print_table` refuses what the reader refuses, and no more
+print-room : (text out : List ℕ) → longestTable ≤ length out → printRefusal text out ≡ readText text .number
 unfolding printRefusal
 print-room text out h = go (eqb (readText text .number) 0) refl
   where
@@ -98,27 +124,29 @@ print-room text out h = go (eqb (readText text .number) 0) refl
         rw (le-ltb (length out) (length (tableOf text)) g) (sym none)
     go false e = refl
 
--- what is promised of the answer r and of the output after
-abbrev pub Prints : List ℕ → List ℕ → ℕ → Printed → List ℕ → Type 0
-Prints text out most r after =
+-- what is promised of the answer r and of the output after; the third part for an output of `most` bytes
+abbrev pub Prints : List ℕ → List ℕ → Printed → List ℕ → Type 0
+Prints text out r after = (r ≡ printAnswer text out) × (after ≡ printOutput text out)
+
+abbrev pub Promised : List ℕ → List ℕ → ℕ → Printed → List ℕ → Type 0
+Promised text out most r after =
     (r ≡ printAnswer text out) × ((after ≡ printOutput text out) × (most ≤ length out → r .number ≡ readText text .number))
 
--- the third promise follows from the first
-promised : (text out : List ℕ) {r : Printed} {after : List ℕ} → r ≡ printAnswer text out → after ≡ printOutput text out
-    → Prints text out 6040 r after
+-- the third part follows from the first
+pub promised : (text out : List ℕ) (most : ℕ) {r : Printed} {after : List ℕ} → longestTable ≤ most → Prints text out r after
+    → Promised text out most r after
 unfolding printAnswer
-promised text out e f = (e, (f, λ h. ap (λ (r : Printed). r .number) e ∙ print-room text out h))
+promised text out most l e =
+    (e .0, (e .1, λ h. ap (λ (r : Printed). r .number) (e .0) ∙ print-room text out (omega arith)))
 
 -- the three ways that a print ends
 module _ (text : List ℕ) {p : Parsed} (e : p ≡ readText text) where
   number-is : p .number ≡ readText text .number
   number-is = ap (λ (q : Parsed). q .number) e
 
-  pub text-refused : (out : List ℕ) → (p .number ≡ 0 → ⊥) → Prints text out 6040 (record { number = p .number; length = 0 }) out
+  pub text-refused : (out : List ℕ) → (p .number ≡ 0 → ⊥) → Prints text out (record { number = p .number; length = 0 }) out
   unfolding printAnswer printOutput printRefusal
-  text-refused out h =
-      let z = ne-eqb (p .number) 0 h in
-      promised text out (rw (← number-is, z, z)) (rw (← number-is, z, z))
+  text-refused out h = let z = ne-eqb (p .number) 0 h in (rw (← number-is, z, z), rw (← number-is, z, z))
 
   module _ (none : p .number ≡ 0) where
     accepted : readText text .number ≡ 0
@@ -128,37 +156,38 @@ module _ (text : List ℕ) {p : Parsed} (e : p ≡ readText text) where
     unfolding tableOf
     table-is = ap (λ (q : Parsed). tableText (q .board)) e
 
-    pub table-fits : length (tableText (p .board)) ≤ 6040
+    pub table-fits : length (tableText (p .board)) ≤ longestTable
     table-fits = omega (arith, ap length table-is, table-long text accepted)
 
     -- the page that the table is made on
-    module _ {blank page : List ℕ} {n : ℕ} (x : Put blank 0 (tableText (p .board)) page n) (room : 6040 ≤ length blank) where
-      page-end : n ≡ length (tableOf text)
-      page-end = omega (arith, x .end, ap length table-is)
+    module _ {blank page : List ℕ} {n : ℕ} (x : Put blank 0 (tableText (p .board)) page n) (room : longestTable ≤ length page)
+      where
+        page-end : n ≡ length (tableOf text)
+        page-end = omega (arith, x .end, ap length table-is)
 
-      pub page-within : n ≤ length page
-      page-within = omega (arith, page-end, put-length x, table-long text accepted)
+        pub page-within : n ≤ length page
+        page-within = omega (arith, page-end, table-long text accepted)
 
-      page-text : take n page ≡ tableOf text
-      page-text =
-          ap (take n) (put-front x (omega (arith, table-fits)))
-          ∙ take-at (tableText (p .board)) _ n (sym (page-end ∙ ap length (sym table-is)))
-          ∙ table-is
+        page-text : take n page ≡ tableOf text
+        page-text =
+            ap (take n) (put-front x (omega (arith, put-length x, table-fits)))
+            ∙ take-at (tableText (p .board)) _ n (sym (page-end ∙ ap length (sym table-is)))
+            ∙ table-is
 
-      module _ (out : List ℕ) where
-        pub room-refused : length out < n → Prints text out 6040 (record { number = 10; length = 0 }) out
-        unfolding printAnswer printOutput printRefusal
-        room-refused h =
-            let z = lt-ltb (length out) (length (tableOf text)) (omega (arith, page-end)) in
-            promised text out (rw (accepted, z)) (rw (accepted, z))
+        module _ (out : List ℕ) where
+          pub room-refused : length out < n → Prints text out (record { number = 10; length = 0 }) out
+          unfolding printAnswer printOutput printRefusal
+          room-refused h =
+              let z = lt-ltb (length out) (length (tableOf text)) (omega (arith, page-end)) in
+              (rw (accepted, z), rw (accepted, z))
 
-        pub table-printed : n ≤ length out → {o : List ℕ} {t : ℕ} → Put out 0 (take n page) o t
-            → Prints text out 6040 (record { number = 0; length = n }) o
-        unfolding printAnswer printOutput printRefusal
-        table-printed h y =
-            let l : length (tableOf text) ≤ length out = omega (arith, page-end) in
-            let z = le-ltb (length out) (length (tableOf text)) l in
-            promised text out (rw (accepted, z, page-end)) (rw (accepted, z) (put-front (rw page-text at y) l))
+          pub table-printed : n ≤ length out → {o : List ℕ} {t : ℕ} → Put out 0 (take n page) o t
+              → Prints text out (record { number = 0; length = n }) o
+          unfolding printAnswer printOutput printRefusal
+          table-printed h y =
+              let l : length (tableOf text) ≤ length out = omega (arith, page-end) in
+              let z = le-ltb (length out) (length (tableOf text)) l in
+              (rw (accepted, z, page-end), rw (accepted, z) (put-front (rw page-text at y) l))
 
 -- a page whose front is a text
 page-front : (text page line before : List ℕ) (n : ℕ) → page ≡ line ++ drop (length line) before → n ≡ length line
@@ -171,13 +200,14 @@ page-front text page line before n e l f =
       front = t ∙ f;
     }
 
--- a page of so many bytes, and what a print made of it: the table, or nothing, and then the refusal's line has room
-module _ (text page : List ℕ) (room : 6040 ≤ length page) {r : Printed} {after : List ℕ} (e : Prints text page 6040 r after) where
+-- a page of `most` bytes, and what a print made of it: the table, or nothing, and then the refusal's line has room
+module _ (text page : List ℕ) (most : ℕ) {r : Printed} {after : List ℕ} (e : Promised text page most r after)
+    (enough : longestTable ≤ most) (room : most ≤ length page) where
   number-read : r .number ≡ readText text .number
   number-read = e .1 .1 room
 
   refusal-is : printRefusal text page ≡ r .number
-  refusal-is = print-room text page room ∙ sym number-read
+  refusal-is = print-room text page (omega arith) ∙ sym number-read
 
   pub page-table : r .number ≡ 0 → Page text after (r .length)
   unfolding printed printAnswer printOutput
@@ -194,6 +224,7 @@ module _ (text page : List ℕ) (room : 6040 ≤ length page) {r : Printed} {aft
 
     -- a line with a word of so many bytes and the number
     pub line-room : (word : List ℕ) → length word ≤ 7 → 0 + length (lineText word (r .number ∷ [])) ≤ length after
+    unfolding longestTable
     line-room word h = omega (arith, ap length page-kept, line-length word (r .number ∷ []), fields-long (r .number ∷ []))
 
     pub page-refused : {o : List ℕ} {n : ℕ} → Put after 0 (lineText (bytesOf "refused") (r .number ∷ [])) o n → Page text o n

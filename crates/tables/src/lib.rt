@@ -71,8 +71,9 @@ fn put_pairs(out: &mut [u8], at: usize, b: Board) -> usize
     next
 }
 
-// The longest table: the heading's 24 bytes, and 47 for each of 128 pairs.
-pub const LONGEST_TABLE: usize = 6040;
+// No accepted board's table has more bytes: the heading's 24, and for each of 8 masters 10 lines of 19 (a slave of one digit)
+// and 6 of 20.
+pub const LONGEST_TABLE: usize = 24 + 8 * (10 * 19 + 6 * 20);
 
 // Writes a board's table at the front of out.
 fn put_table(out: &mut [u8], b: Board) -> usize

@@ -1,10 +1,9 @@
 -- `tables::print_page` meets its contract: the table, or the refusal's line on the page that was left as it was.
 -- Assumes nothing.
-use Prim.Native.Nat.{_≤_}
 use lib.Dec.{lit≤}
-use lib.ListN.{length}
 use borrow.Author.Needs.{needs}
 use Rattle.laws.specs.Bytes.{bytesOf}
+use Rattle.tables.specs.Longest.{longestTable}
 use Rattle.tables.proofs.PrintLaws.{page-table, line-room, page-refused}
 use Rattle.tables.proofs.print_page.Statement.{statement}
 use Rattle.tables.proofs.print_page.Tie as tie
@@ -13,10 +12,10 @@ print-table-requires : tie.Need-print-table-requires
 print-table-requires c κs = search needs
 
 returns : tie.Need-returns
+unfolding longestTable
 returns c =
     let p = c .before .before in
-    let l : 6040 ≤ length (p .before .before .before .args .page .now) = search needs in
-    page-table _ _ l (p .print-table .ensures) (c .if1 .taken)
+    page-table _ _ _ (p .print-table .ensures) (lit≤ tt) (search needs) (c .if1 .taken)
 
 cast-t9 : tie.Need-cast-t9
 cast-t9 c = search needs
@@ -28,19 +27,18 @@ slice-aggregate-put-line-2 : tie.Need-slice-aggregate-put-line-2
 slice-aggregate-put-line-2 c = search needs
 
 put-line-requires : tie.Need-put-line-requires
+unfolding longestTable
 put-line-requires c κs =
     let e = c .before .before .before .before in
     let p = e .before .before in
-    let l : 6040 ≤ length (p .before .before .before .args .page .now) = search needs in
-    line-room _ _ l (p .print-table .ensures) (e .if1 .left) _ (lit≤ tt)
+    line-room _ _ _ (p .print-table .ensures) (lit≤ tt) (search needs) (e .if1 .left) _ (lit≤ tt)
 
 returns-2 : tie.Need-returns-2
-unfolding bytesOf
+unfolding bytesOf longestTable
 returns-2 c =
     let e = c .before .before .before .before .before in
     let p = e .before .before in
-    let l : 6040 ≤ length (p .before .before .before .args .page .now) = search needs in
-    page-refused _ _ l (p .print-table .ensures) (e .if1 .left) (c .put-line .ensures)
+    page-refused _ _ _ (p .print-table .ensures) (lit≤ tt) (search needs) (e .if1 .left) (c .put-line .ensures)
 
 pub print-page-spec : {M : Type 1} → statement M
 print-page-spec =

@@ -1,7 +1,7 @@
 -- `waits::turn` meets its contract: no singles for one share or none.
 -- Assumes nothing.
 use mathlib.Core.Path.{_≡_, ap₂}
-use Prim.Native.Nat.{ℕ, _+_, _-_, _*_, _^_, _<_}
+use Prim.Native.Nat.{ℕ, _+_, _-_, _*_, _^_, _≤_, _<_}
 use native.Mathlib.Omega.{arith}
 use borrow.Author.Needs.{needs}
 use Rattle.laws.proofs.Arithmetic.{product-le}
@@ -37,9 +37,11 @@ small : (c : tie.After-single)
     → ((c .before .before .before .args .shares - 1) * c .single .result < 2 ^ 49) × (c .before .before .serve .result < 2 ^ 49)
 small c =
     let a = c .before .before .before .args in
-    let l = single-le (a .ma) (a .sl) (a .v) (omega arith) (omega arith) (omega arith) in
+    let w : a .ma .width ≤ 255 = omega arith in
+    let u : a .ma .burst ≤ 255 = omega arith in
+    let l = single-le (a .ma) (a .sl) (a .v) 255 255 4294967296 (omega arith) w u (omega arith) in
     let p = product-le (a .shares - 1) (c .single .result) 255 (255 * 4294967296) (omega arith) (omega arith) in
-    (omega arith, omega (arith, serve-le (a .ma) (a .sl) (a .v) (omega arith) (omega arith) (omega arith)))
+    (omega arith, omega (arith, serve-le (a .ma) (a .sl) (a .v) 255 255 4294967296 (omega arith) w u (omega arith)))
 
 mul-singles : tie.Need-mul-singles
 mul-singles c =

@@ -4,6 +4,7 @@
 use mathlib.Core.Path.{_≡_}
 use Prim.Native.Nat.{_-_, _*_, _^_, _≤_}
 use native.Mathlib.Omega.{arith}
+use lib.Dec.{eqb}
 use borrow.Author.Needs.{needs}
 use Rattle.waits.specs.Parts.{turnsAmong}
 use Rattle.waits.proofs.PartLaws.{among-none, among-more}
@@ -44,10 +45,12 @@ small : (c : tie.After-turn-unless Inv-loop μ-loop) → c .turn-unless .result 
 small c =
     let l = c .before .before .before .before in
     let t = l .before .before .args in
-    let e : c .turn-unless .result ≡ _ = c .turn-unless .ensures in
-    rw e
-    (unless-le (c .before .before .master-at .result) (t .sl) (t .v) (omega arith) (omega arith) (omega arith)
-    _ (c .before .share-at .result) (omega arith))
+    omega (
+      arith,
+      c .turn-unless .ensures,
+      unless-le (c .before .before .master-at .result) (t .sl) (t .v) 255 255 4294967296 (omega arith) (omega arith) (omega arith)
+          (omega arith) 254 (c .before .share-at .result) (omega arith) (eqb (l .loop .k) (t .m)),
+    )
 
 add-sum : tie.Need-add-sum Inv-loop μ-loop
 add-sum c = omega (arith, small c)
