@@ -2,7 +2,7 @@
 -- the clock of the definition.
 -- Assumes nothing.
 use mathlib.Core.Path.{_≡_, refl, _∙_, fun-ext}
-use mathlib.Core.Bool.{Bool, true, false}
+use mathlib.Core.Bool.{Bool, true, false, cond}
 use mathlib.Core.List.{List}
 use Prim.Native.Nat.{ℕ, zero, suc, _+_, _≤_, _<_}
 use native.Mathlib.Omega.{arith}
@@ -74,23 +74,31 @@ asked-nobody n shares beats slot {requests} off e q =
 
 -- ---- rules 2 and 3
 
-module _ (ma : Master) (sl : Slave) (t : Transfer) (slot : Slot) {w : ℕ} {line : Line} (e : w ≡ waitOf sl t) where
-  pub step-waiting : slot .waited < w → line ≡ lineOf ma sl t slot 1
+-- a wait is a byte, so that waits passed stay one
+pub wait-byte : (sl : Slave) (t : Transfer) → sl .«read_wait» < 256 → sl .«write_wait» < 256 → waitOf sl t < 256
+unfolding waitOf
+wait-byte sl t r w = go (t .write)
+  where
+    go : (b : Bool) → cond b (sl .«write_wait») (sl .«read_wait») < 256
+    go true = w
+    go false = r
+
+module _ (ma : Master) (sl : Slave) (t : Transfer) (slot : Slot) {line : Line} where
+  pub step-waiting : slot .waited < waitOf sl t → line ≡ lineOf ma sl t slot 1
       → _≡_ {A = Step} (record { slot = slotWaiting slot; line = line; finished = false }) (served ma sl t slot)
   unfolding served waits
-  step-waiting h f = rw (f, lt-ltb (slot .waited) (waitOf sl t) (rw e at h))
+  step-waiting h f = rw (f, lt-ltb (slot .waited) (waitOf sl t) h)
 
-  pub step-working : {n : ℕ} → w ≤ slot .waited → line ≡ lineOf ma sl t slot 2 → n ≡ accesses ma sl t → slot .done + 1 < n
-      → _≡_ {A = Step} (record { slot = slotAccessed slot; line = line; finished = false }) (served ma sl t slot)
-  unfolding served waits
-  step-working h f g l =
-      rw (f, le-ltb (slot .waited) (waitOf sl t) (rw e at h), lt-ltb (slot .done + 1) (accesses ma sl t) (rw g at l))
+  module _ {n : ℕ} (h : waitOf sl t ≤ slot .waited) (f : line ≡ lineOf ma sl t slot 2) (g : n ≡ accesses ma sl t) where
+    pub step-working : slot .done + 1 < n
+        → _≡_ {A = Step} (record { slot = slotAccessed slot; line = line; finished = false }) (served ma sl t slot)
+    unfolding served waits
+    step-working l = rw (f, le-ltb (slot .waited) (waitOf sl t) h, lt-ltb (slot .done + 1) (accesses ma sl t) (rw g at l))
 
-  pub step-ending : {n : ℕ} → w ≤ slot .waited → line ≡ lineOf ma sl t slot 2 → n ≡ accesses ma sl t → n ≤ slot .done + 1
-      → _≡_ {A = Step} (record { slot = slotFinished slot; line = line; finished = true }) (served ma sl t slot)
-  unfolding served waits
-  step-ending h f g l =
-      rw (f, le-ltb (slot .waited) (waitOf sl t) (rw e at h), le-ltb (slot .done + 1) (accesses ma sl t) (rw g at l))
+    pub step-ending : n ≤ slot .done + 1
+        → _≡_ {A = Step} (record { slot = slotFinished slot; line = line; finished = true }) (served ma sl t slot)
+    unfolding served waits
+    step-ending l = rw (f, le-ltb (slot .waited) (waitOf sl t) h, le-ltb (slot .done + 1) (accesses ma sl t) (rw g at l))
 
 module _ (ma : Master) (sl : Slave) (t : Transfer) (slot : Slot) where
   pub from-serving : slot .serving ≡ true → served ma sl t slot ≡ stepFrom ma sl t slot
@@ -107,15 +115,15 @@ module _ (ma : Master) (sl : Slave) (t : Transfer) (slot : Slot) where
   unfolding carriedFrom
   carried-resting start d e = rw e
 
-  pub carried-waiting : (start : ℕ) (d : Store) {w : ℕ} → w ≡ waitOf sl t → slot .serving ≡ true → slot .waited < w
+  pub carried-waiting : (start : ℕ) (d : Store) → slot .serving ≡ true → slot .waited < waitOf sl t
       → d ≡ carriedFrom ma sl t slot start d
   unfolding carriedFrom waits
-  carried-waiting start d e on h = rw (on, lt-ltb (slot .waited) (waitOf sl t) (rw e at h))
+  carried-waiting start d on h = rw (on, lt-ltb (slot .waited) (waitOf sl t) h)
 
-  pub carried-access : (start : ℕ) (d : Store) {w : ℕ} → w ≡ waitOf sl t → slot .serving ≡ true → w ≤ slot .waited
+  pub carried-access : (start : ℕ) (d : Store) → slot .serving ≡ true → waitOf sl t ≤ slot .waited
       → accessed ma sl t (slot .owner) start (slot .done) d ≡ carriedFrom ma sl t slot start d
   unfolding carriedFrom waits
-  carried-access start d e on h = rw (on, le-ltb (slot .waited) (waitOf sl t) (rw e at h))
+  carried-access start d on h = rw (on, le-ltb (slot .waited) (waitOf sl t) h)
 
 -- ---- on the parts of a board and a state
 

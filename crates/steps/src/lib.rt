@@ -9,6 +9,8 @@ use state::Slot;
 use state::Step;
 ghost use mathlib.Core.Path.{_≡_};
 ghost use mathlib.Core.Bool.{true};
+ghost use Prim.Native.Nat.{_-_};
+ghost use Rattle.geometry.specs.Accesses.{waitOf};
 ghost use Rattle.moves.specs.Reaching.{Reached};
 ghost use Rattle.state.specs.Records.{noLine};
 ghost use Rattle.state.specs.Control.{slotGranted, lineOf, served};
@@ -85,15 +87,26 @@ fn line_of(ma: Master, sl: Slave, t: Transfer, slot: Slot, phase: u8) -> Line
     }
 }
 
-// Rules 2 and 3 at a slave that serves: the wait is charged to every access.
+// Rule 2: how many clocks the access in hand has still to wait. Each access waits anew: waits passed return to 0 with it.
+fn waits_left(sl: Slave, t: Transfer, slot: Slot) -> u8
+    ensures { λ r. ⌜ r ≡ waitOf sl t - slot .waited ⌝ }
+{
+    let wait = geometry::wait_of(sl, t);
+    if slot.waited < wait {
+        wait - slot.waited
+    } else {
+        0
+    }
+}
+
+// Rules 2 and 3 at a slave that serves.
 fn served_step(ma: Master, sl: Slave, t: Transfer, slot: Slot) -> Step
     requires { ⌜ Placed ma sl t (slot .done) ⌝ }
     ensures { λ r. ⌜ r ≡ served ma sl t slot ⌝ }
 {
     let mut after = slot;
-    let wait = geometry::wait_of(sl, t);
     after.serving = true;
-    if slot.waited < wait {
+    if 0 < waits_left(sl, t, slot) {
         after.waited = slot.waited + 1;
         let waiting = line_of(ma, sl, t, slot, 1);
         return Step {
@@ -154,8 +167,7 @@ pub fn carry_slot(
         ≡ carriedFrom ma sl t slot start (record { memory = now (memory .entry); buffer = now (buffer .entry) }) ⌝ }
 {
     if slot.serving {
-        let wait = geometry::wait_of(sl, t);
-        if wait <= slot.waited {
+        if waits_left(sl, t, slot) == 0 {
             let m = slot.owner as usize;
             moves::carry_access(ma, sl, t, m, start, slot.done, memory, buffer);
         }
