@@ -13,7 +13,7 @@ use Rattle.board.specs.declared.Reading.{Reading}
 use Rattle.board.specs.Rules.{refused, start, step, run, finish, described}
 use Rattle.board.proofs.RunLaws.{run-stays, finish-stays}
 use Rattle.lines.specs.Reader.{itemsOf, itemsOfPieces, unended, LineFrom}
-use Rattle.description.specs.Reader.{reading}
+use Rattle.description.specs.Reader.{mostBytes, reading}
 use Rattle.description.specs.Blame.{firstRefused, chargedLine}
 use Rattle.description.proofs.ReadLaws.{reading-short, reading-long}
 
@@ -83,10 +83,11 @@ module _ (s : List ℕ) (r q : Reading) (n at : ℕ) (before : Counted s r n at)
 
 -- the length goes first
 pub charged-short :
-    (s : List ℕ) (q : Reading) (line : ℕ) → length s ≤ 8192 → Read s q line → (q ≡ reading s) × (line ≡ chargedLine s)
+    (s : List ℕ) (q : Reading) (line : ℕ) → length s ≤ mostBytes → Read s q line → (q ≡ reading s) × (line ≡ chargedLine s)
 unfolding chargedLine
-charged-short s q line h e = (e .0 ∙ sym (reading-short s h), e .1 ∙ sym (rw (le-ltb 8192 (length s) h)))
+charged-short s q line h e = (e .0 ∙ sym (reading-short s h), e .1 ∙ sym (rw (le-ltb mostBytes (length s) h)))
 
-pub charged-long : (s : List ℕ) (q : Reading) → 8192 < length s → q ≡ step start Malformed → (q ≡ reading s) × (0 ≡ chargedLine s)
+pub charged-long :
+    (s : List ℕ) (q : Reading) → mostBytes < length s → q ≡ step start Malformed → (q ≡ reading s) × (0 ≡ chargedLine s)
 unfolding chargedLine
-charged-long s q h e = (e ∙ sym (reading-long s h), sym (rw (lt-ltb 8192 (length s) h)))
+charged-long s q h e = (e ∙ sym (reading-long s h), sym (rw (lt-ltb mostBytes (length s) h)))

@@ -13,7 +13,7 @@ use Rattle.board.specs.declared.Reading.{Reading}
 use Rattle.board.specs.Rules.{refused, start, step, run, finish, described}
 use Rattle.board.proofs.RunLaws.{run-stays, finish-stays}
 use Rattle.lines.specs.Reader.{itemsOf}
-use Rattle.description.specs.Reader.{reading, readText}
+use Rattle.description.specs.Reader.{mostBytes, reading, readText}
 use Rattle.description.specs.Blame.{firstRefused, chargedLine, refusalOf}
 use Rattle.description.proofs.BlameLaws.{first-taken, first-refused}
 use Rattle.description.proofs.ReadLaws.{reading-short}
@@ -99,9 +99,9 @@ first-at n r (x ∷ xs) (suc k) none h = go (eqb (step r x .number) 0) refl (λ 
 -- Nothing refused: no line is charged.
 pub charged-none : (s : List ℕ) → readText s .number ≡ 0 → refusalOf s .line ≡ 0
 unfolding refusalOf chargedLine readText described
-charged-none s h = go (ltb 8192 (length s)) refl
+charged-none s h = go (ltb mostBytes (length s)) refl
   where
-    go : (b : Bool) → ltb 8192 (length s) ≡ b → chargedLine s ≡ 0
+    go : (b : Bool) → ltb mostBytes (length s) ≡ b → chargedLine s ≡ 0
     go true e = rw e
     go false e =
         rw e
@@ -113,10 +113,10 @@ pub charged-first :
     (s : List ℕ) (k : ℕ) → refusalOf s .line ≡ k + 1
     → First start (itemsOf s) k × (refusalOf s .number ≡ run start (take (suc k) (itemsOf s)) .number)
 unfolding refusalOf chargedLine readText start refused described
-charged-first s k h = go (ltb 8192 (length s)) refl
+charged-first s k h = go (ltb mostBytes (length s)) refl
   where
     go :
-        (b : Bool) → ltb 8192 (length s) ≡ b
+        (b : Bool) → ltb mostBytes (length s) ≡ b
         → First start (itemsOf s) k × (reading s .number ≡ run start (take (suc k) (itemsOf s)) .number)
     go true e = let z : 0 ≡ k + 1 = rw e at h in absurd (omega arith)
     go false e =

@@ -8,13 +8,13 @@ use borrow.Author.Tests.{lt-ltb, le-ltb}
 use Rattle.board.specs.declared.Item.the-variants.{Malformed}
 use Rattle.board.specs.Rules.{itemRefusal, refused, start, step, described}
 use Rattle.lines.specs.Reader.{itemsOf}
-use Rattle.description.specs.Reader.{reading}
+use Rattle.description.specs.Reader.{mostBytes, reading}
 
 -- the length goes first
-pub reading-short : (s : List ℕ) → length s ≤ 8192 → reading s ≡ described (itemsOf s)
+pub reading-short : (s : List ℕ) → length s ≤ mostBytes → reading s ≡ described (itemsOf s)
 unfolding reading
-reading-short s h = rw (le-ltb 8192 (length s) h)
+reading-short s h = rw (le-ltb mostBytes (length s) h)
 
-pub reading-long : (s : List ℕ) → 8192 < length s → reading s ≡ step start Malformed
+pub reading-long : (s : List ℕ) → mostBytes < length s → reading s ≡ step start Malformed
 unfolding reading step itemRefusal start refused
-reading-long s h = rw (lt-ltb 8192 (length s) h)
+reading-long s h = rw (lt-ltb mostBytes (length s) h)

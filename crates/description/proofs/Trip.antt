@@ -19,15 +19,15 @@ use Rattle.board.proofs.Rebuilt.{rebuilt, items-trimmed, described-accepted, de
 use Rattle.lines.specs.Reader.{itemsOf}
 use Rattle.lines.specs.Writer.{itemsText}
 use Rattle.description.specs.declared.Parsed.{Parsed}
-use Rattle.description.specs.Reader.{reading, readText}
+use Rattle.description.specs.Reader.{mostBytes, reading, readText}
 use Rattle.description.specs.Writer.{writeText, writeRefusal}
 use Rattle.description.specs.Longest.{longest}
 use Rattle.description.proofs.ReadLaws.{reading-short}
 use Rattle.description.proofs.LineTrip.{items-read, items-writable, items-short}
 
 -- "Text, at most 8,192 bytes": no accepted board's text is near that
-pub longest-fits : longest ≤ 8192
-unfolding longest
+pub longest-fits : longest ≤ mostBytes
+unfolding longest mostBytes
 longest-fits = omega arith
 
 -- what a text is read to, by its lines
@@ -45,7 +45,7 @@ module _ (b : Board) (accepted : checkBoard b ≡ 0) where
   pub read-written : readText (writeText b) ≡ record { number = 0; board = trimmed b }
   unfolding writeText
   read-written =
-      let short : length (writeText b) ≤ 8192 = omega (arith, text-short, longest-fits) in
+      let short : length (writeText b) ≤ mostBytes = omega (arith, text-short, longest-fits) in
       lines-answer (writeText b) _
       (reading-short (writeText b) short
       ∙ ap described (items-read (items b) (items-writable b (accepted-legal b accepted)))
@@ -79,7 +79,7 @@ same-boards b c p q e =
 module _ (t : List ℕ) (accepted : readText t .number ≡ 0) where
   reading-lines : reading t ≡ described (itemsOf t)
   unfolding readText reading refused
-  reading-lines = go (ltb 8192 (length t)) accepted
+  reading-lines = go (ltb mostBytes (length t)) accepted
     where
       go : (c : Bool) → cond c (refused 1) (described (itemsOf t)) .number ≡ 0
           → cond c (refused 1) (described (itemsOf t)) ≡ described (itemsOf t)

@@ -9,7 +9,7 @@ use Rattle.board.specs.declared.Item.{Item}
 use Rattle.board.specs.declared.Reading.{Reading}
 use Rattle.board.specs.Rules.{start, step}
 use Rattle.lines.specs.Reader.{itemsOf}
-use Rattle.description.specs.Reader.{readText}
+use Rattle.description.specs.Reader.{mostBytes, readText}
 use Rattle.description.specs.declared.Refusal.{Refusal}
 
 -- "then lines in order": the number of the first line refused, behind n lines that r has read; 0 where all are taken
@@ -19,7 +19,7 @@ firstRefused n r (x ∷ xs) = cond (eqb (step r x .number) 0) (firstRefused (n +
 
 -- "The length of the text comes first": no line is charged with it, nor with "at the end, no master or no slave"
 unfoldable pub chargedLine : List ℕ → ℕ
-chargedLine text = cond (ltb 8192 (length text)) 0 (firstRefused 0 start (itemsOf text))
+chargedLine text = cond (ltb mostBytes (length text)) 0 (firstRefused 0 start (itemsOf text))
 
 -- what `refused_at` answers: `read`'s number and the line from 1; "The absent final line feed counts at the last line."
 unfoldable pub refusalOf : List ℕ → Refusal

@@ -10,9 +10,13 @@ use Rattle.board.specs.Rules.{described, refused}
 use Rattle.lines.specs.Reader.{itemsOf}
 use Rattle.description.specs.declared.Parsed.{Parsed}
 
+-- "Text, at most 8,192 bytes"
+unfoldable pub mostBytes : ℕ
+mostBytes = 8192
+
 -- "The length of the text comes first, then lines in order and, for a line, the lowest number."
 unfoldable pub reading : List ℕ → Reading
-reading text = cond (ltb 8192 (length text)) (refused 1) (described (itemsOf text))
+reading text = cond (ltb mostBytes (length text)) (refused 1) (described (itemsOf text))
 
 -- what `read` answers
 unfoldable pub readText : List ℕ → Parsed

@@ -13,7 +13,7 @@ use Rattle.board.specs.Items.{masterItem, slaveItem, shareItem, items, checkBoa
 use Rattle.lines.specs.Writer.{itemText, itemsText}
 use Rattle.description.specs.Writer.{writeText}
 use Rattle.lines.specs.Reader.{masterLine, slaveLine, shareLine, itemOfFields, itemOf, unended, itemsOfPieces, itemsOf}
-use Rattle.description.specs.Reader.{reading, readText}
+use Rattle.description.specs.Reader.{mostBytes, reading, readText}
 use Rattle.lanes.specs.Lanes.{lowest, adjacent, legalLanes, postLanes}
 use Rattle.geometry.specs.Decoding.{agrees, selects, targetOf}
 use Rattle.geometry.specs.Accesses.{ratio, accesses, accessBytes, firstByte, accessOffset, wordOffset, writeLanes, slaveLanes, waitOf, ownLength}
@@ -46,7 +46,7 @@ unfolding
     noBoard connected totalSpan startOf memoryLength
     slaveValues meets overlaps masterRefusal slaveRefusal shareRefusal itemRefusal withMaster withSlave withShare withItem isShare
     refused start taken step run finish described masterItem slaveItem shareItem items checkBoard
-    masterLine slaveLine shareLine itemOfFields itemOf unended itemsOfPieces itemsOf reading readText
+    masterLine slaveLine shareLine itemOfFields itemOf unended itemsOfPieces itemsOf mostBytes reading readText
     lowest adjacent legalLanes postLanes agrees selects targetOf
     ratio accesses accessBytes firstByte accessOffset wordOffset writeLanes slaveLanes waitOf ownLength runLimit placeOf runOf
     above tried chosen kept grantTo granted move posted enabled memoryPlace written fetched accessed

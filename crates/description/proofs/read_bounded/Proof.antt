@@ -5,6 +5,7 @@ use borrow.Author.Needs.{needs}
 use Rattle.board.specs.declared.Reading.{Reading}
 use Rattle.board.specs.declared.Item.the-variants.{Malformed}
 use Rattle.board.specs.Rules.{step}
+use Rattle.description.specs.Reader.{mostBytes}
 use Rattle.description.proofs.BlameLaws.{charged-short, charged-long}
 use Rattle.description.proofs.read_bounded.Statement.{statement}
 use Rattle.description.proofs.read_bounded.Tie as tie
@@ -13,6 +14,7 @@ read-lines-requires : tie.Need-read-lines-requires
 read-lines-requires c κs = search needs
 
 returns : tie.Need-returns
+unfolding mostBytes
 returns c = let s = c .before .before .before .args .text .now in
     charged-short s _ _ (omega (arith, c .before .if1 .taken)) (c .read-lines .ensures)
 
@@ -23,6 +25,7 @@ add-item-requires : tie.Need-add-item-requires
 add-item-requires c κs = search needs
 
 returns-2 : tie.Need-returns-2
+unfolding mostBytes
 returns-2 c = let s = c .before .before .before .before .args .text .now in
     charged-long s _ (omega (arith, c .before .before .if1 .left))
     (c .add-item .ensures ∙ ap (λ (r : Reading). step r Malformed) (c .before .first-reading .ensures))

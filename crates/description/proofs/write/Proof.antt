@@ -3,7 +3,6 @@ use mathlib.Core.List.{List}
 use mathlib.Core.Path.{_≡_, ap, sym, _∙_}
 use Prim.Native.Nat.{ℕ, _≤_}
 use native.Mathlib.Omega.{arith}
-use lib.Dec.{lit≤}
 use lib.ListN.{length}
 use borrow.Author.Needs.{needs}
 use Rattle.board.specs.declared.Board.{Board}
@@ -33,7 +32,7 @@ refusal-requires c κs = search needs
 returns : tie.Need-returns
 unfolding longest
 returns c = let a = c .before .before .before .args in
-    promised (a .board) (a .out .now) _ (lit≤ tt) (board-refused (a .board) _ _ (c .before .refusal .ensures) (c .if1 .taken))
+    promised (a .board) (a .out .now) _ (omega arith) (board-refused (a .board) _ _ (c .before .refusal .ensures) (c .if1 .taken))
 
 board-length-requires : tie.Need-board-length-requires
 board-length-requires c κs = search needs
@@ -42,7 +41,7 @@ returns-2 : tie.Need-returns-2
 unfolding longest
 returns-2 c = let a = c .before .before .before .before .before .args in
     let accepted = sym (c .before .before .before .refusal .ensures) ∙ c .before .before .if1 .left in
-    promised (a .board) (a .out .now) _ (lit≤ tt)
+    promised (a .board) (a .out .now) _ (omega arith)
     (room-refused (a .board) _ accepted (omega (arith, c .before .board-length .ensures, c .if2 .taken)))
 
 same-length : tie.Need-same-length
@@ -54,7 +53,7 @@ returns-3 c = let n = c .before .before .before .before .before in
     let k = n .before .before in
     let a = k .before .before .args in
     let accepted = sym (k .refusal .ensures) ∙ n .before .if1 .left in
-    promised (a .board) (a .out .now) _ (lit≤ tt)
+    promised (a .board) (a .out .now) _ (omega arith)
     (text-written (a .board) _ accepted _ _
     (omega (arith, n .board-length .ensures, c .before .before .before .before .if2 .left))
     (c .before .before .put-board .ensures))
