@@ -1,2 +1,3 @@
 pub mod AccessLaws
 pub mod DecodeLaws
+pub mod SelectLaws

@@ -19,7 +19,7 @@ use Rattle.state.specs.Posting.{stateWith}
 use Rattle.fabric.specs.Calls.{World, reset, post}
 use Rattle.state.proofs.CycleLaws.{left-resting}
 use Rattle.state.proofs.StateLaws.{transfer-with, transfer-with-other}
-use Rattle.state.proofs.DecodeLaws.{selects-target}
+use Rattle.geometry.proofs.SelectLaws.{selects-target}
 use Rattle.waits.specs.Waits.{quotedWait}
 use Rattle.bounds.proofs.Order.{between}
 use Rattle.bounds.proofs.Credit.{credit, credit-zero}

@@ -24,9 +24,9 @@ use Rattle.lanes.specs.Lanes.{allLanes, lowest, adjacent, legalLanes, postLanes
 use Rattle.geometry.specs.Decoding.{selects, targetOf}
 use Rattle.geometry.specs.Accesses.{ratio, waitOf, ownLength}
 use Rattle.geometry.proofs.AccessLaws.{base-aligned, accesses-full}
+use Rattle.geometry.proofs.SelectLaws.{selects-of, selects-target}
 use Rattle.state.specs.Posting.{Request, transferOf, wrongBeats, unaligned, wrongLanes, unmapped, passesEnd}
 use Rattle.state.specs.Posting.{refusalAt, transferRefusal}
-use Rattle.state.proofs.DecodeLaws.{span-pos, selects-of, selects-target}
 use Rattle.waits.specs.Waits as waits
 use Rattle.history.proofs.Pairs.{sharesOf, singleOf, serveOf, most-some}
 
@@ -130,7 +130,7 @@ module _ (b : Board) (legal : Legal b) (s : ℕ) (hs : s < b .«slave_count») (
   module _ (hj : j < b .«master_count») (has : 1 ≤ sharesOf b legal s hs j) where
     pub base-selects : selects b j (slaveAt b s .base) s ≡ true
     base-selects =
-        let p = span-pos (slaveAt b s) (slaveAt b s .base) (legal .slave s hs) in
+        let p = span-bound (slaveAt b s .span) (legal .slave s hs .span) in
         selects-of b legal j (slaveAt b s .base) s
         (record { within = hs; shares = has; inside = record { low = le-refl _; high = omega arith } })
 

@@ -22,7 +22,7 @@ use Rattle.board.proofs.Accepted.{accepted-legal}
 use Rattle.geometry.specs.declared.Transfer.{Transfer}
 use Rattle.geometry.specs.Decoding.{targetOf}
 use Rattle.state.specs.Posting.{unmapped, refusalAt, transferRefusal}
-use Rattle.state.proofs.DecodeLaws.{target-first}
+use Rattle.geometry.proofs.SelectLaws.{target-first}
 
 -- a mask below a width, which is a power of two
 pub over-width : (address width : ℕ) → member width widths ≡ true → bitAnd address (width - 1) ≡ address % width

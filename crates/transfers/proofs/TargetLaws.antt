@@ -24,7 +24,8 @@ use Rattle.state.specs.Records.{transferAt}
 use Rattle.state.specs.Soundness.{requests}
 use Rattle.transfers.specs.Targets.{targetIn, targetsIn, requestMask}
 use Rattle.transfers.specs.Decoded.{boardOf, Decodes, Asks}
-use Rattle.state.proofs.DecodeLaws.{target-first, selects-target, requests-not}
+use Rattle.geometry.proofs.SelectLaws.{target-first, selects-target}
+use Rattle.state.proofs.DecodeLaws.{requests-not}
 
 -- the first number from i on that passes, of those below n: i itself, one further on, or none
 module _ (test : ℕ → Bool) (n i : ℕ) where
