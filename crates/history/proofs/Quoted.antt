@@ -19,7 +19,7 @@ use Rattle.state.specs.declared.State.{State}
 use Rattle.state.specs.Records.{transferAt}
 use Rattle.state.specs.Posting.{Request, transferOf}
 use Rattle.fabric.specs.Calls.{World, post}
-use Rattle.state.proofs.DecodeLaws.{selects-target}
+use Rattle.geometry.proofs.SelectLaws.{selects-target}
 use Rattle.state.proofs.StateLaws.{transfer-reset}
 use Rattle.waits.specs.Waits.{quotedWait, serveOf}
 use Rattle.quote.specs.declared.Quoted.{Quoted}
