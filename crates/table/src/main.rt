@@ -1,5 +1,9 @@
 // Reads a description on standard input, and prints its table, or its refusal, on standard output. What the refusal means goes
 // to standard error: standard output is read by other programs.
+ghost use Prim.Native.Nat.{_<_};
+ghost use lib.ListN.{length};
+ghost use Rattle.description.specs.Reader.{mostBytes};
+ghost use Rattle.table.specs.Preparing.{Reads};
 use libc::STDERR_FILENO;
 use libc::STDIN_FILENO;
 use libc::STDOUT_FILENO;
@@ -27,24 +31,49 @@ fn explain(text: &[u8]) {
     }
 }
 
-// Prints what the text describes.
-fn print(text: &[u8]) {
-    let mut page = [0; tables::LONGEST_TABLE];
-    let length = tables::print_page(text, &mut page);
-    programs::print(b"table", &page[..length]);
-    explain(text);
+// How many bytes of the text were read, and how many of the page are to be printed. `failed`: the input cannot be read, and errno
+// says why.
+struct Prepared {
+    read: usize,
+    length: usize,
+    failed: bool,
+}
+
+// Reads a description, and makes the page of it. The text has room for one byte more than a description may have: a longer one
+// is then refused as such.
+fn prepare(text: &mut [u8], page: &mut [u8; tables::LONGEST_TABLE]) -> Prepared
+    requires { ⌜ mostBytes < length (now text) ⌝ }
+    ensures { λ r. ⌜ Reads (now (text .exit)) (now (page .exit)) r ⌝ }
+{
+    let got = streams::read_all(STDIN_FILENO, &mut *text);
+    let n = got.end;
+    if got.failed {
+        return Prepared {
+            read: n,
+            length: 0,
+            failed: true,
+        };
+    }
+    let length = tables::print_page(&text[..n], &mut *page);
+    Prepared {
+        read: n,
+        length: length,
+        failed: false,
+    }
 }
 
 fn table() {
-    // One byte more than a description may have: a longer text is then refused as such.
     let mut text = [0; 8193];
-    let got = streams::read_all(STDIN_FILENO, &mut text);
-    if got.failed {
+    let mut page = [0; tables::LONGEST_TABLE];
+    let made = prepare(&mut text, &mut page);
+    if made.failed {
         streams::report(b"table", b"standard input");
         return;
     }
-    let n = got.end;
-    print(&text[..n]);
+    let length = made.length;
+    let n = made.read;
+    programs::print(b"table", &page[..length]);
+    explain(&text[..n]);
 }
 
 fn main() {
