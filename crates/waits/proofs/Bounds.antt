@@ -2,7 +2,8 @@
 -- Assumes nothing.
 use mathlib.Core.Path.{_≡_, refl}
 use mathlib.Core.Bool.{Bool, true, false, cond, not, _&&_}
-use Prim.Native.Nat.{ℕ, _+_, _-_, _*_, _^_, _≤_, _<_}
+use Prim.Native.Nat.{ℕ, _+_, _*_, _^_, _≤_, _<_}
+use native.Mathlib.Nat.{add-le-add}
 use native.Mathlib.Omega.{arith}
 use lib.Dec.{ltb, eqb}
 use borrow.Author.Tests.{eqb-true, eqb-false}
@@ -32,7 +33,7 @@ module _ (ma : Master) (sl : Slave) (v w u l : ℕ) (some : 1 ≤ w) (hw : ma .w
   module _ (n shares : ℕ) (h : shares ≤ n + 1) where
     pub turn-le : turn ma sl shares v ≤ n * (w * l) + u * w * l
     unfolding turn
-    turn-le = omega (arith, product-le (shares - 1) (single ma sl v) n (w * l) (omega arith) single-le, serve-le)
+    turn-le = add-le-add (product-le _ _ n (w * l) (omega arith) single-le) serve-le
 
     pub unless-le : (own : Bool) → turnUnless own ma sl shares v ≤ n * (w * l) + u * w * l
     unfolding turnUnless

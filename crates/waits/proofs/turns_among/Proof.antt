@@ -3,8 +3,9 @@
 -- Assumes nothing.
 use mathlib.Core.Path.{_≡_}
 use Prim.Native.Nat.{_-_, _*_, _^_, _≤_}
+use native.Mathlib.Nat.{le-trans}
 use native.Mathlib.Omega.{arith}
-use lib.Dec.{eqb}
+use lib.Dec.{lit≤}
 use borrow.Author.Needs.{needs}
 use Rattle.waits.specs.Parts.{turnsAmong}
 use Rattle.waits.proofs.PartLaws.{among-none, among-more}
@@ -43,14 +44,12 @@ turn-unless-requires c κs = search needs
 -- no turn is larger
 small : (c : tie.After-turn-unless Inv-loop μ-loop) → c .turn-unless .result ≤ 2 ^ 50
 small c =
-    let l = c .before .before .before .before in
-    let t = l .before .before .args in
-    omega (
-      arith,
-      c .turn-unless .ensures,
-      unless-le (c .before .before .master-at .result) (t .sl) (t .v) 255 255 4294967296 (omega arith) (omega arith) (omega arith)
-          (omega arith) 254 (c .before .share-at .result) (omega arith) (eqb (l .loop .k) (t .m)),
-    )
+    let t = c .before .before .before .before .before .before .args in
+    rw (c .turn-unless .ensures)
+    (le-trans
+    (unless-le (c .before .before .master-at .result) (t .sl) (t .v) 255 255 4294967296 (omega arith) (omega arith) (omega arith)
+    (omega arith) 254 (c .before .share-at .result) (omega arith) _)
+    (lit≤ tt))
 
 add-sum : tie.Need-add-sum Inv-loop μ-loop
 add-sum c = omega (arith, small c)
