@@ -26,7 +26,7 @@ use Rattle.quote.specs.declared.Quoted.{Quoted}
 use Rattle.quote.specs.Calls.{quoteOf}
 use Rattle.quote.proofs.AnswerLaws.{quote-connected}
 use Rattle.history.specs.Claim as claim
-use Rattle.history.specs.Claim.{Start, Lent, slaveFor, waitFor, lengthOf, Figures}
+use Rattle.history.specs.Claim.{Start, Lent, slaveFor, waitFor, lengthOf, Figures, Longest}
 use Rattle.history.proofs.Pairs.{accepted-long}
 use Rattle.history.proofs.Standing.{Taken, post-taken, start-stands, start-state}
 use Rattle.history.proofs.Safe.{fits}
@@ -107,12 +107,14 @@ module _ (b : Board) (legal : Legal b) (ok : checkBoard b ≡ 0) where
           last-serve b legal s hs m 0 refl,
         )
 
-    pub longest : (q : Request) × claim.Accepted b w q × (q .master ≡ m) × (slaveFor b q ≡ s) × (lengthOf b q ≡ quoteOf b m s .serve)
+    pub longest : Longest b w m s
     unfolding claim.Accepted post requestFor
-    longest = (
-      last,
-      post-accepted b legal ok w last (start-stands b legal w start lent) last-taken,
-      refl,
-      last-slave,
-      last-long ∙ sym (ap (λ (a : Quoted). a .serve) (quote-connected b m s ok hm c)),
-    )
+    longest = record {
+      request = last;
+      accepted = post-accepted b legal ok w last (start-stands b legal w start lent) last-taken;
+      master = refl;
+      slave = last-slave;
+      lasts =
+          last-long
+          ∙ sym (ap (λ (k : ℕ). quoteOf b m k .serve) last-slave ∙ ap (λ (a : Quoted). a .serve) (quote-connected b m s ok hm c));
+    }

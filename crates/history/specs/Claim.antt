@@ -23,6 +23,7 @@ use Rattle.state.specs.Posting.{Request, transferOf}
 use Rattle.fabric.specs.Calls.{World, reset, post, bufferAfterPost, clock, storeAfterClock}
 use Rattle.waits.specs.Waits.{quotedWait}
 use Rattle.description.specs.Writer.{writeText}
+use Rattle.quote.specs.declared.Quoted.{Quoted}
 use Rattle.quote.specs.Calls.{quoteOf}
 use Rattle.history.specs.WaitCall.{WaitAnswered}
 
@@ -220,14 +221,26 @@ pub record Exact (b : Board) (start : World) (m s : ℕ) : Type 0 where
   pub waits : any (shows m) (take (waitFor b request) (answers calls)) ≡ false
   pub starts : any (shows m) (answers calls) ≡ true
 
--- what the wait calls answer for the pair of a request: `quote_of` on the board, `fabric_wait` on the writer's text of it
+-- what `quote_of` answers for the pair of a request
+abbrev pub quoteFor : Board → Request → Quoted
+quoteFor b q = quoteOf b (q .master) (slaveFor b q)
+
+-- what the wait calls answer for that pair: `quote_of` on the board, `fabric_wait` on the writer's text of it
 pub record Figures (b : Board) (q : Request) : Type 0 where
-  pub number : quoteOf b (q .master) (slaveFor b q) .number ≡ 0
-  pub wait : quoteOf b (q .master) (slaveFor b q) .wait ≡ waitFor b q
+  pub number : quoteFor b q .number ≡ 0
+  pub wait : quoteFor b q .wait ≡ waitFor b q
   -- "the longest transfer ("serve")": this one is no longer
-  pub serve : lengthOf b q ≤ quoteOf b (q .master) (slaveFor b q) .serve
+  pub serve : lengthOf b q ≤ quoteFor b q .serve
   pub text : (out : List ℕ) → 16 ≤ length out
-      → WaitAnswered (writeText b) (q .master) (slaveFor b q) (waitFor b q) (quoteOf b (q .master) (slaveFor b q) .serve) out
+      → WaitAnswered (writeText b) (q .master) (slaveFor b q) (waitFor b q) (quoteFor b q .serve) out
+
+-- a transfer of master m at slave s, taken where w stands, that is exactly as long as the serve
+pub record Longest (b : Board) (w : World) (m s : ℕ) : Type 0 where
+  pub request : Request
+  pub accepted : Accepted b w request
+  pub master : request .master ≡ m
+  pub slave : slaveFor b request ≡ s
+  pub lasts : lengthOf b request ≡ quoteFor b request .serve
 
 pub record Demand3 (b : Board) : Type 0 where
   -- "the first cycle is no later than clock w + 1 .. once the history has that clock"
@@ -245,8 +258,7 @@ pub record Demand3 (b : Board) : Type 0 where
   -- "which the wait call answers": for every request that is accepted, wherever it is posted
   pub quoted : (w : World) (q : Request) → Accepted b w q → Figures b q
   -- each connected pair has a transfer that lasts exactly its serve
-  pub longest : (w : World) (m s : ℕ) → Start b w → Lent b w → m < b .«master_count» → connected b m s ≡ true
-      → (q : Request) × Accepted b w q × (q .master ≡ m) × (slaveFor b q ≡ s) × (lengthOf b q ≡ quoteOf b m s .serve)
+  pub longest : (w : World) (m s : ℕ) → Start b w → Lent b w → m < b .«master_count» → connected b m s ≡ true → Longest b w m s
   -- "As the finishing clock leaves it, the front of its master's part .. equals what the read's step gave."
   -- with any orders in the clocks before, and any order, last, in the finishing clock
   pub reads : (w : World) (calls : List Call) (orders : ℕ → Order) (last : Order) (m : ℕ) → Start b w → History b w calls
