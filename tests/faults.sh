@@ -87,6 +87,18 @@ writes() {
     try '' '>&-' none "$name: standard output: Bad file descriptor"
 }
 
+# An input of two pieces, the first a read, the second two, of which the last tells the end: what is printed of the first piece is
+# in the file `first`.
+pieces() {
+    reading='FAULT_CALL=read FAULT_FD=0'
+    failed="$name: standard input: Input/output error"
+    try "$reading FAULT_AT=1 FAULT_ERRNO=$eio" '' none "$failed"
+    for at in 2 3; do
+        try "$reading FAULT_AT=$at FAULT_ERRNO=$eio" '' first "$failed"
+    done
+    try "$reading FAULT_AT=4 FAULT_ERRNO=$eio" '' "$whole" ''
+}
+
 # Standard input that is a directory, closed, or open for writing only; standard error closed.
 streams() {
     try '' '< .' none "$name: standard input: Is a directory"
@@ -189,12 +201,7 @@ seq 20000 | sed 's/.*/wait,0,0/' > waits.txt
 seq 20000 | sed 's/.*/wait,0,6,32/' > all
 head -n 14577 all > first
 subject 'simulate board.txt' waits.txt all
-failed='simulate: standard input: Input/output error'
-reading='FAULT_CALL=read FAULT_FD=0'
-try "$reading FAULT_AT=1 FAULT_ERRNO=$eio" '' none "$failed"
-try "$reading FAULT_AT=2 FAULT_ERRNO=$eio" '' first "$failed"
-try "$reading FAULT_AT=3 FAULT_ERRNO=$eio" '' first "$failed"
-try "$reading FAULT_AT=4 FAULT_ERRNO=$eio" '' all ''
+pieces
 try "$reading FAULT_AT=2 FAULT_ERRNO=$eintr" '' all ''
 try "$reading FAULT_MOST=1000 FAULT_AT=132 FAULT_ERRNO=$eio" '' none "$failed"
 try "$reading FAULT_MOST=1000 FAULT_AT=150 FAULT_ERRNO=$eio" '' first "$failed"
@@ -219,11 +226,7 @@ seq 1000 | while read -r _; do head -n 6 records; done > records.many
 seq 1000 | while read -r _; do head -n 6 read; done > all
 head -n $((897 * 6)) all > first
 subject texts records.many all
-failed='texts: standard input: Input/output error'
-try "$reading FAULT_AT=1 FAULT_ERRNO=$eio" '' none "$failed"
-try "$reading FAULT_AT=2 FAULT_ERRNO=$eio" '' first "$failed"
-try "$reading FAULT_AT=3 FAULT_ERRNO=$eio" '' first "$failed"
-try "$reading FAULT_AT=4 FAULT_ERRNO=$eio" '' all ''
+pieces
 try 'FAULT_CALL=write FAULT_FD=1 FAULT_AT=1' '' none 'texts: standard output: Input/output error'
 through_pipes 1
 

@@ -6,9 +6,6 @@ use mathlib.Core.Logic.{_⊎_, inl, inr}
 use Prim.Native.Nat.{ℕ, _≤_, _<_}
 use native.Mathlib.Decide.{ℕ-discrete}
 use native.Mathlib.Omega.{arith}
-use lib.Dec.{ltb}
-use borrow.Author.Tests.{ltb-true}
-use Rattle.laws.proofs.Tests.{both}
 use Rattle.board.specs.declared.Board.{Board}
 use Rattle.board.specs.Records.{masterAt, slaveAt, sharesAt, connected}
 use Rattle.board.specs.Legal.{Legal}
@@ -19,17 +16,16 @@ use Rattle.state.specs.Posting.{stateWith}
 use Rattle.fabric.specs.Calls.{World, reset, post}
 use Rattle.state.proofs.CycleLaws.{left-resting}
 use Rattle.state.proofs.StateLaws.{transfer-with, transfer-with-other}
-use Rattle.geometry.proofs.SelectLaws.{selects-target}
 use Rattle.waits.specs.Waits.{quotedWait}
 use Rattle.bounds.proofs.Order.{between}
 use Rattle.bounds.proofs.Credit.{credit, credit-zero}
 use Rattle.bounds.proofs.Potential.{quoted-between}
 use Rattle.history.specs.Claim.{Start, Lent, History, after, slaveFor, waitFor, Accepted, afterPosting, Exact}
-use Rattle.history.proofs.Pairs.{sharesOf, singleOf, serveOf, wait-quoted}
+use Rattle.history.proofs.Pairs.{connected-pair, sharesOf, singleOf, serveOf, wait-quoted}
 use Rattle.history.proofs.SlaveClock.{potAt}
 use Rattle.history.proofs.Calls.{withPost, post-leaves}
 use Rattle.history.proofs.Standing.{Standing, Taken, left-with, post-stands}
-use Rattle.history.proofs.ExactRequests.{requestFor, transferFor, base-selects}
+use Rattle.history.proofs.ExactRequests.{requestFor, transferFor, request-slave}
 use Rattle.history.proofs.ExactStep.{dueAt, Has, Tracked, due-asks}
 use Rattle.history.proofs.ExactCalls.{post-accepted}
 use Rattle.history.proofs.ExactRuns.{request-taken, runs}
@@ -53,10 +49,8 @@ module _ (b : Board) (legal : Legal b) (s : ℕ) (hs : s < b .«slave_count») (
       transfer-with (w .state) m (transferFor b s m (dueAt b s (w .state) m)) (x .stands .sound .transfers)
       (omega (arith, legal .fewMasters))
 
-  -- it is for slave s
   for-slave : slaveFor b asked ≡ s
-  unfolding slaveFor requestFor
-  for-slave = selects-target b legal m (slaveAt b s .base) s (base-selects b legal s hs m hm has)
+  for-slave = request-slave b legal s hs m hm has (dueAt b s (w .state) m)
 
   -- and has the quoted wait before it
   wait-whole : potAt b legal s hs m (stateWith (w .state) m (transferFor b s m (dueAt b s (w .state) m))) ≡ waitFor b asked
@@ -98,11 +92,11 @@ module _ (b : Board) (legal : Legal b) (s : ℕ) (hs : s < b .«slave_count») (
 
 pub exact-history : (b : Board) → Legal b → (w : World) (m s : ℕ) → Start b w → Lent b w → m < b .«master_count»
     → connected b m s ≡ true → Exact b w m s
-unfolding connected reset Accepted post afterPosting requestFor
+unfolding reset Accepted post afterPosting requestFor
 exact-history b legal w m s x lent hm c =
-    let p = both (ltb s (b .«slave_count»)) (ltb 0 (sharesAt b m s)) c in
-    let hs = ltb-true s (b .«slave_count») (p .0) in
-    let has = ltb-true 0 (sharesAt b m s) (p .1) in
+    let p = connected-pair b m s c in
+    let hs = p .0 in
+    let has = p .1 in
     let ok = x .accepted in
     let l = lead b legal s hs m ok hm has w x lent in
     let u = after w (l .calls) in

@@ -28,6 +28,7 @@ use Rattle.geometry.proofs.SelectLaws.{selects-of, selects-target}
 use Rattle.state.specs.Posting.{Request, transferOf, wrongBeats, unaligned, wrongLanes, unmapped, passesEnd}
 use Rattle.state.specs.Posting.{refusalAt, transferRefusal}
 use Rattle.waits.specs.Waits as waits
+use Rattle.history.specs.Claim.{slaveFor}
 use Rattle.history.proofs.Pairs.{sharesOf, singleOf, serveOf, most-some}
 
 -- the beats of the transfer with a grants to come after it
@@ -133,6 +134,11 @@ module _ (b : Board) (legal : Legal b) (s : ℕ) (hs : s < b .«slave_count») (
         let p = span-bound (slaveAt b s .span) (legal .slave s hs .span) in
         selects-of b legal j (slaveAt b s .base) s
         (record { within = hs; shares = has; inside = record { low = le-refl _; high = omega arith } })
+
+    -- it is for slave s
+    pub request-slave : (a : ℕ) → slaveFor b (requestFor b s j a) ≡ s
+    unfolding slaveFor requestFor
+    request-slave a = selects-target b legal j (slaveAt b s .base) s base-selects
 
     beats-fit : (a : ℕ) → (1 ≤ beatsFor b s j a) × (beatsFor b s j a ≤ masterAt b j .burst)
         × (beatsFor b s j a * masterAt b j .width ≤ slaveAt b s .span)

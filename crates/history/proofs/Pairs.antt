@@ -6,7 +6,8 @@ use Prim.Native.Nat.{ℕ, zero, suc, _+_, _-_, _*_, _/_, _≤_, _<_, max}
 use native.Mathlib.Nat.{mul-le-mul, one-mul, le-div-iff-mul-le}
 use native.Mathlib.Omega.{arith}
 use lib.Dec.{ltb, eqb}
-use borrow.Author.Tests.{lt-ltb}
+use borrow.Author.Tests.{lt-ltb, ltb-true}
+use Rattle.laws.proofs.Tests.{both}
 use Rattle.laws.proofs.FillLaws.{sum-same}
 use Rattle.board.specs.declared.Master.{Master}
 use Rattle.board.specs.declared.Slave.{Slave}
@@ -21,6 +22,13 @@ use Rattle.state.proofs.DecodeLaws.{Accepted}
 use Rattle.waits.specs.Waits as waits
 use Rattle.bounds.proofs.Credit.{credit, credit-zero, credit-suc}
 use Rattle.bounds.proofs.Potential.{quoted}
+
+-- a connected pair: the slave is one of the board's, and the master has shares there
+pub connected-pair : (b : Board) (m s : ℕ) → connected b m s ≡ true → (s < b .«slave_count») × (1 ≤ sharesAt b m s)
+unfolding connected
+connected-pair b m s c =
+    let p = both (ltb s (b .«slave_count»)) (ltb 0 (sharesAt b m s)) c in
+    (ltb-true s (b .«slave_count») (p .0), ltb-true 0 (sharesAt b m s) (p .1))
 
 -- the wait of a direction is no longer than the longer one
 pub wait-longest : (sl : Slave) (t : Transfer) → 1 + waitOf sl t ≤ waits.longestAccess sl

@@ -5,8 +5,6 @@ use mathlib.Core.Path.{_≡_, refl, sym, ap, _∙_}
 use mathlib.Core.Bool.{true}
 use Prim.Native.Nat.{ℕ, _≤_, _<_}
 use native.Mathlib.Omega.{arith}
-use lib.Dec.{ltb}
-use borrow.Author.Tests.{ltb-true}
 use Rattle.laws.proofs.Tests.{both}
 use Rattle.board.specs.declared.Board.{Board}
 use Rattle.board.specs.Records.{masterAt, slaveAt, sharesAt, connected}
@@ -19,7 +17,6 @@ use Rattle.state.specs.declared.State.{State}
 use Rattle.state.specs.Records.{transferAt}
 use Rattle.state.specs.Posting.{Request, transferOf}
 use Rattle.fabric.specs.Calls.{World, post}
-use Rattle.geometry.proofs.SelectLaws.{selects-target}
 use Rattle.state.proofs.StateLaws.{transfer-reset}
 use Rattle.waits.specs.Waits.{quotedWait, serveOf}
 use Rattle.quote.specs.declared.Quoted.{Quoted}
@@ -27,13 +24,13 @@ use Rattle.quote.specs.Calls.{quoteOf}
 use Rattle.quote.proofs.AnswerLaws.{quote-connected}
 use Rattle.history.specs.Claim as claim
 use Rattle.history.specs.Claim.{Start, Lent, slaveFor, waitFor, lengthOf, Figures, Longest}
-use Rattle.history.proofs.Pairs.{accepted-long}
+use Rattle.history.proofs.Pairs.{connected-pair, accepted-long}
 use Rattle.history.proofs.Standing.{Taken, post-taken, start-stands, start-state}
 use Rattle.history.proofs.Safe.{fits}
-use Rattle.history.proofs.ExactRequests.{requestFor, transferFor, last-serve, base-selects}
+use Rattle.history.proofs.ExactRequests.{requestFor, transferFor, last-serve, request-slave}
 use Rattle.history.proofs.ExactCalls.{post-accepted}
 use Rattle.history.proofs.ExactRuns.{request-taken}
-use Rattle.history.proofs.WaitCall.{connected-within, written-answered}
+use Rattle.history.proofs.WaitCall.{written-answered}
 
 module _ (b : Board) (legal : Legal b) (ok : checkBoard b ≡ 0) where
   module _ (w : World) (q : Request) (accepted : claim.Accepted b w q) where
@@ -79,11 +76,10 @@ module _ (b : Board) (legal : Legal b) (ok : checkBoard b ≡ 0) where
 
   module _ (w : World) (m s : ℕ) (start : Start b w) (lent : Lent b w) (hm : m < b .«master_count») (c : connected b m s ≡ true) where
     hs : s < b .«slave_count»
-    hs = connected-within b m s c
+    hs = connected-pair b m s c .0
 
     has : 1 ≤ sharesAt b m s
-    unfolding connected
-    has = ltb-true 0 (sharesAt b m s) (both (ltb s (b .«slave_count»)) (ltb 0 (sharesAt b m s)) c .1)
+    has = connected-pair b m s c .1
 
     -- the longest transfer of m at s, posted after the reset
     abbrev last : Request
@@ -95,8 +91,7 @@ module _ (b : Board) (legal : Legal b) (ok : checkBoard b ≡ 0) where
         (ap (λ (st : State). transferAt st m .held) (start-state b w start) ∙ ap (λ (t : Transfer). t .held) (transfer-reset b m))
 
     last-slave : slaveFor b last ≡ s
-    unfolding slaveFor requestFor
-    last-slave = selects-target b legal m (slaveAt b s .base) s (base-selects b legal s hs m hm has)
+    last-slave = request-slave b legal s hs m hm has 0
 
     last-long : lengthOf b last ≡ serveOf b m s
     unfolding lengthOf serveOf requestFor transferFor

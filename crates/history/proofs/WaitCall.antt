@@ -5,12 +5,11 @@ use mathlib.Core.Path.{_≡_, ap, subst₂, _∙_}
 use mathlib.Core.Bool.{true, cond}
 use mathlib.Core.List.{List, _++_}
 use Prim.Native.Nat.{ℕ, _≤_, _<_}
-use lib.Dec.{eqb, ltb}
+use lib.Dec.{eqb}
 use lib.ListN.{length, drop}
-use borrow.Author.Tests.{eq-eqb, le-ltb, lt-leb, ltb-true}
-use Rattle.laws.proofs.Tests.{both}
+use borrow.Author.Tests.{eq-eqb, le-ltb, lt-leb}
 use Rattle.board.specs.declared.Board.{Board}
-use Rattle.board.specs.Records.{sharesAt, connected}
+use Rattle.board.specs.Records.{connected}
 use Rattle.board.specs.Items.{checkBoard}
 use Rattle.board.specs.Legal.{Legal}
 use Rattle.board.proofs.Accepted.{accepted-legal}
@@ -23,10 +22,7 @@ use Rattle.quote.specs.Answers.{spelled, pairBytes, pairRefusal, waitRefusal, w
 use Rattle.quote.proofs.TurnLaws.{wait-fits, serve-fits, wait-spelled, serve-spelled}
 use Rattle.quote.proofs.WrittenLaws.{masters-trimmed, connected-trimmed, wait-trimmed, serve-trimmed, written-board}
 use Rattle.history.specs.WaitCall.{WaitAnswered}
-
-pub connected-within : (b : Board) (m s : ℕ) → connected b m s ≡ true → s < b .«slave_count»
-unfolding connected
-connected-within b m s c = ltb-true s (b .«slave_count») (both (ltb s (b .«slave_count»)) (ltb 0 (sharesAt b m s)) c .0)
+use Rattle.history.proofs.Pairs.{connected-pair}
 
 module _ (text : List ℕ) (accepted : readText text .number ≡ 0) where
   abbrev b : Board
@@ -40,10 +36,10 @@ module _ (text : List ℕ) (accepted : readText text .number ≡ 0) where
   unfolding waitRefusal pairRefusal waitOutput
   wait-answered m s out hm c room = record {
     number = number;
-    wait = ap spelled output ∙ wait-spelled b m s (drop 16 out) (wait-fits b legal m s hm (connected-within b m s c));
+    wait = ap spelled output ∙ wait-spelled b m s (drop 16 out) (wait-fits b legal m s hm (connected-pair b m s c .0));
     serve =
         ap (λ (o : List ℕ). spelled (drop 8 o)) output
-        ∙ serve-spelled b m s (drop 16 out) (serve-fits b legal m s hm (connected-within b m s c));
+        ∙ serve-spelled b m s (drop 16 out) (serve-fits b legal m s hm (connected-pair b m s c .0));
   }
     where
       number : waitRefusal text m s out ≡ 0
@@ -59,7 +55,7 @@ pub written-answered : (b : Board) → checkBoard b ≡ 0 → (m s : ℕ) (out :
     → 16 ≤ length out → WaitAnswered (writeText b) m s (quotedWait b m s) (serveOf b m s) out
 written-answered b ok m s out hm c room =
     let legal = accepted-legal b ok in
-    let hs = connected-within b m s c in
+    let hs = connected-pair b m s c .0 in
     let e = written-board b ok in
     subst₂ (λ (w v : ℕ). WaitAnswered (writeText b) m s w v out)
     (ap (λ (d : Board). quotedWait d m s) e ∙ wait-trimmed b legal s hs m)
