@@ -1,25 +1,25 @@
 // A board, the lines of its description, and what has been read of one. The rules (refusals 2 to 7) are in specs/Rules.antt.
 pub struct Master {
-    pub width: u8,
-    pub burst: u8,
+    pub width: u32,
+    pub burst: u32,
 }
 
 pub struct Slave {
     pub base: u32,
     pub span: u32,
-    pub width: u8,
-    pub burst: u8,
-    pub read_wait: u8,
-    pub write_wait: u8,
+    pub width: u32,
+    pub burst: u32,
+    pub read_wait: u32,
+    pub write_wait: u32,
 }
 
 // The shares of master m at slave s stand at 16 * m + s; 0: not connected.
 pub struct Board {
-    pub master_count: u8,
-    pub slave_count: u8,
+    pub master_count: u32,
+    pub slave_count: u32,
     pub masters: [Master; 8],
     pub slaves: [Slave; 16],
-    pub shares: [u8; 128],
+    pub shares: [u32; 128],
 }
 
 // The numbers of a slave line, not yet checked.
@@ -42,7 +42,7 @@ pub enum Item {
 
 // What has been read of a description: the refusal's number or 0, whether a share line was read, the board so far.
 pub struct Reading {
-    pub number: u8,
+    pub number: u32,
     pub sharing: bool,
     pub board: Board,
 }

@@ -3,11 +3,11 @@ use geometry::Transfer;
 
 // One slave: last owner, grants remaining to it, whether it is serving, accesses done, waits passed.
 pub struct Slot {
-    pub owner: u8,
-    pub remaining: u8,
+    pub owner: u32,
+    pub remaining: u32,
     pub serving: bool,
-    pub done: u16,
-    pub waited: u8,
+    pub done: u32,
+    pub waited: u32,
 }
 
 pub struct State {
@@ -17,12 +17,12 @@ pub struct State {
 
 // What one slave shows in one clock: phase (0 idle, 1 waiting, 2 access), owner, byte offset, lanes, run length, place in the run.
 pub struct Line {
-    pub phase: u8,
-    pub owner: u8,
+    pub phase: u32,
+    pub owner: u32,
     pub offset: u32,
-    pub lanes: u8,
-    pub run: u16,
-    pub place: u16,
+    pub lanes: u32,
+    pub run: u32,
+    pub place: u32,
 }
 
 // One slave's clock: the slot after it, its line, whether its owner is finished.
@@ -34,8 +34,8 @@ pub struct Step {
 
 // The answer of clock: bit m of the mask is 1 where master m is finished.
 pub struct Clocked {
-    pub number: u8,
+    pub number: u32,
     pub state: State,
-    pub mask: u8,
+    pub mask: u32,
     pub lines: [Line; 16],
 }
