@@ -3,6 +3,7 @@
 use mathlib.Core.Path.{_≡_, refl, sym, ap, _∙_}
 use mathlib.Core.Bool.{Bool, true, false, cond, _&&_, _||_}
 use mathlib.Core.List.{List}
+use mathlib.Core.Logic.{_⊎_, inl, inr}
 use Prim.Native.Nat.{ℕ, zero, suc, _+_, _≤_, _<_}
 use native.Mathlib.Decide.{ℕ-discrete}
 use native.Mathlib.Numerals.{add-one}
@@ -94,3 +95,20 @@ module _ (test : ℕ → ℕ → Bool) (n i o : ℕ) {l : List Bool} (on : Bool)
       go m (yes p) =
           rw (p, f o, eq-eqb o o refl, getD-table (λ j. some (test j) i) n false o h) (last (some (test o) i) on)
       go m (no p) = rw (f m, ne-eqb m o p, ne-eqb o m (λ e. p (sym e))) (other (some (test m) i) on)
+
+-- a table in which only place s is another
+pub table-put : {X : Type 0} (f g : ℕ → X) (n s : ℕ) (x : X) → g s ≡ x → ((i : ℕ) → (i ≡ s → ⊥) → g i ≡ f i)
+    → table g n ≡ set (table f n) s x
+table-put f g n s x e q = table-same _ _ n (λ i h. go i (ℕ-discrete i s)) ∙ sym (set-table f n s x)
+  where
+    go : (i : ℕ) → Dec (i ≡ s) → g i ≡ cond (eqb i s) x (f i)
+    go i (yes w) = rw (eq-eqb i s w, w) e
+    go i (no w) = rw (ne-eqb i s w) (q i w)
+
+-- two different places of the same table
+pub below-above : (i s : ℕ) → (i ≡ s → ⊥) → (i < s) ⊎ (s < i)
+below-above i s w = go (ltb i s) refl
+  where
+    go : (c : Bool) → ltb i s ≡ c → (i < s) ⊎ (s < i)
+    go true t = inl (ltb-true i s t)
+    go false t = let h = ltb-false i s t in inr (omega arith)
