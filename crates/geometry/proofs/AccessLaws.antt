@@ -8,8 +8,9 @@ use native.Mathlib.Nat.{le-div-iff-mul-le, div-le-self}
 use native.Mathlib.Omega.{arith}
 use lib.Dec.{T, eqb, ltb, eqb→eq}
 use borrow.Author.Tests.{ltb-true}
-use Rattle.laws.specs.Lists.{member}
+use Rattle.laws.specs.Lists.{member, agree}
 use Rattle.laws.proofs.Arithmetic.{field-lt, multiple-trans, multiple-add, multiple-sub, multiple-room, rounded-room}
+use Rattle.laws.proofs.Finite.{agree-eq}
 use Rattle.laws.proofs.Members.{all, of-member}
 use Rattle.board.specs.declared.Master.{Master}
 use Rattle.board.specs.declared.Slave.{Slave}
@@ -118,6 +119,17 @@ module _ (ma : Master) (sl : Slave) (m : member (ma .width) widths ≡ true) (s 
       eqb→eq _ _
       (of-pair (λ x y. eqb (cond (ltb y x) (x / y) 1 * min x y) x) tt (ma .width) (sl .width) m s)
 
+  -- they are what the master's word holds of the bytes of an access, which are a width too
+  pub ratio-quotient : ma .width / accessBytes ma sl ≡ ratio ma sl
+  unfolding ratio accessBytes pairs
+  ratio-quotient =
+      eqb→eq _ _ (of-pair (λ x y. eqb (x / min x y) (cond (ltb y x) (x / y) 1)) tt (ma .width) (sl .width) m s)
+
+  pub access-legal : member (accessBytes ma sl) widths ≡ true
+  unfolding accessBytes pairs member
+  access-legal =
+      agree-eq _ _ (of-pair (λ x y. agree (member (min x y) widths) true) tt (ma .width) (sl .width) m s)
+
   pub bytes-pos : 0 < accessBytes ma sl
   unfolding accessBytes
   bytes-pos = omega (arith, width-pos (ma .width) m, width-pos (sl .width) s)
@@ -182,5 +194,7 @@ module _ (ma : Master) (sl : Slave) (m : member (ma .width) widths ≡ true) (s 
       pub in-word : InWord ma sl t a
       in-word = record {
         width = width-le (sl .width) s;
-        inside = multiple-room (accessOffset ma sl t a) (accessBytes ma sl) (sl .width) (width-pos (sl .width) s) offset-aligned bytes-divide-slave;
+        inside =
+            multiple-room (accessOffset ma sl t a) (accessBytes ma sl) (sl .width) (width-pos (sl .width) s) offset-aligned
+            bytes-divide-slave;
       }

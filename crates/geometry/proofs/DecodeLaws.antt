@@ -1,14 +1,15 @@
 -- Address decoding read as a range: with the base a multiple of the span, an address agrees exactly where it lies in the span.
 -- Assumes nothing.
-use mathlib.Core.Path.{_≡_, sym, ap, _∙_}
-use mathlib.Core.Bool.{true}
+use mathlib.Core.Path.{_≡_, refl, sym, ap, _∙_}
+use mathlib.Core.Bool.{Bool, true, false}
 use Prim.Native.Nat.{ℕ, _+_, _-_, _*_, _/_, _%_, _^_, _≤_, _<_}
-use native.Mathlib.Nat.{div-add-mod', mod-lt, div-eq-of-lt-le, add-mul, one-mul, mul-mod-left}
+use native.Mathlib.Nat.{div-add-mod', mod-lt, div-eq-of-lt-le, add-mul, one-mul, mul-mod-left, mul-div-cancel}
 use native.Mathlib.Omega.{arith}
+use lib.Bits.{bitAnd, and-mask}
 use lib.Dec.{eqb, leb, eqb→eq, leb→le}
 use lib.Count.{trailingZeros}
 use lib.Pow.{pow-pos, pow-add}
-use borrow.Author.Tests.{eq-eqb, eqb-true}
+use borrow.Author.Tests.{eq-eqb, ne-eqb, eqb-true, eqb-false}
 use Rattle.laws.specs.Lists.{member}
 use Rattle.laws.proofs.Members.{of-member}
 use Rattle.board.specs.declared.Slave.{Slave}
@@ -51,3 +52,17 @@ span-of n e = record {
   least = leb→le _ _ (of-member (λ m. leb 3 (trailingZeros 17 m)) spans tt n e);
   most = leb→le _ _ (of-member (λ m. leb (trailingZeros 17 m) 16) spans tt n e);
 }
+
+-- a mask leaves what is over a multiple of a span
+pub over-span : (n : ℕ) {span : ℕ} → Span span → bitAnd n (span - 1) ≡ n % span
+over-span n s = rw (s .power) (and-mask n (s .log))
+
+-- multiples of one number are equal exactly where their quotients are
+pub multiples-agree : (a b : ℕ) {n x y : ℕ} → 0 < n → x ≡ a / n * n → y ≡ b / n * n → eqb x y ≡ eqb (a / n) (b / n)
+multiples-agree a b {n} {x} {y} h e f = rw (e, f) (go (eqb (a / n) (b / n)) refl)
+  where
+    go : (c : Bool) → eqb (a / n) (b / n) ≡ c → eqb (a / n * n) (b / n * n) ≡ c
+    go true q = eq-eqb _ _ (ap (λ (k : ℕ). k * n) (eqb-true (a / n) (b / n) q))
+    go false q =
+        ne-eqb _ _ (λ w. eqb-false (a / n) (b / n) q (sym (mul-div-cancel (a / n) h) ∙ ap (λ (k : ℕ). k / n) w
+        ∙ mul-div-cancel (b / n) h))

@@ -1,3 +1,5 @@
-pub mod AccessLaws
+pub mod PowerLaws
 pub mod DecodeLaws
+pub mod AccessLaws
+pub mod RunLaws
 pub mod SelectLaws

@@ -1,3 +1,4 @@
 pub mod Decoding
 pub mod Accesses
 pub mod Runs
+pub mod Pairs

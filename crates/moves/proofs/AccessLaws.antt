@@ -6,8 +6,10 @@ use mathlib.Core.List.{List}
 use Prim.Native.Nat.{ℕ, _+_, _-_, _%_, _≤_, _<_}
 use lib.ListN.{length}
 use Rattle.laws.specs.Bits.{bit}
+use Rattle.laws.specs.Lists.{member}
 use Rattle.board.specs.declared.Master.{Master}
 use Rattle.board.specs.declared.Slave.{Slave}
+use Rattle.board.specs.Rules.{widths}
 use Rattle.geometry.specs.declared.Transfer.{Transfer}
 use Rattle.geometry.specs.Accesses.{accessBytes, firstByte}
 use Rattle.moves.specs.Moving.{all, move}
@@ -30,9 +32,9 @@ module _ (ma : Master) (sl : Slave) (t : Transfer) (m start a : ℕ) (d : Store)
   pub writes : Reached ma sl t m start a d
       → (length (d .buffer) ≡ bufferLength) × (m < 8) × (first + count ≤ 512)
       × (start + (t .address - sl .base) + (first + count) ≤ length (d .memory))
-      × (0 < ma .width) × (ma .width ≤ 8) × (first % ma .width + count ≤ ma .width)
+      × (member (ma .width) widths ≡ true) × (first % ma .width + count ≤ ma .width)
   unfolding memoryPlace
-  writes r = rw (f, n) (r .buffer, r .master, r .part, r .memory, r .some, r .few, r .word)
+  writes r = rw (f, n) (r .buffer, r .master, r .part, r .memory, r .width, r .word)
 
   pub read-done : {buffer : List ℕ} → t .write ≡ false
       → buffer ≡ move all (d .memory) (start + (t .address - sl .base)) (partOf m) first count (d .buffer)
@@ -42,7 +44,8 @@ module _ (ma : Master) (sl : Slave) (t : Transfer) (m start a : ℕ) (d : Store)
 
   pub write-done : {memory : List ℕ} → t .write ≡ true
       → memory
-      ≡ move (λ i. bit (t .lanes) (i % ma .width)) (d .buffer) (partOf m) (start + (t .address - sl .base)) first count (d .memory)
+      ≡ move (λ i. bit (t .lanes) (i % ma .width)) (d .buffer) (partOf m) (start + (t .address - sl .base)) first count
+      (d .memory)
       → _≡_ {A = Store} (record { memory = memory; buffer = d .buffer }) (accessed ma sl t m start a d)
   unfolding accessed written enabled memoryPlace
   write-done e q = rw (q, e, f, n)

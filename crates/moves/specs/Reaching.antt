@@ -1,10 +1,13 @@
 -- What an access asks of the lent bytes and of its master's word.
 -- Assumes nothing.
 use mathlib.Core.Path.{_≡_}
+use mathlib.Core.Bool.{true}
 use Prim.Native.Nat.{ℕ, _+_, _%_, _≤_, _<_}
 use lib.ListN.{length}
+use Rattle.laws.specs.Lists.{member}
 use Rattle.board.specs.declared.Master.{Master}
 use Rattle.board.specs.declared.Slave.{Slave}
+use Rattle.board.specs.Rules.{widths}
 use Rattle.geometry.specs.declared.Transfer.{Transfer}
 use Rattle.geometry.specs.Accesses.{accessBytes, firstByte}
 use Rattle.moves.specs.Bytes.{Store, bufferLength, memoryPlace}
@@ -16,6 +19,5 @@ pub record Reached (ma : Master) (sl : Slave) (t : Transfer) (m start a : ℕ) (
   pub part : firstByte ma sl a + accessBytes ma sl ≤ 512
   pub address : sl .base ≤ t .address
   pub memory : memoryPlace sl t start + (firstByte ma sl a + accessBytes ma sl) ≤ length (d .memory)
-  pub some : 0 < ma .width
-  pub few : ma .width ≤ 8
+  pub width : member (ma .width) widths ≡ true
   pub word : firstByte ma sl a % ma .width + accessBytes ma sl ≤ ma .width

@@ -4,9 +4,12 @@ use board::Master;
 use board::Slave;
 use geometry::Transfer;
 ghost use mathlib.Core.Path.{_≡_};
+ghost use mathlib.Core.Bool.{true};
 ghost use Prim.Native.Nat.{_+_, _%_, _≤_, _<_};
 ghost use lib.ListN.{length};
 ghost use Rattle.laws.specs.Bits.{bit};
+ghost use Rattle.laws.specs.Lists.{member};
+ghost use Rattle.board.specs.Rules.{widths};
 ghost use Rattle.moves.specs.Moving.{all, move};
 ghost use Rattle.moves.specs.Bytes.{bufferLength, partOf, posted, accessed};
 ghost use Rattle.moves.specs.Reaching.{Reached};
@@ -49,7 +52,8 @@ fn store_words(memory: &[u8], from: usize, part: &mut [u8], first: usize, count:
 
 // A read access of master m.
 fn read_access(memory: &[u8], from: usize, buffer: &mut [u8], m: usize, first: usize, count: usize)
-    requires { ⌜ (length (now buffer) ≡ bufferLength) × (m < 8) × (first + count ≤ 512) × (from + (first + count) ≤ length (now memory)) ⌝ }
+    requires { ⌜ (length (now buffer) ≡ bufferLength) × (m < 8) × (first + count ≤ 512)
+        × (from + (first + count) ≤ length (now memory)) ⌝ }
     ensures { λ r. ⌜ now (buffer .exit) ≡ move all (now (memory .entry)) from (partOf m) first count (now (buffer .entry)) ⌝ }
 {
     let start = 512 * m;
@@ -58,29 +62,29 @@ fn read_access(memory: &[u8], from: usize, buffer: &mut [u8], m: usize, first: u
 }
 
 // Whether lane k is enabled.
-fn lane_on(lanes: u8, k: usize) -> bool
+fn lane_on(lanes: u32, k: usize) -> bool
     requires { ⌜ k < 8 ⌝ }
     ensures { λ r. ⌜ r ≡ bit lanes k ⌝ }
 {
     (lanes >> k) % 2 == 1
 }
 
-// A write access. Its bytes lie in one word of the master, so that only the lane of the first one takes a division.
+// A write access. Its bytes lie in one word of the master, so that their lanes count on from that of the first one.
 fn write_words(
     memory: &mut [u8],
     at: usize,
     part: &[u8],
     first: usize,
     count: usize,
-    lanes: u8,
-    width: u8,
+    lanes: u32,
+    width: u32,
 )
     requires { ⌜ (at + (first + count) ≤ length (now memory)) × (first + count ≤ length (now part))
-        × (0 < width) × (width ≤ 8) × (first % width + count ≤ width) ⌝ }
+        × (member width widths ≡ true) × (first % width + count ≤ width) ⌝ }
     ensures { λ r. ⌜ now (memory .exit)
         ≡ move (λ i. bit lanes (i % width)) (now (part .entry)) 0 at first count (now (memory .entry)) ⌝ }
 {
-    let lane = first % (width as usize);
+    let lane = first & (width - 1) as usize;
     let mut k = 0;
     while k < count {
         let i = first + k;
@@ -99,12 +103,12 @@ fn write_access(
     m: usize,
     first: usize,
     count: usize,
-    lanes: u8,
-    width: u8,
+    lanes: u32,
+    width: u32,
 )
     requires { ⌜ (length (now buffer) ≡ bufferLength) × (m < 8) × (first + count ≤ 512)
         × (at + (first + count) ≤ length (now memory))
-        × (0 < width) × (width ≤ 8) × (first % width + count ≤ width) ⌝ }
+        × (member width widths ≡ true) × (first % width + count ≤ width) ⌝ }
     ensures { λ r. ⌜ now (memory .exit)
         ≡ move (λ i. bit lanes (i % width)) (now (buffer .entry)) (partOf m) at first count (now (memory .entry)) ⌝ }
 {
@@ -120,7 +124,7 @@ pub fn carry_access(
     t: Transfer,
     m: usize,
     start: usize,
-    a: u16,
+    a: u32,
     memory: &mut [u8],
     buffer: &mut [u8],
 )

@@ -1,4 +1,4 @@
--- `geometry::access_count` meets its contract: a product of two bytes fits 16 bits.
+-- `geometry::access_count` meets its contract: a product of two numbers of 32 bits fits 64.
 -- Assumes nothing.
 use mathlib.Core.Path.{ap}
 use Prim.Native.Nat.{ℕ, _*_}
@@ -10,7 +10,7 @@ use Rattle.geometry.proofs.access_count.Statement.{statement}
 use Rattle.geometry.proofs.access_count.Tie as tie
 
 width-ratio-requires : tie.Need-width-ratio-requires
-width-ratio-requires c κs = tt
+width-ratio-requires c κs = c .pre
 
 cast-result : tie.Need-cast-result
 cast-result c = search needs
@@ -20,7 +20,8 @@ cast-result-2 c = search needs
 
 mul-result : tie.Need-mul-result
 mul-result c =
-    omega (arith, product-le (c .before .before .args .t .beats) (c .before .width-ratio .result) 255 255 (omega arith) (omega arith))
+    let beats = c .before .before .args .t .beats in
+    omega (arith, product-le beats (c .before .width-ratio .result) 4294967295 4294967295 (omega arith) (omega arith))
 
 returns : tie.Need-returns
 unfolding accesses

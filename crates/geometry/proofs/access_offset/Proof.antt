@@ -1,9 +1,11 @@
--- `geometry::access_offset` meets its contract.
+-- `geometry::access_offset` meets its contract: a product of two numbers of 32 bits leaves room for one more.
 -- Assumes nothing.
 use mathlib.Core.Path.{ap₂}
-use Prim.Native.Nat.{ℕ, _+_}
+use Prim.Native.Nat.{ℕ, _+_, _*_, _≤_}
+use native.Mathlib.Omega.{arith}
 use borrow.Author.Needs.{needs}
-use Rattle.geometry.specs.Accesses.{accessOffset}
+use Rattle.laws.proofs.Arithmetic.{product-le}
+use Rattle.geometry.specs.Accesses.{accessBytes, firstByte, accessOffset}
 use Rattle.geometry.proofs.access_offset.Statement.{statement}
 use Rattle.geometry.proofs.access_offset.Tie as tie
 
@@ -19,11 +21,15 @@ difference-requires c κs = tt
 first-byte-requires : tie.Need-first-byte-requires
 first-byte-requires c κs = tt
 
-cast-result : tie.Need-cast-result
-cast-result c = search needs
-
 add-result : tie.Need-add-result
-add-result c = search needs
+unfolding accessBytes firstByte
+add-result c =
+    let known = c .before .before in
+    let args = known .before .before .args in
+    let bytes = accessBytes (args .ma) (args .sl) in
+    let few : bytes ≤ 4294967295 = omega arith in
+    let most : args .a * bytes ≤ 4294967295 * 4294967295 = product-le (args .a) bytes 4294967295 4294967295 (omega arith) few in
+    omega (arith, c .before .difference .ensures, c .first-byte .ensures)
 
 returns : tie.Need-returns
 unfolding accessOffset
@@ -37,6 +43,5 @@ access-offset-spec =
     cast-difference-2
     difference-requires
     first-byte-requires
-    cast-result
     add-result
     returns)

@@ -1,4 +1,4 @@
--- `geometry::first_byte` meets its contract: 16 bits times a byte fit 32.
+-- `geometry::first_byte` meets its contract: a product of two numbers of 32 bits fits 64.
 -- Assumes nothing.
 use mathlib.Core.Path.{ap}
 use Prim.Native.Nat.{ℕ, _*_}
@@ -17,7 +17,7 @@ cast-result c = search needs
 
 mul-result : tie.Need-mul-result
 mul-result c =
-    omega (arith, product-le (c .before .args .a) (c .access-width .result) 65535 255 (omega arith) (omega arith))
+    omega (arith, product-le (c .before .args .a) (c .access-width .result) 4294967295 4294967295 (omega arith) (omega arith))
 
 returns : tie.Need-returns
 unfolding firstByte

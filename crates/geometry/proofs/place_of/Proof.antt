@@ -1,30 +1,17 @@
--- `geometry::place_of` meets its contract: the place is not above the access's number, so that it fits.
+-- `geometry::place_of` meets its contract.
 -- Assumes nothing.
-use mathlib.Core.Path.{_∙_, ap}
-use Prim.Native.Nat.{ℕ, _%_}
-use native.Mathlib.Nat.{mod-le}
-use native.Mathlib.Omega.{arith}
-use borrow.Author.Needs.{needs}
-use Rattle.geometry.specs.Runs.{placeOf}
+use Rattle.geometry.proofs.RunLaws.{limit-pos, place-masked}
 use Rattle.geometry.proofs.place_of.Statement.{statement}
 use Rattle.geometry.proofs.place_of.Tie as tie
 
 run-limit-requires : tie.Need-run-limit-requires
 run-limit-requires c κs = tt
 
-cast-remainder : tie.Need-cast-remainder
-cast-remainder c = search needs
-
-remainder-requires : tie.Need-remainder-requires
-remainder-requires c κs = tt
-
-cast-result : tie.Need-cast-result
-cast-result c = omega (arith, mod-le (c .before .before .args .a) (c .before .run-limit .result))
+sub-result : tie.Need-sub-result
+sub-result c = limit-pos _ _ _ (c .before .pre) (c .run-limit .ensures)
 
 returns : tie.Need-returns
-unfolding placeOf
-returns c = c .remainder .ensures ∙ ap (λ (x : ℕ). c .before .before .args .a % x) (c .before .run-limit .ensures)
+returns c = place-masked _ _ _ (c .before .pre) (c .run-limit .ensures) _
 
 pub place-of-spec : {M : Type 1} → statement M
-place-of-spec =
-    tie.close (tie.spec run-limit-requires cast-remainder remainder-requires cast-result returns)
+place-of-spec = tie.close (tie.spec run-limit-requires sub-result returns)

@@ -1,37 +1,26 @@
--- `geometry::width_ratio` meets its contract; a slave of width 0 has none, as a quotient by 0.
+-- `geometry::width_ratio` meets its contract.
 -- Assumes nothing.
-use mathlib.Core.Path.{_≡_, sym, _∙_}
-use Prim.Native.Nat.{_/_, _≤_, _<_}
-use native.Mathlib.Nat.{div-zero}
-use borrow.Author.Needs.{needs}
-use borrow.Author.Tests.{lt-ltb, le-ltb}
-use Rattle.board.specs.declared.Master.{Master}
-use Rattle.board.specs.declared.Slave.{Slave}
-use Rattle.geometry.specs.Accesses.{ratio}
+use mathlib.Core.Path.{_≡_, subst, sym, _∙_, ap}
+use mathlib.Core.Bool.{true}
+use Prim.Native.Nat.{ℕ, _/_}
+use Rattle.laws.specs.Lists.{member}
+use Rattle.board.specs.Rules.{widths}
+use Rattle.geometry.proofs.AccessLaws.{access-legal, ratio-quotient}
 use Rattle.geometry.proofs.width_ratio.Statement.{statement}
 use Rattle.geometry.proofs.width_ratio.Tie as tie
 
-one : (ma : Master) (sl : Slave) → ma .width ≤ sl .width → 1 ≡ ratio ma sl
-unfolding ratio
-one ma sl h = rw (le-ltb _ _ h)
+access-width-requires : tie.Need-access-width-requires
+access-width-requires c κs = tt
 
-wider : (ma : Master) (sl : Slave) → sl .width < ma .width → ma .width / sl .width ≡ ratio ma sl
-unfolding ratio
-wider ma sl h = rw (lt-ltb _ _ h)
+quotient-requires : tie.Need-quotient-requires
+quotient-requires c κs =
+    subst (λ (n : ℕ). member n widths ≡ true) (sym (c .access-width .ensures))
+    (access-legal _ _ (c .before .pre .master) (c .before .pre .slave))
 
 returns : tie.Need-returns
-returns c = one _ _ (c .if1 .taken)
-
-div-result : tie.Need-div-result
-div-result c = search needs
-
-returns-2 : tie.Need-returns-2
-returns-2 c =
-    let start = c .before .before .before .before .before in
-    sym (rw (c .if2 .taken) (div-zero _)) ∙ wider (start .args .ma) (start .args .sl) (c .before .before .if1 .left)
-
-returns-3 : tie.Need-returns-3
-returns-3 c = wider _ _ (c .before .before .before .before .if1 .left)
+returns c =
+    c .quotient .ensures ∙ ap (λ (n : ℕ). c .before .before .args .ma .width / n) (c .before .access-width .ensures)
+    ∙ ratio-quotient _ _ (c .before .before .pre .master) (c .before .before .pre .slave)
 
 pub width-ratio-spec : {M : Type 1} → statement M
-width-ratio-spec = tie.close (tie.spec returns div-result returns-2 returns-3)
+width-ratio-spec = tie.close (tie.spec access-width-requires quotient-requires returns)

@@ -1,16 +1,16 @@
 -- `geometry::write_lanes` meets its contract: the part of the mask stays within 8 lanes, so that no bit is shifted out.
 -- Assumes nothing.
 use mathlib.Core.Path.{_≡_, ap, _∙_}
-use Prim.Native.Nat.{ℕ, _+_, _-_, _*_, _/_, _%_, _^_, _≤_}
+use Prim.Native.Nat.{ℕ, _+_, _-_, _*_, _/_, _%_, _^_, _≤_, _<_}
+use native.Mathlib.Nat.{mod-lt}
 use native.Mathlib.Omega.{arith}
 use lib.Bits.{bitAnd}
-use borrow.Author.Needs.{needs}
 use Rattle.laws.proofs.Arithmetic.{field-of}
 use Rattle.board.specs.declared.Master.{Master}
 use Rattle.board.specs.declared.Slave.{Slave}
 use Rattle.geometry.specs.declared.Transfer.{Transfer}
 use Rattle.geometry.specs.Accesses.{accessBytes, firstByte, accessOffset, writeLanes, InWord}
-use Rattle.geometry.proofs.AccessLaws.{write-lanes-lt}
+use Rattle.geometry.proofs.AccessLaws.{width-pos, width-le}
 use Rattle.geometry.proofs.write_lanes.Statement.{statement}
 use Rattle.geometry.proofs.write_lanes.Tie as tie
 
@@ -22,12 +22,12 @@ module _ (ma : Master) (sl : Slave) (t : Transfer) (a bytes at to : ℕ) (w : In
       let e : to ≡ accessOffset ma sl t a % sl .width = u ∙ ap (λ (x : ℕ). x % sl .width) o in
       omega (arith, w .width, w .inside)
 
-  part : (first from above mask : ℕ) → first ≡ firstByte ma sl a → from ≡ first % ma .width → above ≡ t .lanes / 2 ^ from
-      → mask ≡ 2 ^ bytes - 1 → bitAnd above mask * 2 ^ to % 4294967296 ≡ writeLanes ma sl t a
+  part : (first from mask : ℕ) → first ≡ firstByte ma sl a → from ≡ first % ma .width → mask ≡ 2 ^ bytes - 1
+      → bitAnd (t .lanes / 2 ^ from) mask * 2 ^ to % 4294967296 ≡ writeLanes ma sl t a
   unfolding writeLanes
-  part first from above mask f d l m =
-      ap (λ (x : ℕ). bitAnd above x * 2 ^ to % 4294967296) m ∙ field-of above bytes to 32 (omega (arith, fits))
-      ∙ rw (l, d, f, b, u, o)
+  part first from mask f d m =
+      ap (λ (x : ℕ). bitAnd (t .lanes / 2 ^ from) x * 2 ^ to % 4294967296) m
+      ∙ field-of (t .lanes / 2 ^ from) bytes to 32 (omega (arith, fits)) ∙ rw (d, f, b, u, o)
 
 access-width-requires : tie.Need-access-width-requires
 access-width-requires c κs = tt
@@ -38,55 +38,48 @@ first-byte-requires c κs = tt
 access-offset-requires : tie.Need-access-offset-requires
 access-offset-requires c κs = tt
 
-cast-remainder : tie.Need-cast-remainder
-cast-remainder c = search needs
+over-width-requires : tie.Need-over-width-requires
+over-width-requires c κs = c .before .before .before .pre .0 .master
 
-cast-remainder-2 : tie.Need-cast-remainder-2
-cast-remainder-2 c = search needs
+over-width-requires-2 : tie.Need-over-width-requires-2
+over-width-requires-2 c κs = c .before .before .before .before .pre .0 .slave
 
-remainder-requires : tie.Need-remainder-requires
-remainder-requires c κs = tt
-
-cast-remainder-3 : tie.Need-cast-remainder-3
-cast-remainder-3 c = search needs
-
-remainder-requires-2 : tie.Need-remainder-requires-2
-remainder-requires-2 c κs = tt
-
-lanes-from-requires : tie.Need-lanes-from-requires
-lanes-from-requires c κs = tt
-
-cast-all-lanes : tie.Need-cast-all-lanes
-cast-all-lanes c = search needs
+room : (c : tie.After-over-width2)
+    → c .before .before .before .before .access-width .result + c .over-width2 .result ≤ 8
+room c =
+    let offset = c .before .before in
+    fits _ _ _ _ _ _ _ (offset .before .before .before .pre .1) (offset .before .before .access-width .ensures)
+    (offset .access-offset .ensures) (c .over-width2 .ensures)
 
 all-lanes-requires : tie.Need-all-lanes-requires
-all-lanes-requires c κs = omega arith
+all-lanes-requires c κs = omega (arith, room c)
 
-room : (c : tie.After-all-lanes)
-    → c .before .before .before .before .before .before .before .before .access-width .result
-    + c .before .before .remainder2 .result ≤ 8
-room c =
-    let offset = c .before .before .before .before .before .before in
-    fits _ _ _ _ _ _ _ (offset .before .before .before .pre) (offset .before .before .access-width .ensures)
-    (offset .access-offset .ensures) (c .before .before .remainder2 .ensures)
+low : (c : tie.After-over-width) → c .over-width .result < 8
+low c =
+    let start = c .before .before .before .before in
+    let w = start .args .ma .width in
+    let l = start .pre .0 .master in
+    omega (arith, c .over-width .ensures, mod-lt (c .before .before .first-byte .result) (width-pos w l), width-le w l)
 
 cast-result : tie.Need-cast-result
-cast-result c = omega (arith, room c)
+cast-result c = omega (arith, low (c .before .before))
+
+shr-result : tie.Need-shr-result
+shr-result c = omega (arith, low (c .before .before .before))
+
+cast-result-2 : tie.Need-cast-result-2
+cast-result-2 c = omega (arith, room (c .before .before))
 
 shl-result : tie.Need-shl-result
-shl-result c = omega (arith, room c)
+shl-result c = omega (arith, room (c .before .before))
 
 returns : tie.Need-returns
 returns c =
-    let offset = c .before .before .before .before .before .before in
-    part _ _ _ _ _ _ _ (offset .before .before .before .pre) (offset .before .before .access-width .ensures)
-    (offset .access-offset .ensures) (c .before .before .remainder2 .ensures) _ _ _ _ (offset .before .first-byte .ensures)
-    (c .before .before .before .before .remainder .ensures) (c .before .lanes-from .ensures) (c .all-lanes .ensures)
-
-cast-result-2 : tie.Need-cast-result-2
-cast-result-2 c =
-    let start = c .before .before .before .before .before .before .before .before .before in
-    omega (arith, returns c, write-lanes-lt (start .args .ma) (start .args .sl) (start .args .t) (start .args .a) (start .pre))
+    let second = c .before .before in
+    let offset = second .before .before in
+    part _ _ _ _ _ _ _ (offset .before .before .before .pre .1) (offset .before .before .access-width .ensures)
+    (offset .access-offset .ensures) (second .over-width2 .ensures) _ _ _ (offset .before .first-byte .ensures)
+    (second .before .over-width .ensures) (c .before .all-lanes .ensures)
 
 pub write-lanes-spec : {M : Type 1} → statement M
 write-lanes-spec =
@@ -95,15 +88,11 @@ write-lanes-spec =
     access-width-requires
     first-byte-requires
     access-offset-requires
-    cast-remainder
-    cast-remainder-2
-    remainder-requires
-    cast-remainder-3
-    remainder-requires-2
-    lanes-from-requires
-    cast-all-lanes
+    over-width-requires
+    over-width-requires-2
     all-lanes-requires
     cast-result
-    shl-result
+    shr-result
     cast-result-2
+    shl-result
     returns)

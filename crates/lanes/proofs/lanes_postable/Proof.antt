@@ -1,27 +1,28 @@
 -- `lanes::lanes_postable` meets its contract.
 -- Assumes nothing.
-use mathlib.Core.Path.{_≡_, sym, _∙_}
-use mathlib.Core.Bool.{true}
-use borrow.Author.Tests.{not-true, not-false}
-use Rattle.lanes.specs.Lanes.{legalLanes}
-use Rattle.lanes.proofs.LaneLaws.{not-legal, single, burst}
+use mathlib.Core.Path.{_∙_}
+use Rattle.lanes.proofs.LaneLaws.{full-width, all-posted, part-burst, single}
 use Rattle.lanes.proofs.lanes_postable.Statement.{statement}
 use Rattle.lanes.proofs.lanes_postable.Tie as tie
 
-lanes-legal-requires : tie.Need-lanes-legal-requires
-lanes-legal-requires c κs = tt
+all-lanes-requires : tie.Need-all-lanes-requires
+all-lanes-requires c κs = c .pre
+
+sub-result : tie.Need-sub-result
+sub-result c = full-width _ (c .before .before .args .lanes) _ (c .before .all-lanes .ensures) (c .if1 .taken)
 
 returns : tie.Need-returns
-returns c = not-legal _ _ _ (sym (c .before .lanes-legal .ensures) ∙ not-true _ (c .if1 .taken))
-
-legal : (c : tie.Else1) → legalLanes (c .before .before .args .width) (c .before .before .args .lanes) ≡ true
-legal c = sym (c .before .lanes-legal .ensures) ∙ not-false _ (c .if1 .left)
+returns c = all-posted _ _ _ (c .before .all-lanes .ensures) (c .if1 .taken) _ (c .before .before .pre)
 
 returns-2 : tie.Need-returns-2
-returns-2 c = single _ _ _ (legal (c .before)) (c .if2 .taken)
+returns-2 c = part-burst _ _ _ (c .before .before .all-lanes .ensures) _ (c .before .if1 .left) (c .if2 .taken)
+
+lanes-legal-requires : tie.Need-lanes-legal-requires
+lanes-legal-requires c κs = c .before .before .before .pre
 
 returns-3 : tie.Need-returns-3
-returns-3 c = burst _ _ _ (legal (c .before)) (c .if2 .left)
+returns-3 c = c .lanes-legal .ensures ∙ single _ _ _ (c .before .if2 .left)
 
 pub lanes-postable-spec : {M : Type 1} → statement M
-lanes-postable-spec = tie.close (tie.spec lanes-legal-requires returns returns-2 returns-3)
+lanes-postable-spec =
+    tie.close (tie.spec all-lanes-requires sub-result returns returns-2 lanes-legal-requires returns-3)

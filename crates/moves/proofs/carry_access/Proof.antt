@@ -20,9 +20,6 @@ add-place c = omega (arith, place-fits _ _ _ _ _ _ _ refl refl (c .before .befor
 first-byte-requires : tie.Need-first-byte-requires
 first-byte-requires c κs = search needs
 
-cast-first : tie.Need-cast-first
-cast-first c = search needs
-
 access-width-requires : tie.Need-access-width-requires
 access-width-requires c κs = search needs
 
@@ -30,7 +27,10 @@ cast-count : tie.Need-cast-count
 cast-count c = search needs
 
 write-access-requires : tie.Need-write-access-requires
-write-access-requires c κs = writes _ _ _ _ _ _ _ (c .before .before .before .before .first-byte .ensures) (c .before .before .before .access-width .ensures) (c .before .before .before .before .before .before .before .before .before .pre)
+write-access-requires c κs =
+    let call = c .before .before .before .before in
+    writes _ _ _ _ _ _ _ (call .first-byte .ensures) (c .before .before .before .access-width .ensures)
+    (call .before .before .before .before .before .pre)
 
 same-length : tie.Need-same-length
 same-length c = search needs
@@ -39,10 +39,16 @@ same-length-2 : tie.Need-same-length-2
 same-length-2 c = search needs
 
 returns : tie.Need-returns
-returns c = write-done _ _ _ _ _ _ _ (c .before .before .before .before .before .before .before .first-byte .ensures) (c .before .before .before .before .before .before .access-width .ensures) (c .before .before .before .before .before .if1 .taken) (c .before .before .write-access .ensures)
+returns c =
+    let test = c .before .before .before .before .before in
+    write-done _ _ _ _ _ _ _ (test .before .before .first-byte .ensures) (test .before .access-width .ensures) (test .if1 .taken)
+    (c .before .before .write-access .ensures)
 
 read-access-requires : tie.Need-read-access-requires
-read-access-requires c κs = reads _ _ _ _ _ _ _ (c .before .before .before .before .first-byte .ensures) (c .before .before .before .access-width .ensures) (c .before .before .before .before .before .before .before .before .before .pre)
+read-access-requires c κs =
+    let call = c .before .before .before .before in
+    reads _ _ _ _ _ _ _ (call .first-byte .ensures) (c .before .before .before .access-width .ensures)
+    (call .before .before .before .before .before .pre)
 
 same-length-3 : tie.Need-same-length-3
 same-length-3 c = search needs
@@ -51,7 +57,10 @@ same-length-4 : tie.Need-same-length-4
 same-length-4 c = search needs
 
 returns-2 : tie.Need-returns-2
-returns-2 c = read-done _ _ _ _ _ _ _ (c .before .before .before .before .before .before .before .first-byte .ensures) (c .before .before .before .before .before .before .access-width .ensures) (c .before .before .before .before .before .if1 .left) (c .before .before .read-access .ensures)
+returns-2 c =
+    let test = c .before .before .before .before .before in
+    read-done _ _ _ _ _ _ _ (test .before .before .first-byte .ensures) (test .before .access-width .ensures) (test .if1 .left)
+    (c .before .before .read-access .ensures)
 
 pub carry-access-spec : {M : Type 1} → statement M
 carry-access-spec =
@@ -61,7 +70,6 @@ carry-access-spec =
     cast-place
     add-place
     first-byte-requires
-    cast-first
     access-width-requires
     cast-count
     write-access-requires

@@ -11,7 +11,8 @@ use Rattle.moves.proofs.store_words.Statement.{statement}
 use Rattle.moves.proofs.store_words.Tie as tie
 
 abbrev Inv-loop : tie.InvT-loop
-Inv-loop memory from part₀ first count k₀ part k = (k ≤ count) × (length part ≡ length part₀) × (part ≡ move all memory from 0 first k part₀)
+Inv-loop memory from part₀ first count k₀ part k =
+    (k ≤ count) × (length part ≡ length part₀) × (part ≡ move all memory from 0 first k part₀)
 
 abbrev μ-loop : tie.MeasureT-loop
 μ-loop memory from part₀ first count k₀ part k = count - k

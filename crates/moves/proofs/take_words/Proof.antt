@@ -12,7 +12,8 @@ use Rattle.moves.proofs.take_words.Statement.{statement}
 use Rattle.moves.proofs.take_words.Tie as tie
 
 abbrev Inv-loop : tie.InvT-loop
-Inv-loop part₀ words n k₀ part k = (n ≡ length words) × (k ≤ n) × (length part ≡ length part₀) × (part ≡ move all words 0 0 0 k part₀)
+Inv-loop part₀ words n k₀ part k =
+    (n ≡ length words) × (k ≤ n) × (length part ≡ length part₀) × (part ≡ move all words 0 0 0 k part₀)
 
 abbrev μ-loop : tie.MeasureT-loop
 μ-loop part₀ words n k₀ part k = n - k
