@@ -2,7 +2,7 @@
 -- Assumes nothing.
 use mathlib.Core.Bool.{Bool, true, false, cond}
 use mathlib.Core.List.{List, [], _∷_, _++_, append-assoc, append-nil}
-use mathlib.Core.Path.{_≡_, refl, ap, ap₂, _∙_}
+use mathlib.Core.Path.{_≡_, refl, sym, ap, ap₂, _∙_}
 use Prim.Native.Nat.{ℕ, zero, suc, _+_, _-_, _/_, _%_, _≤_, _<_}
 use native.Mathlib.Nat.{add-zero, add-suc}
 use native.Mathlib.Omega.{arith}
@@ -16,9 +16,9 @@ use Rattle.board.specs.declared.Board.{Board}
 use Rattle.board.specs.declared.Item.{Item}
 use Rattle.board.specs.declared.Item.the-variants.{Malformed, ShareLine}
 use Rattle.board.specs.declared.Reading.{Reading}
-use Rattle.board.specs.Items.{masterItem, slaveItem, shareItem, items}
-use Rattle.board.specs.Rules.{run}
-use Rattle.board.proofs.RunLaws.{run-append}
+use Rattle.board.specs.Items.{masterItem, slaveItem, shareItem, items, checkBoard}
+use Rattle.board.specs.Rules.{start, run, finish, described}
+use Rattle.board.proofs.RunLaws.{run-append, run-stays, finish-stays}
 use Rattle.board_check.specs.Lines.{placeCount, pairItem, lineAt, present, linesTo}
 
 -- the numbers below a, and n more
@@ -51,6 +51,14 @@ module _ (b : Board) where
       → lineAt b k ≡ pairItem (b .shares) (k - (b .«master_count» + b .«slave_count»))
   unfolding lineAt
   at-pair k l = rw (le-ltb k (b .«master_count») (omega arith), le-ltb _ _ l)
+
+  -- the same, by counts that were read
+  module _ (m s k : ℕ) {x : Item} (em : m ≡ b .«master_count») (es : s ≡ b .«slave_count») where
+    pub slave-line : m ≤ k → k < m + s → x ≡ slaveItem (b .slaves) (k - m) → x ≡ lineAt b k
+    slave-line l h e = e ∙ rw em (sym (at-slave k (omega (arith, em)) (omega (arith, em, es))))
+
+    pub pair-line : m + s ≤ k → x ≡ pairItem (b .shares) (k - (m + s)) → x ≡ lineAt b k
+    pair-line l e = e ∙ rw (em, es) (sym (at-pair k (omega (arith, em, es))))
 
   master-present : (k : ℕ) → k < b .«master_count» → present (lineAt b k) ≡ masterItem (b .masters) k ∷ []
   unfolding present masterItem
@@ -86,5 +94,26 @@ module _ (b : Board) where
   unfolding linesTo
   lines-next k = gather-suc (λ j. present (lineAt b j)) k
 
-  pub run-next : (q r : Reading) (k : ℕ) → q ≡ run r (linesTo b k) → run q (present (lineAt b k)) ≡ run r (linesTo b (k + 1))
-  run-next q r k e = rw (lines-next k, run-append r (linesTo b k) (present (lineAt b k)), e)
+  pub run-next : (q r : Reading) (x : Item) (k : ℕ) → q ≡ run start (linesTo b k) → x ≡ lineAt b k → r ≡ run q (present x)
+      → r ≡ run start (linesTo b (k + 1))
+  run-next q r x k e f g = g ∙ rw (lines-next k, run-append start (linesTo b k) (present (lineAt b k)), e, f)
+
+  lines-split : (j d n : ℕ) → n ≡ j + d → linesTo b n ≡ linesTo b j ++ gather (λ i. present (lineAt b (j + i))) d
+  unfolding linesTo
+  lines-split j d n e = rw e (gather-add (λ k. present (lineAt b k)) j d)
+
+  -- a refusal after j places is the board's; after all of them the end is still to be tested
+  pub check-stops : (q : Reading) (j : ℕ) → j ≤ placeCount b → q ≡ run start (linesTo b j) → (q .number ≡ 0 → ⊥)
+      → q .number ≡ checkBoard b
+  unfolding checkBoard described
+  check-stops q j h e z =
+      let n = placeCount b in
+      let rest = gather (λ i. present (lineAt b (j + i))) (n - j) in
+      let all : items b ≡ linesTo b j ++ rest = sym lines-all ∙ lines-split j (n - j) n (omega arith) in
+      let same : run start (items b) ≡ q =
+      rw (all, run-append start (linesTo b j) rest, ← e) (run-stays q rest z) in
+      sym (ap (λ (r : Reading). r .number) (ap finish same ∙ finish-stays q z))
+
+  pub check-ends : (q : Reading) (j : ℕ) → j ≡ placeCount b → q ≡ run start (linesTo b j) → finish q .number ≡ checkBoard b
+  unfolding checkBoard described
+  check-ends q j f e = rw (e, f, lines-all)

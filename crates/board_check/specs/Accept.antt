@@ -1,10 +1,10 @@
 -- What the parts of the fast accept find of a board's masters, slaves and shares.
 -- Assumes nothing.
 use mathlib.Core.Path.{_≡_}
-use mathlib.Core.Bool.{true, false, _&&_}
+use mathlib.Core.Bool.{true, false, cond}
 use mathlib.Core.List.{List}
 use mathlib.Core.Logic.{_≢_}
-use Prim.Native.Nat.{ℕ, _/_, _%_, _≤_, _<_}
+use Prim.Native.Nat.{ℕ, _+_, _*_, _%_, _≤_, _<_}
 use lib.Dec.{ltb}
 use lib.ListN.{getD, take}
 use Rattle.laws.specs.Lists.{member}
@@ -24,9 +24,9 @@ pub record SlaveFits (s : Slave) : Type 0 where
   pub values : slaveValues (slaveNumbers s) ≡ true
   pub aligned : s .base % s .span ≡ 0
 
--- base to end meets none of the first n spans, whose bases and ends stand in two lists
-pub record Clear (base end : ℕ) (bases ends : List ℕ) (n : ℕ) : Type 0 where
-  pub each : (k : ℕ) → k < n → ltb base (getD ends k 0) && ltb (getD bases k 0) end ≡ false
+-- the span at base meets none of the first n slaves
+pub record Clear (base span : ℕ) (slaves : List Slave) (n : ℕ) : Type 0 where
+  pub each : (k : ℕ) → k < n → meets base span (getD slaves k noSlave) ≡ false
 
 -- the first n slaves, each by itself and together
 pub record SlavesFit (slaves : List Slave) (n : ℕ) : Type 0 where
@@ -35,7 +35,23 @@ pub record SlavesFit (slaves : List Slave) (n : ℕ) : Type 0 where
       → meets (getD slaves k noSlave .base) (getD slaves k noSlave .span) (getD slaves j noSlave) ≡ false
   pub total : totalSpan (take n slaves) ≤ 65536
 
--- the first n shares of a board with so many masters and slaves
-pub record SharesFit (shares : List ℕ) (masters slaves n : ℕ) : Type 0 where
-  pub each : (i : ℕ) → i < n → getD shares i 0 ≢ 0
-      → (getD shares i 0 ≤ 100) × (i / 16 < masters) × (i % 16 < slaves)
+-- the most shares at slave s of n
+unfoldable pub shareLimit : ℕ → ℕ → ℕ
+shareLimit s n = cond (ltb s n) 100 0
+
+-- the shares of master m at the first k slaves: at most 100, and none from slave n on
+pub record RowFits (shares : List ℕ) (m n k : ℕ) : Type 0 where
+  pub each : (s : ℕ) → s < k → getD shares (16 * m + s) 0 ≢ 0 → (getD shares (16 * m + s) 0 ≤ 100) × (s < n)
+
+-- no share of master m at the first k slaves
+pub record RowEmpty (shares : List ℕ) (m k : ℕ) : Type 0 where
+  pub each : (s : ℕ) → s < k → getD shares (16 * m + s) 0 ≡ 0
+
+-- the shares of master m on a board with so many masters and slaves
+pub record RowPasses (shares : List ℕ) (m masters slaves : ℕ) : Type 0 where
+  pub each : (s : ℕ) → s < 16 → getD shares (16 * m + s) 0 ≢ 0
+      → (getD shares (16 * m + s) 0 ≤ 100) × (m < masters) × (s < slaves)
+
+-- the shares of the first k masters
+pub record SharesFit (shares : List ℕ) (masters slaves k : ℕ) : Type 0 where
+  pub row : (m : ℕ) → m < k → RowPasses shares m masters slaves

@@ -1,7 +1,7 @@
 -- The lines of a text, read and counted from a place of it on.
 -- Assumes nothing.
 use mathlib.Core.List.{List, _∷_}
-use mathlib.Core.Path.{_≡_, ap, sym, _∙_}
+use mathlib.Core.Path.{_≡_, refl, ap, ap₂, sym, _∙_}
 use Prim.Native.Nat.{ℕ, _+_, _≤_, _<_}
 use native.Mathlib.Omega.{arith}
 use lib.ListN.{length, drop, drop-of-length-le}
@@ -12,9 +12,14 @@ use Rattle.board.specs.declared.Item.the-variants.{Malformed}
 use Rattle.board.specs.declared.Reading.{Reading}
 use Rattle.board.specs.Rules.{refused, start, step, run, finish, described}
 use Rattle.board.proofs.RunLaws.{run-stays, finish-stays}
+use Rattle.board_layout.specs.Layout.{boardIn}
+use Rattle.readings.specs.declared.Progress.{Progress}
+use Rattle.readings.specs.Readings.{readingOf}
 use Rattle.lines.specs.Reader.{itemsOf, itemsOfPieces, unended, LineFrom}
-use Rattle.description.specs.Reader.{mostBytes, reading}
-use Rattle.description.specs.Blame.{firstRefused, chargedLine}
+use Rattle.description.specs.Reader.{mostBytes, reading, readText}
+use Rattle.description.specs.declared.Refusal.{Refusal}
+use Rattle.description.specs.Blame.{firstRefused, chargedLine, refusalOf}
+use Rattle.description.specs.Lent.{Comes, Read}
 use Rattle.description.proofs.ReadLaws.{reading-short, reading-long}
 
 -- one line more
@@ -47,12 +52,12 @@ counted-none s r e = record {
 }
 
 -- q and the line charged are what the whole text comes to
-abbrev pub Read : List ℕ → Reading → ℕ → Type 0
-Read s q line = (q ≡ described (itemsOf s)) × (line ≡ firstRefused 0 start (itemsOf s))
+abbrev pub Whole : List ℕ → Reading → ℕ → Type 0
+Whole s q line = (q ≡ described (itemsOf s)) × (line ≡ firstRefused 0 start (itemsOf s))
 
 module _ (s : List ℕ) (r q : Reading) (n at : ℕ) (before : Counted s r n at) where
   -- behind the last line
-  pub counted-end : length s ≤ at → q ≡ finish r → Read s q 0
+  pub counted-end : length s ≤ at → q ≡ finish r → Whole s q 0
   unfolding run firstRefused itemsOf itemsOfPieces unended split
   counted-end h e =
       let none = drop-of-length-le s h in (
@@ -75,19 +80,56 @@ module _ (s : List ℕ) (r q : Reading) (n at : ℕ) (before : Counted s r n at)
       line = before .line ∙ rw (line .lines) (first-taken n r q x _ e none);
     }
 
-    pub counted-refused : (q .number ≡ 0 → ⊥) → Read s q (n + 1)
+    pub counted-refused : (q .number ≡ 0 → ⊥) → Whole s q (n + 1)
     counted-refused some = (
       sym (numbered ∙ ap finish (run-stays q (itemsOf (drop next s)) some) ∙ finish-stays q some),
       sym (before .line ∙ rw (line .lines) (first-refused n r q x _ e some)),
     )
 
--- the length goes first
-pub charged-short :
-    (s : List ℕ) (q : Reading) (line : ℕ) → length s ≤ mostBytes → Read s q line → (q ≡ reading s) × (line ≡ chargedLine s)
-unfolding chargedLine
-charged-short s q line h e = (e .0 ∙ sym (reading-short s h), e .1 ∙ sym (rw (le-ltb mostBytes (length s) h)))
+-- the same of a reading whose board is an array
+pub whole-comes : (s : List ℕ) (p : Progress) (l : List ℕ) (line : ℕ) → Whole s (readingOf p l) line
+    → Comes (described (itemsOf s)) (firstRefused 0 start (itemsOf s)) l (record { number = p .number; line = line })
+unfolding readingOf
+whole-comes s p l line e = record {
+  number = ap (λ (q : Reading). q .number) (e .0);
+  charged = e .1;
+  board = ap (λ (q : Reading). q .board) (e .0);
+}
 
-pub charged-long :
-    (s : List ℕ) (q : Reading) → mostBytes < length s → q ≡ step start Malformed → (q ≡ reading s) × (0 ≡ chargedLine s)
-unfolding chargedLine
-charged-long s q h e = (e ∙ sym (reading-long s h), sym (rw (lt-ltb mostBytes (length s) h)))
+-- the length goes first
+module _ (s : List ℕ) (l : List ℕ) where
+  pub comes-short : (r : Refusal) → length s ≤ mostBytes
+      → Comes (described (itemsOf s)) (firstRefused 0 start (itemsOf s)) l r → Comes (reading s) (chargedLine s) l r
+  unfolding chargedLine
+  comes-short r h e = record {
+    number = e .number ∙ ap (λ (q : Reading). q .number) (sym (reading-short s h));
+    charged = e .charged ∙ sym (rw (le-ltb mostBytes (length s) h));
+    board = e .board ∙ ap (λ (q : Reading). q .board) (sym (reading-short s h));
+  }
+
+  pub comes-long : (p : Progress) → mostBytes < length s → readingOf p l ≡ step start Malformed
+      → Comes (reading s) (chargedLine s) l (record { number = p .number; line = 0 })
+  unfolding chargedLine readingOf
+  comes-long p h e = record {
+    number = ap (λ (q : Reading). q .number) (e ∙ sym (reading-long s h));
+    charged = sym (rw (lt-ltb mostBytes (length s) h));
+    board = ap (λ (q : Reading). q .board) (e ∙ sym (reading-long s h));
+  }
+
+-- what is answered and what the array holds then
+module _ (s : List ℕ) (l : List ℕ) (r : Refusal) (e : Comes (reading s) (chargedLine s) l r) where
+  pub read-refused : (before : List ℕ) → (r .number ≡ 0 → ⊥) → Read s before before (r .number)
+  unfolding readText
+  read-refused before h = record { number = e .number; board = λ z. absurd (h z); kept = λ _. refl }
+
+  pub read-taken : (before after : List ℕ) → r .number ≡ 0 → after ≡ l → Read s before after 0
+  unfolding readText
+  read-taken before after h same = record {
+    number = sym h ∙ e .number;
+    board = λ _. ap boardIn same ∙ e .board;
+    kept = λ z. absurd (z refl);
+  }
+
+  pub refusal-is : r ≡ refusalOf s
+  unfolding refusalOf readText
+  refusal-is = ap₂ (λ (n k : ℕ). record { number = n; line = k }) (e .number) (e .charged)

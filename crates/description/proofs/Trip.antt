@@ -13,6 +13,7 @@ use Rattle.board.specs.declared.Board.{Board}
 use Rattle.board.specs.declared.Reading.{Reading}
 use Rattle.board.specs.Rules.{described, refused}
 use Rattle.board.specs.Items.{items, checkBoard}
+use Rattle.board.specs.Legal.{Legal}
 use Rattle.board.specs.Rebuilt.{trimmed}
 use Rattle.board.proofs.Accepted.{accepted-legal}
 use Rattle.board.proofs.Rebuilt.{rebuilt, items-trimmed, described-accepted, described-trimmed}
@@ -113,3 +114,7 @@ pub same-texts :
     (s t : List ℕ) → readText s .number ≡ 0 → readText t .number ≡ 0
     → writeText (readText s .board) ≡ writeText (readText t .board) → readText s ≡ readText t
 same-texts s t p q e = sym (read-again s p) ∙ ap readText e ∙ read-again t q
+
+-- a board that was read is legal
+pub read-legal : (text : List ℕ) {n : ℕ} {b : Board} → n ≡ readText text .number → n ≡ 0 → b ≡ readText text .board → Legal b
+read-legal text e none x = rw x (accepted-legal (readText text .board) (read-accepted text (sym e ∙ none)))

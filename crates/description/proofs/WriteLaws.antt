@@ -15,6 +15,7 @@ use Rattle.board.specs.declared.Board.{Board}
 use Rattle.board.specs.declared.Item.{Item}
 use Rattle.board.specs.declared.Item.the-variants.{Malformed, MasterLine, SlaveLine, ShareLine}
 use Rattle.board.specs.Items.{masterItem, slaveItem, shareItem, items, checkBoard}
+use Rattle.board.proofs.Accepted.{accepted-legal}
 use Rattle.board_check.specs.Lines.{placeCount, lineAt, present, linesTo}
 use Rattle.board_check.proofs.LineLaws.{lines-all, lines-next}
 use Rattle.lines.specs.Writer.{itemText, itemsText}
@@ -24,7 +25,8 @@ use Rattle.description.specs.declared.Written.{Written}
 
 -- The lines of the numbers below n.
 module _ (f : ℕ → List Item) where
-  pub gather-room : (n i : ℕ) → i < n → length (itemsText (gather f i)) + length (itemsText (f i)) ≤ length (itemsText (gather f n))
+  pub gather-room : (n i : ℕ) → i < n → length (itemsText (gather f i)) + length (itemsText (f i)) ≤ length
+      (itemsText (gather f n))
   unfolding gather
   gather-room zero i h = absurd (omega arith)
   gather-room (suc n) i h =
@@ -57,7 +59,8 @@ module _ (shares : List ℕ) (i : ℕ) where
   unfolding shareItem itemsText
   pair-none h = rw (eq-eqb _ _ h)
 
-  pub pair-some : (getD shares i 0 ≡ 0 → ⊥) → itemsText (shareItem shares i) ≡ itemText (ShareLine (i / 16) (i % 16) (getD shares i 0))
+  pub pair-some : (getD shares i 0 ≡ 0 → ⊥) → itemsText (shareItem shares i) ≡ itemText
+      (ShareLine (i / 16) (i % 16) (getD shares i 0))
   unfolding shareItem
   pair-some h = rw (ne-eqb _ _ h) (text-one (ShareLine (i / 16) (i % 16) (getD shares i 0)))
 
@@ -69,6 +72,10 @@ text-present (MasterLine w u) = text-one (MasterLine w u)
 text-present (SlaveLine n) = text-one (SlaveLine n)
 text-present (ShareLine m s n) = text-one (ShareLine m s n)
 
+-- an accepted board has at most 8 masters and 16 slaves
+pub few-places : (b : Board) → checkBoard b ≡ 0 → placeCount b ≤ 152
+few-places b e = let l = accepted-legal b e in omega (arith, l .fewMasters, l .fewSlaves)
+
 -- The text of a board place by place.
 module _ (b : Board) where
   pub text-all : (k : ℕ) → k ≡ placeCount b → itemsText (linesTo b k) ≡ writeText b
@@ -78,7 +85,8 @@ module _ (b : Board) where
   text-next : (k : ℕ) → itemsText (linesTo b (k + 1)) ≡ itemsText (linesTo b k) ++ itemText (lineAt b k)
   text-next k = rw (lines-next b k, text-append, text-present)
 
-  pub length-next : (k : ℕ) → length (itemsText (linesTo b (k + 1))) ≡ length (itemsText (linesTo b k)) + length (itemText (lineAt b k))
+  pub length-next : (k : ℕ) → length (itemsText (linesTo b (k + 1))) ≡ length (itemsText (linesTo b k)) + length
+      (itemText (lineAt b k))
   length-next k = rw (text-next k) (length-append (itemsText (linesTo b k)) (itemText (lineAt b k)))
 
   pub room-next : (k : ℕ) → k < placeCount b

@@ -1,4 +1,5 @@
 pub mod Reader
 pub mod Blame
+pub mod Lent
 pub mod Writer
 pub mod Longest

@@ -1,115 +1,106 @@
-// Descriptions: a text to a board, and a board to its text.
+// Descriptions: a text to a board in a lent array, and a board to its text.
 ghost use mathlib.Core.Path.{_≡_};
 ghost use Prim.Native.Nat.{_≤_};
-ghost use lib.ListN.{length};
+ghost use lib.ListN.{length, replicate};
 ghost use Rattle.text.specs.Scanning.{Put};
-ghost use Rattle.board.specs.Rules.{described, start};
-ghost use Rattle.board.specs.Items.{checkBoard};
-ghost use Rattle.lines.specs.Reader.{itemsOf};
-ghost use Rattle.description.specs.Reader.{reading, readText};
-ghost use Rattle.description.specs.Blame.{firstRefused, chargedLine, refusalOf};
+ghost use Rattle.board_layout.specs.Layout.{boardIn};
+ghost use Rattle.description.specs.Reader.{reading};
+ghost use Rattle.description.specs.Blame.{chargedLine, refusalOf};
+ghost use Rattle.description.specs.Lent.{Comes, LinesCome, refusalIn, Read};
 ghost use Rattle.description.specs.Writer.{writeText, written, outputAfter};
 use board::Board;
 use board::Item;
-use board::Reading;
 
 // No accepted board's text has more bytes: 8 master lines of at most 12, 16 slave lines of 36, 128 share lines of 15.
 pub const LONGEST: usize = 8 * 12 + 16 * 36 + 128 * 15;
 
-// A refusal's number with the zero board, or 0 and the board.
+// What the definitions say a text is read to: a refusal's number with the zero board, or 0 and the board.
 pub struct Parsed {
-    pub number: u8,
+    pub number: u32,
     pub board: Board,
 }
 
 // A refusal's number and the line charged with it, counted from 1; the line is 0 where no line is to blame.
 pub struct Refusal {
-    pub number: u8,
+    pub number: u32,
     pub line: usize,
-}
-
-// The reading of a text, and the line charged as in a refusal.
-struct Outcome {
-    reading: Reading,
-    line: usize,
 }
 
 // A refusal's number and 0, or 0 and the count of bytes written.
 pub struct Written {
-    pub number: u8,
+    pub number: u32,
     pub length: usize,
 }
 
-// The lines of a text one after another, counted, up to the first that is refused: a later line cannot change the answer.
-fn read_lines(text: &[u8]) -> Outcome
-    ensures { λ r. ⌜ r .reading ≡ described (itemsOf (now (text .entry))) ⌝ }
-    ensures { λ r. ⌜ r .line ≡ firstRefused 0 start (itemsOf (now (text .entry))) ⌝ }
+// The lines of a text one after another, counted, up to the first that is refused: a later line cannot change the answer. The
+// board is read into an array of zeros.
+fn read_lines(text: &[u8], board: &mut [u32; 242]) -> Refusal
+    requires { ⌜ now board ≡ replicate 242 0 ⌝ }
+    ensures { λ r. ⌜ LinesCome (now (text .entry)) (now (board .exit)) r ⌝ }
 {
-    let mut r = readings::first_reading();
+    let mut p = readings::first_progress();
     let mut line: usize = 0;
     let mut at: usize = 0;
     while at < text.len() {
         let found = lines::line_from(text, at);
         let item = found.item;
         line += 1;
-        r = readings::add_item(r, item);
-        if r.number != 0 {
-            return Outcome {
-                reading: r,
+        p = readings::add_item(board, p, item);
+        if p.number != 0 {
+            return Refusal {
+                number: p.number,
                 line: line,
             };
         }
         at = found.next;
     }
-    Outcome {
-        reading: readings::finished(r),
+    let last = readings::finished(board, p);
+    Refusal {
+        number: last.number,
         line: 0,
     }
 }
 
 // The length first: a text that is too long is refused before a byte of it is read.
-fn read_bounded(text: &[u8]) -> Outcome
-    ensures { λ r. ⌜ r .reading ≡ reading (now (text .entry)) ⌝ }
-    ensures { λ r. ⌜ r .line ≡ chargedLine (now (text .entry)) ⌝ }
+fn read_bounded(text: &[u8], board: &mut [u32; 242]) -> Refusal
+    requires { ⌜ now board ≡ replicate 242 0 ⌝ }
+    ensures { λ r. ⌜ Comes (reading (now (text .entry))) (chargedLine (now (text .entry))) (now (board .exit)) r ⌝ }
 {
     if text.len() <= 8192 {
-        return read_lines(text);
+        return read_lines(text, board);
     }
-    Outcome {
-        reading: readings::add_item(readings::first_reading(), Item::Malformed),
+    let p = readings::add_item(board, readings::first_progress(), Item::Malformed);
+    Refusal {
+        number: p.number,
         line: 0,
     }
 }
 
-// The board that a text describes, or the number it is refused with and the zero board.
-pub fn read(text: &[u8]) -> Parsed
-    ensures { λ r. ⌜ r ≡ readText (now (text .entry)) ⌝ }
+// Reads the board that a text describes, or answers the number that the text is refused with: then no number of board is changed.
+pub fn read(text: &[u8], board: &mut [u32; 242]) -> u32
+    ensures { λ r. ⌜ Read (now (text .entry)) (now (board .entry)) (now (board .exit)) r ⌝ }
 {
-    let outcome = read_bounded(text);
-    let r = outcome.reading;
-    let board = r.board;
-    Parsed {
-        number: r.number,
-        board: board,
+    let mut own = [0u32; 242];
+    let outcome = read_bounded(text, &mut own);
+    if outcome.number != 0 {
+        return outcome.number;
     }
+    board_layout::copy(board, &own);
+    0
 }
 
 // The number that read answers for a text, and the line that is charged with it.
 pub fn refused_at(text: &[u8]) -> Refusal
     ensures { λ r. ⌜ r ≡ refusalOf (now (text .entry)) ⌝ }
 {
-    let outcome = read_bounded(text);
-    let r = outcome.reading;
-    Refusal {
-        number: r.number,
-        line: outcome.line,
-    }
+    let mut own = [0u32; 242];
+    read_bounded(text, &mut own)
 }
 
 // Writes the text of a board at the front of out, place by place of its lines; a place with no line has no bytes.
-fn put_board(out: &mut [u8], board: Board) -> usize
-    requires { ⌜ length (writeText board) ≤ length (now out) ⌝ }
-    ensures { λ r. ⌜ Put (now (out .entry)) 0 (writeText board) (now (out .exit)) r ⌝ }
+fn put_board(out: &mut [u8], board: &[u32; 242]) -> usize
+    requires { ⌜ length (writeText (boardIn (now board))) ≤ length (now out) ⌝ }
+    ensures { λ r. ⌜ Put (now (out .entry)) 0 (writeText (boardIn (now (board .entry)))) (now (out .exit)) r ⌝ }
 {
     let n = board_check::places(board);
     let mut next: usize = 0;
@@ -122,9 +113,10 @@ fn put_board(out: &mut [u8], board: Board) -> usize
     next
 }
 
-// How many bytes that is.
-fn board_length(board: Board) -> usize
-    ensures { λ r. ⌜ r ≡ length (writeText board) ⌝ }
+// How many bytes that is, of a board that is accepted: then it has few places.
+fn board_length(board: &[u32; 242]) -> usize
+    requires { ⌜ refusalIn (now board) ≡ 0 ⌝ }
+    ensures { λ r. ⌜ r ≡ length (writeText (boardIn (now (board .entry)))) ⌝ }
 {
     let n = board_check::places(board);
     let mut sum: usize = 0;
@@ -139,10 +131,10 @@ fn board_length(board: Board) -> usize
 
 // Writes a board's text, if the board keeps the rules and its text has room: otherwise no byte of out is changed. The
 // length is known before the first byte is written. An output of LONGEST bytes has room for every board.
-pub fn write(board: Board, out: &mut [u8]) -> Written
-    ensures answer { λ r. ⌜ r ≡ written board (now (out .entry)) ⌝ }
-    ensures output { λ r. ⌜ now (out .exit) ≡ outputAfter board (now (out .entry)) ⌝ }
-    ensures room { λ r. do ⌜ ((← ⟦LONGEST⟧ .entry) ≤ length (now (out .entry)) → r .number ≡ checkBoard board) ⌝ }
+pub fn write(board: &[u32; 242], out: &mut [u8]) -> Written
+    ensures answer { λ r. ⌜ r ≡ written (boardIn (now (board .entry))) (now (out .entry)) ⌝ }
+    ensures output { λ r. ⌜ now (out .exit) ≡ outputAfter (boardIn (now (board .entry))) (now (out .entry)) ⌝ }
+    ensures room { λ r. do ⌜ ((← ⟦LONGEST⟧ .entry) ≤ length (now (out .entry)) → r .number ≡ refusalIn (now (board .entry))) ⌝ }
 {
     let number = board_check::refusal(board);
     if number != 0 {

@@ -1,14 +1,22 @@
-// What has been read of a description, line by line: the fold that the reader and the check of a board share.
-use board::Board;
+// What has been read of a description, line by line: the fold that the reader and the check of a board share. The board so far
+// is a lent array of numbers, to which each line that is not refused is added.
 use board::Item;
-use board::Master;
-use board::Reading;
 use board::Slave;
 use board::SlaveNumbers;
 ghost use mathlib.Core.Path.{_≡_};
 ghost use mathlib.Core.Bool.{true};
+ghost use Prim.Native.Nat.{_+_, _*_};
+ghost use lib.Dec.{ltb};
+ghost use lib.ListN.{replicate};
 ghost use Rattle.board.specs.declared.Item.the-variants.{MasterLine, SlaveLine, ShareLine};
 ghost use Rattle.board.specs.Rules.{slaveValues, slaveOf, refused, start, step, finish};
+ghost use Rattle.readings.specs.Readings.{readingOf};
+
+// The refusal's number or 0, and whether a share line was read.
+pub struct Progress {
+    pub number: u32,
+    pub sharing: bool,
+}
 
 // The slave of a line whose values are in their lists and ranges.
 fn slave_of(n: SlaveNumbers) -> Slave
@@ -18,136 +26,123 @@ fn slave_of(n: SlaveNumbers) -> Slave
     Slave {
         base: n.base as u32,
         span: n.span as u32,
-        width: n.width as u8,
-        burst: n.burst as u8,
-        read_wait: n.read_wait as u8,
-        write_wait: n.write_wait as u8,
+        width: n.width as u32,
+        burst: n.burst as u32,
+        read_wait: n.read_wait as u32,
+        write_wait: n.write_wait as u32,
     }
 }
 
 // A refusal: its number, and a board that is all zero.
-fn refuse(number: u8) -> Reading
-    ensures { λ r. ⌜ r ≡ refused number ⌝ }
+fn refuse(board: &mut [u32; 242], number: u32) -> Progress
+    ensures { λ r. ⌜ readingOf r (now (board .exit)) ≡ refused number ⌝ }
 {
-    let masters = [Master { width: 0, burst: 0 }; 8];
-    let slaves = [Slave {
-        base: 0,
-        span: 0,
-        width: 0,
-        burst: 0,
-        read_wait: 0,
-        write_wait: 0,
-    }; 16];
-    let board = Board {
-        master_count: 0,
-        slave_count: 0,
-        masters: masters,
-        slaves: slaves,
-        shares: [0; 128],
-    };
-    Reading {
+    board_layout::clear(board);
+    Progress {
         number: number,
         sharing: false,
-        board: board,
     }
 }
 
-// Before the first line.
-pub fn first_reading() -> Reading
-    ensures { λ r. ⌜ r ≡ start ⌝ }
+// Before the first line. The board is an array of zeros then.
+pub fn first_progress() -> Progress
+    ensures { λ r. ⌜ readingOf r (replicate 242 0) ≡ start ⌝ }
 {
-    refuse(0)
+    Progress {
+        number: 0,
+        sharing: false,
+    }
 }
 
 // A master line after lines of which none was refused.
-fn add_master(r: Reading, width: u64, burst: u64) -> Reading
-    requires { ⌜ r .number ≡ 0 ⌝ }
-    ensures { λ q. ⌜ q ≡ step r (MasterLine width burst) ⌝ }
+fn add_master(board: &mut [u32; 242], p: Progress, width: u64, burst: u64) -> Progress
+    requires { ⌜ p .number ≡ 0 ⌝ }
+    ensures { λ r. ⌜ readingOf r (now (board .exit)) ≡ step (readingOf p (now (board .entry))) (MasterLine width burst) ⌝ }
 {
-    let mut b = r.board;
-    let number = rules::master_refusal(b, width, burst);
+    let number = rules::master_refusal(board, width, burst);
     if number != 0 {
-        return refuse(number);
+        return refuse(board, number);
     }
-    let at = b.master_count as usize;
-    b.masters[at] = Master {
-        width: width as u8,
-        burst: burst as u8,
-    };
-    b.master_count += 1;
-    Reading {
+    board_layout::put_master(board, width as u32, burst as u32);
+    Progress {
         number: 0,
         sharing: false,
-        board: b,
     }
 }
 
 // A slave line after lines of which none was refused.
-fn add_slave(r: Reading, n: SlaveNumbers) -> Reading
-    requires { ⌜ r .number ≡ 0 ⌝ }
-    ensures { λ q. ⌜ q ≡ step r (SlaveLine n) ⌝ }
+fn add_slave(board: &mut [u32; 242], p: Progress, n: SlaveNumbers) -> Progress
+    requires { ⌜ p .number ≡ 0 ⌝ }
+    ensures { λ r. ⌜ readingOf r (now (board .exit)) ≡ step (readingOf p (now (board .entry))) (SlaveLine n) ⌝ }
 {
-    let mut b = r.board;
-    let number = rules::slave_refusal(r, n);
+    let number = rules::slave_refusal(board, p.sharing, n);
     if number != 0 {
-        return refuse(number);
+        return refuse(board, number);
     }
-    let at = b.slave_count as usize;
-    b.slaves[at] = slave_of(n);
-    b.slave_count += 1;
-    Reading {
+    board_layout::put_slave(board, slave_of(n));
+    Progress {
         number: 0,
         sharing: false,
-        board: b,
     }
 }
 
-// A share line after lines of which none was refused. A place past the table holds no share, as in share_at.
-fn add_share(r: Reading, m: u64, s: u64, shares: u64) -> Reading
-    requires { ⌜ r .number ≡ 0 ⌝ }
-    ensures { λ q. ⌜ q ≡ step r (ShareLine m s shares) ⌝ }
+// Whether the share of master m at slave s has one of the 128 places. The first two tests keep the sum in a u64.
+fn in_table(m: u64, s: u64) -> bool
+    ensures { λ r. ⌜ r ≡ ltb (16 * m + s) 128 ⌝ }
 {
-    let mut b = r.board;
-    let number = rules::share_refusal(b, m, s, shares);
+    if 8 <= m {
+        return false;
+    }
+    if 128 <= s {
+        return false;
+    }
+    16 * m + s < 128
+}
+
+// A share line after lines of which none was refused. A place past the 128 holds no share, as in share_or_none.
+fn add_share(board: &mut [u32; 242], p: Progress, m: u64, s: u64, shares: u64) -> Progress
+    requires { ⌜ p .number ≡ 0 ⌝ }
+    ensures { λ r. ⌜ readingOf r (now (board .exit)) ≡ step (readingOf p (now (board .entry))) (ShareLine m s shares) ⌝ }
+{
+    let number = rules::share_refusal(board, m, s, shares);
     if number != 0 {
-        return refuse(number);
+        return refuse(board, number);
     }
-    let at = (16 * m + s) as usize;
-    if at < 128 {
-        b.shares[at] = shares as u8;
+    if in_table(m, s) {
+        board_layout::put_share(board, (16 * m + s) as usize, shares as u32);
     }
-    Reading {
+    Progress {
         number: 0,
         sharing: true,
-        board: b,
     }
 }
 
 // One line more; a refusal stays.
-pub fn add_item(r: Reading, x: Item) -> Reading
-    ensures { λ q. ⌜ q ≡ step r x ⌝ }
+pub fn add_item(board: &mut [u32; 242], p: Progress, x: Item) -> Progress
+    ensures { λ r. ⌜ readingOf r (now (board .exit)) ≡ step (readingOf p (now (board .entry))) x ⌝ }
 {
-    if r.number != 0 {
-        return r;
+    if p.number != 0 {
+        return p;
     }
     match x {
-        Item::Malformed => refuse(1),
-        Item::MasterLine(width, burst) => add_master(r, width, burst),
-        Item::SlaveLine(n) => add_slave(r, n),
-        Item::ShareLine(m, s, shares) => add_share(r, m, s, shares),
+        Item::Malformed => refuse(board, 1),
+        Item::MasterLine(width, burst) => add_master(board, p, width, burst),
+        Item::SlaveLine(n) => add_slave(board, p, n),
+        Item::ShareLine(m, s, shares) => add_share(board, p, m, s, shares),
     }
 }
 
 // After the last line: a board has a master and a slave.
-pub fn finished(r: Reading) -> Reading
-    ensures { λ q. ⌜ q ≡ finish r ⌝ }
+pub fn finished(board: &mut [u32; 242], p: Progress) -> Progress
+    ensures { λ r. ⌜ readingOf r (now (board .exit)) ≡ finish (readingOf p (now (board .entry))) ⌝ }
 {
-    if r.number != 0 {
-        return r;
+    if p.number != 0 {
+        return p;
     }
-    let b = r.board;
-    if (b.master_count == 0) | (b.slave_count == 0) {
-        return refuse(2);
+    let masters = board_layout::master_count(board);
+    let slaves = board_layout::slave_count(board);
+    if (masters == 0) | (slaves == 0) {
+        return refuse(board, 2);
     }
-    r
+    p
 }

@@ -1,7 +1,6 @@
 // What a line of a description is refused for after what has been read: refusals 2 to 7.
 // Tests are joined by & and |, not by && and ||: each part is safe by itself, and a proof meets the whole as one test.
-use board::Board;
-use board::Reading;
+// The board read so far is lent as its array of numbers: see board_layout.
 use board::Slave;
 use board::SlaveNumbers;
 ghost use mathlib.Core.Path.{_≡_};
@@ -10,6 +9,7 @@ ghost use lib.ListN.{take, getD};
 ghost use Rattle.laws.specs.Lists.{member};
 ghost use Rattle.board.specs.Records.{totalSpan};
 ghost use Rattle.board.specs.Rules.{slaveValues, meets, overlaps, masterRefusal, slaveRefusal, shareRefusal};
+ghost use Rattle.board_layout.specs.Layout.{boardIn};
 
 // The legal widths, in bytes. These lists are of u64, as the numbers of a line are.
 const WIDTHS: [u64; 4] = [1, 2, 4, 8];
@@ -68,14 +68,13 @@ fn meets_one(base: u32, span: u32, s: Slave) -> bool
 }
 
 // Whether the span at base overlaps that of one of the first n slaves.
-fn meets_any(base: u32, span: u32, slaves: [Slave; 16], n: usize) -> bool
+pub fn meets_any(board: &[u32; 242], n: usize, base: u32, span: u32) -> bool
     requires { ⌜ n ≤ 16 ⌝ }
-    ensures { λ r. ⌜ r ≡ overlaps base span (take n slaves) ⌝ }
+    ensures { λ r. ⌜ r ≡ overlaps base span (take n (boardIn (now (board .entry)) .slaves)) ⌝ }
 {
-    let mut i = 0;
+    let mut i: usize = 0;
     while i < n {
-        let s = slaves[i];
-        if meets_one(base, span, s) {
+        if meets_one(base, span, board_layout::slave_at(board, i)) {
             return true;
         }
         i += 1;
@@ -84,14 +83,14 @@ fn meets_any(base: u32, span: u32, slaves: [Slave; 16], n: usize) -> bool
 }
 
 // The spans of the first n slaves, and one span more, together: at most 17 u32, so no sum wraps.
-pub fn span_total(slaves: [Slave; 16], n: usize, span: u32) -> u64
+pub fn span_total(board: &[u32; 242], n: usize, span: u32) -> u64
     requires { ⌜ n ≤ 16 ⌝ }
-    ensures { λ r. ⌜ r ≡ totalSpan (take n slaves) + span ⌝ }
+    ensures { λ r. ⌜ r ≡ totalSpan (take n (boardIn (now (board .entry)) .slaves)) + span ⌝ }
 {
     let mut total = span as u64;
-    let mut i = 0;
+    let mut i: usize = 0;
     while i < n {
-        let s = slaves[i];
+        let s = board_layout::slave_at(board, i);
         total += s.span as u64;
         i += 1;
     }
@@ -99,10 +98,12 @@ pub fn span_total(slaves: [Slave; 16], n: usize, span: u32) -> u64
 }
 
 // What a master line is refused for, or 0.
-pub fn master_refusal(b: Board, width: u64, burst: u64) -> u8
-    ensures { λ r. ⌜ r ≡ masterRefusal b width burst ⌝ }
+pub fn master_refusal(board: &[u32; 242], width: u64, burst: u64) -> u32
+    ensures { λ r. ⌜ r ≡ masterRefusal (boardIn (now (board .entry))) width burst ⌝ }
 {
-    if (0 < b.slave_count) | (8 <= b.master_count) {
+    let masters = board_layout::master_count(board);
+    let slaves = board_layout::slave_count(board);
+    if (0 < slaves) | (8 <= masters) {
         return 2;
     }
     if !(listed(width, &WIDTHS) & listed(burst, &BURSTS)) {
@@ -111,12 +112,13 @@ pub fn master_refusal(b: Board, width: u64, burst: u64) -> u8
     0
 }
 
-// What a slave line is refused for, or 0.
-pub fn slave_refusal(r: Reading, n: SlaveNumbers) -> u8
-    ensures { λ q. ⌜ q ≡ slaveRefusal (r .board) (r .sharing) n ⌝ }
+// What a slave line is refused for after lines of which the last was a share line or not, or 0.
+pub fn slave_refusal(board: &[u32; 242], sharing: bool, n: SlaveNumbers) -> u32
+    ensures { λ r. ⌜ r ≡ slaveRefusal (boardIn (now (board .entry))) sharing n ⌝ }
 {
-    let b = r.board;
-    if (b.master_count == 0) | (r.sharing | (16 <= b.slave_count)) {
+    let masters = board_layout::master_count(board);
+    let slaves = board_layout::slave_count(board);
+    if (masters == 0) | (sharing | (16 <= slaves)) {
         return 2;
     }
     if !slave_values(n) {
@@ -125,45 +127,44 @@ pub fn slave_refusal(r: Reading, n: SlaveNumbers) -> u8
     if n.base % n.span != 0 {
         return 4;
     }
-    let slaves = b.slaves;
-    let count = b.slave_count as usize;
-    if meets_any(n.base as u32, n.span as u32, slaves, count) {
+    if meets_any(board, slaves as usize, n.base as u32, n.span as u32) {
         return 5;
     }
-    if 65536 < span_total(slaves, count, n.span as u32) {
+    if 65536 < span_total(board, slaves as usize, n.span as u32) {
         return 6;
     }
     0
 }
 
-// The shares at a place of the table; 0 past its end, where the counts of a board that no reader made can lead.
-pub fn share_at(shares: &[u8], at: u64) -> u8
-    ensures { λ r. ⌜ r ≡ getD (now (shares .entry)) at 0 ⌝ }
+// The shares at a place of the 128; 0 past them, where the counts of a board that no reader made can lead.
+pub fn share_or_none(board: &[u32; 242], at: u64) -> u32
+    ensures { λ r. ⌜ r ≡ getD (boardIn (now (board .entry)) .shares) at 0 ⌝ }
 {
-    if at < shares.len() as u64 {
-        return shares[at as usize];
+    if at < 128 {
+        return board_layout::share_in(board, at as usize);
     }
     0
 }
 
 // What a share line is refused for, or 0.
-pub fn share_refusal(b: Board, m: u64, s: u64, shares: u64) -> u8
-    ensures { λ r. ⌜ r ≡ shareRefusal b m s shares ⌝ }
+pub fn share_refusal(board: &[u32; 242], m: u64, s: u64, shares: u64) -> u32
+    ensures { λ r. ⌜ r ≡ shareRefusal (boardIn (now (board .entry))) m s shares ⌝ }
 {
-    if b.slave_count == 0 {
+    let masters = board_layout::master_count(board);
+    let slaves = board_layout::slave_count(board);
+    if slaves == 0 {
         return 2;
     }
     if (shares < 1) | (100 < shares) {
         return 3;
     }
-    if b.master_count as u64 <= m {
+    if masters as u64 <= m {
         return 7;
     }
-    if b.slave_count as u64 <= s {
+    if slaves as u64 <= s {
         return 7;
     }
-    let table = b.shares;
-    if 0 < share_at(&table, 16 * m + s) {
+    if 0 < share_or_none(board, 16 * m + s) {
         return 7;
     }
     0

@@ -1,24 +1,32 @@
--- `board_check::line_at` meets its contract, part by part of the lines.
+-- `board_check::line_at` meets its contract. Part by part of the lines.
 -- Assumes nothing.
-use native.Mathlib.Omega.{arith}
 use mathlib.Core.Path.{sym, _∙_}
+use native.Mathlib.Omega.{arith}
 use borrow.Author.Needs.{needs}
-use Rattle.board_check.proofs.LineLaws.{at-master, at-slave, at-pair}
+use Rattle.board_check.proofs.LineLaws.{at-master, slave-line, pair-line}
+use Rattle.board_layout.specs.Layout.{boardIn}
 use Rattle.board_check.proofs.line_at.Statement.{statement}
 use Rattle.board_check.proofs.line_at.Tie as tie
 
+master-count-requires : tie.Need-master-count-requires
+master-count-requires c κs = search needs
+
 cast-m : tie.Need-cast-m
 cast-m c = search needs
+
+slave-count-requires : tie.Need-slave-count-requires
+slave-count-requires c κs = search needs
+
+cast-s : tie.Need-cast-s
+cast-s c = search needs
 
 master-item-requires : tie.Need-master-item-requires
 master-item-requires c κs = search needs
 
 returns : tie.Need-returns
 returns c = let a = c .before .before .before .before .args in
-    c .master-item .ensures ∙ sym (at-master (a .b) (a .k) (omega arith))
-
-cast-n : tie.Need-cast-n
-cast-n c = search needs
+    let m = c .before .before .before .master-count .ensures in
+    c .master-item .ensures ∙ sym (at-master (boardIn (a .board .now)) (a .k) (omega (arith, m)))
 
 add-n : tie.Need-add-n
 add-n c = search needs
@@ -27,24 +35,28 @@ slave-item-requires : tie.Need-slave-item-requires
 slave-item-requires c κs = search needs
 
 returns-2 : tie.Need-returns-2
-returns-2 c = let a = c .before .before .before .before .before .before .args in
-    c .slave-item .ensures ∙ sym (at-slave (a .b) (a .k) (omega arith) (omega arith))
+returns-2 c =
+    slave-line _ _ _ _ (c .before .before .before .before .master-count .ensures)
+    (c .before .before .before .slave-count .ensures) (omega arith) (omega arith) (c .slave-item .ensures)
 
 pair-item-requires : tie.Need-pair-item-requires
 pair-item-requires c κs = search needs
 
 returns-3 : tie.Need-returns-3
-returns-3 c = let a = c .before .before .before .before .before .before .args in
-    c .pair-item .ensures ∙ sym (at-pair (a .b) (a .k) (omega arith))
+returns-3 c =
+    pair-line _ _ _ _ (c .before .before .before .before .master-count .ensures)
+    (c .before .before .before .slave-count .ensures) (omega arith) (c .pair-item .ensures)
 
 pub line-at-spec : {M : Type 1} → statement M
 line-at-spec =
     tie.close
     (tie.spec
+    master-count-requires
     cast-m
+    slave-count-requires
+    cast-s
     master-item-requires
     returns
-    cast-n
     add-n
     slave-item-requires
     returns-2

@@ -1,35 +1,33 @@
 -- `board_check::master_item` meets its contract. Past the array `getD` gives the record of zeros too.
 -- Assumes nothing.
 use native.Mathlib.Omega.{arith}
-use mathlib.Core.Path.{_≡_, refl}
+use lib.ListN.{List·getD-eq-default}
 use borrow.Author.Needs.{needs}
-use lib.ListN.{length, List·getD-eq-default}
-use Rattle.board.specs.Items.{masterItem}
 use Rattle.board.specs.Records.{noMaster}
+use Rattle.board.specs.Items.{masterItem}
+use Rattle.board_layout.proofs.PlaceLaws.{masters-length}
+use Rattle.board_layout.specs.Layout.{boardIn}
 use Rattle.board_check.proofs.master_item.Statement.{statement}
 use Rattle.board_check.proofs.master_item.Tie as tie
 
-mul-m : tie.Need-mul-m
-mul-m c = search needs
+master-at-requires : tie.Need-master-at-requires
+master-at-requires c κs = search needs
 
-array-copy-out-m : tie.Need-array-copy-out-m
-array-copy-out-m c = search needs
+cast-t5 : tie.Need-cast-t5
+cast-t5 c = search needs
 
-cast-t10 : tie.Need-cast-t10
-cast-t10 c = search needs
-
-cast-t11 : tie.Need-cast-t11
-cast-t11 c = search needs
+cast-t6 : tie.Need-cast-t6
+cast-t6 c = search needs
 
 returns : tie.Need-returns
 unfolding masterItem
-returns c = refl
+returns c = rw (c .before .before .master-at .ensures)
 
 returns-2 : tie.Need-returns-2
 unfolding masterItem
 returns-2 c = let a = c .before .args in
-    let g : length (a .t1) ≡ 8 = search needs in
-    rw (List·getD-eq-default (a .t1) noMaster {n = a .i} (omega arith))
+    let g = masters-length (a .board .now) in
+    rw (List·getD-eq-default (boardIn (a .board .now) .masters) noMaster {n = a .i} (omega arith))
 
 pub master-item-spec : {M : Type 1} → statement M
-master-item-spec = tie.close (tie.spec mul-m array-copy-out-m cast-t10 cast-t11 returns returns-2)
+master-item-spec = tie.close (tie.spec master-at-requires cast-t5 cast-t6 returns returns-2)

@@ -1,20 +1,22 @@
 -- `description::board_length` meets its contract. The loop's invariant: the sum is the length of the lines of the first k places.
--- A board has at most 638 places, so that no sum wraps. Assumes nothing.
+-- An accepted board has at most 152 places, so that no sum wraps.
+-- Assumes nothing.
 use mathlib.Core.Path.{_≡_, ap, refl, _∙_}
 use Prim.Native.Nat.{_-_, _≤_}
 use native.Mathlib.Omega.{arith}
 use lib.ListN.{length}
 use borrow.Author.Needs.{needs}
 use Rattle.laws.specs.Lists.{gather}
-use Rattle.board_check.specs.Lines.{linesTo}
-use Rattle.lines.specs.Writer.{itemsText}
+use Rattle.description.proofs.WriteLaws.{text-all, length-next, lines-fit, few-places}
 use Rattle.lines.proofs.WriteLaws.{item-fits}
-use Rattle.description.proofs.WriteLaws.{text-all, length-next, lines-fit}
+use Rattle.lines.specs.Writer.{itemText, itemsText}
+use Rattle.board_check.specs.Lines.{linesTo}
+use Rattle.board_layout.specs.Layout.{boardIn}
 use Rattle.description.proofs.board_length.Statement.{statement}
 use Rattle.description.proofs.board_length.Tie as tie
 
 abbrev Inv-loop : tie.InvT-loop
-Inv-loop board n sum₀ k₀ sum k = (k ≤ n) × (sum ≡ length (itemsText (linesTo board k)))
+Inv-loop board n sum₀ k₀ sum k = (k ≤ n) × (sum ≡ length (itemsText (linesTo (boardIn board) k)))
 
 abbrev μ-loop : tie.MeasureT-loop
 μ-loop board n sum₀ k₀ sum k = n - k
@@ -34,7 +36,15 @@ item-length-requires c κs = search needs
 
 add-sum : tie.Need-add-sum Inv-loop μ-loop
 add-sum c = let l = c .before .before .before .loop in
-    omega (arith, l .inv .1, lines-fit (c .before .before .before .before .before .args .board) (l .k), item-fits (c .before .line-at .result))
+    let b = boardIn (c .before .before .before .before .before .args .board .now) in
+    omega (
+      arith,
+      l .inv .1,
+      lines-fit b (l .k),
+      item-fits (c .before .line-at .result),
+      c .before .before .before .before .places .ensures,
+      few-places b (c .before .before .before .before .before .pre),
+    )
 
 add-k : tie.Need-add-k Inv-loop μ-loop
 add-k c = search needs
@@ -44,13 +54,22 @@ loop-less c = search needs
 
 loop-again : tie.Need-loop-again Inv-loop μ-loop
 loop-again c = let l = c .before .before .before .loop in
-    let e = rw (c .before .line-at .ensures) at (c .item-length .ensures) in
-    (omega arith, omega (arith, l .inv .1, length-next (c .before .before .before .before .before .args .board) (l .k)))
+    let e = ap (λ x. length (itemText x)) (c .before .line-at .ensures) in (
+      omega arith,
+      omega (
+        arith,
+        l .inv .1,
+        e,
+        c .item-length .ensures,
+        length-next
+            (boardIn (c .before .before .before .before .before .args .board .now)) (l .k),
+      ),
+    )
 
 returns : tie.Need-returns Inv-loop μ-loop
 returns c = let l = c .before .loop in
-    let p = c .before .before in
-    l .inv .1 ∙ ap length (text-all (p .before .args .board) (l .k) (omega (arith, p .places .ensures)))
+    l .inv .1 ∙ ap length (text-all (boardIn (c .before .before .before .args .board .now)) (l .k)
+    (omega (arith, c .before .before .places .ensures)))
 
 pub board-length-spec : {M : Type 1} → statement M
 board-length-spec =

@@ -1,19 +1,21 @@
 -- `description::put_board` meets its contract. The loop's invariant: the lines of the first k places are stored.
--- The measure is how many are left. Assumes nothing.
+-- The measure is how many are left.
+-- Assumes nothing.
 use Prim.Native.Nat.{_-_, _≤_}
 use native.Mathlib.Omega.{arith}
 use borrow.Author.Needs.{needs}
 use Rattle.laws.specs.Lists.{gather}
-use Rattle.text.specs.Scanning.{Put}
-use Rattle.text.proofs.Puts.{put-none, put-length}
-use Rattle.board_check.specs.Lines.{linesTo}
-use Rattle.lines.specs.Writer.{itemsText}
 use Rattle.description.proofs.WriteLaws.{text-all, room-next, put-next}
+use Rattle.lines.specs.Writer.{itemsText}
+use Rattle.board_check.specs.Lines.{linesTo}
+use Rattle.board_layout.specs.Layout.{boardIn}
+use Rattle.text.proofs.Puts.{put-none, put-length}
+use Rattle.text.specs.Scanning.{Put}
 use Rattle.description.proofs.put_board.Statement.{statement}
 use Rattle.description.proofs.put_board.Tie as tie
 
 abbrev Inv-loop : tie.InvT-loop
-Inv-loop out₀ board n next₀ k₀ out next k = (k ≤ n) × Put out₀ 0 (itemsText (linesTo board k)) out next
+Inv-loop out₀ board n next₀ k₀ out next k = (k ≤ n) × Put out₀ 0 (itemsText (linesTo (boardIn board) k)) out next
 
 abbrev μ-loop : tie.MeasureT-loop
 μ-loop out₀ board n next₀ k₀ out next k = n - k
@@ -30,11 +32,16 @@ line-at-requires c κs = search needs
 
 put-item-requires : tie.Need-put-item-requires Inv-loop μ-loop
 put-item-requires c κs = let l = c .before .before .before .loop in
-    let p = c .before .before .before .before in
-    let s = p .before .before in
+    let s = c .before .before .before .before .before .before in
     let e = put-length (l .inv .1) in
     rw (c .before .line-at .ensures)
-    (omega (arith, l .inv .1 .end, s .pre, room-next (s .args .board) (l .k) (omega (arith, p .places .ensures))))
+    (omega (
+      arith,
+      l .inv .1 .end,
+      s .pre,
+      room-next (boardIn (s .args .board .now)) (l .k)
+          (omega (arith, c .before .before .before .before .places .ensures)),
+    ))
 
 add-k : tie.Need-add-k Inv-loop μ-loop
 add-k c = search needs
@@ -43,18 +50,18 @@ loop-less : tie.Need-loop-less Inv-loop μ-loop
 loop-less c = search needs
 
 loop-again : tie.Need-loop-again Inv-loop μ-loop
-loop-again c = let p = c .before .before in
-    let l = p .before .before .before .before .loop in
-    let a = p .before .before .before .before .before .before .before .args in
-    (omega arith, put-next (a .board) (l .k) (l .inv .1) (rw (p .before .before .line-at .ensures) at (p .put-item .ensures)))
+loop-again c = let l = c .before .before .before .before .before .before .loop in
+    let b = boardIn (c .before .before .before .before .before .before .before .before .before .args .board .now) in
+    let item = c .before .before .before .before .line-at in
+    (omega arith, put-next b (l .k) (l .inv .1) (rw (item .ensures) at (c .before .before .put-item .ensures)))
 
 same-length : tie.Need-same-length Inv-loop μ-loop
 same-length c = put-length (c .before .loop .inv .1)
 
 returns : tie.Need-returns Inv-loop μ-loop
 returns c = let l = c .before .loop in
-    let p = c .before .before in
-    rw (text-all (p .before .before .args .board) (l .k) (omega (arith, p .places .ensures))) at (l .inv .1)
+    rw (text-all (boardIn (c .before .before .before .before .args .board .now)) (l .k)
+    (omega (arith, c .before .before .places .ensures))) at (l .inv .1)
 
 pub put-board-spec : {M : Type 1} → statement M
 put-board-spec =

@@ -1,6 +1,7 @@
--- `description::read` meets its contract. Assumes nothing.
+-- `description::read` meets its contract. A text that is refused leaves the lent array as it was.
+-- Assumes nothing.
 use borrow.Author.Needs.{needs}
-use Rattle.description.specs.Reader.{readText}
+use Rattle.description.proofs.BlameLaws.{read-refused, read-taken}
 use Rattle.description.proofs.read.Statement.{statement}
 use Rattle.description.proofs.read.Tie as tie
 
@@ -8,8 +9,15 @@ read-bounded-requires : tie.Need-read-bounded-requires
 read-bounded-requires c κs = search needs
 
 returns : tie.Need-returns
-unfolding readText
-returns c = rw (← c .before .before .read-bounded .ensures .0)
+returns c = read-refused _ _ _ (c .before .before .read-bounded .ensures) _ (c .if1 .taken)
+
+copy-requires : tie.Need-copy-requires
+copy-requires c κs = search needs
+
+returns-2 : tie.Need-returns-2
+returns-2 c =
+    read-taken _ _ _ (c .before .before .before .before .before .read-bounded .ensures) _ _
+    (c .before .before .before .if1 .left) (c .copy .ensures)
 
 pub read-spec : {M : Type 1} → statement M
-read-spec = tie.close (tie.spec read-bounded-requires returns)
+read-spec = tie.close (tie.spec read-bounded-requires returns copy-requires returns-2)

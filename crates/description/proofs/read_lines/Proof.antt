@@ -1,24 +1,27 @@
 -- `description::read_lines` meets its contract. The loop's invariant: the lines before `at` are read and counted, none refused.
--- The measure is what is left of the text. Assumes nothing.
+-- The measure is what is left of the text.
+-- Assumes nothing.
+use mathlib.Core.Path.{ap, _∙_}
 use Prim.Native.Nat.{_-_}
 use native.Mathlib.Omega.{arith}
 use lib.ListN.{length}
 use borrow.Author.Needs.{needs}
-use Rattle.description.proofs.BlameLaws.{Counted, counted-none, counted-next, counted-refused, counted-end}
+use Rattle.description.proofs.BlameLaws.{Counted, counted-none, counted-next, counted-refused, counted-end, whole-comes}
+use Rattle.readings.specs.Readings.{readingOf}
 use Rattle.description.proofs.read_lines.Statement.{statement}
 use Rattle.description.proofs.read_lines.Tie as tie
 
 abbrev Inv-loop : tie.InvT-loop
-Inv-loop text r₀ line₀ at₀ r line at = Counted text r line at
+Inv-loop text board₀ p₀ line₀ at₀ board p line at = Counted text (readingOf p board) line at
 
 abbrev μ-loop : tie.MeasureT-loop
-μ-loop text r₀ line₀ at₀ r line at = length text - at
+μ-loop text board₀ p₀ line₀ at₀ board p line at = length text - at
 
-first-reading-requires : tie.Need-first-reading-requires Inv-loop μ-loop
-first-reading-requires c κs = search needs
+first-progress-requires : tie.Need-first-progress-requires Inv-loop μ-loop
+first-progress-requires c κs = search needs
 
 loop-holds : tie.Need-loop-holds Inv-loop μ-loop
-loop-holds c = counted-none _ _ (c .first-reading .ensures)
+loop-holds c = counted-none _ _ (ap (readingOf _) (c .before .before .pre) ∙ c .first-progress .ensures)
 
 line-from-requires : tie.Need-line-from-requires Inv-loop μ-loop
 line-from-requires c κs = search needs
@@ -30,24 +33,26 @@ add-item-requires : tie.Need-add-item-requires Inv-loop μ-loop
 add-item-requires c κs = search needs
 
 returns : tie.Need-returns Inv-loop μ-loop
-returns c = let a = c .before .before in
-    let l = a .before .before .before .loop in
-    counted-refused _ (l .r) _ (l .line) (l .at) (l .inv) _ _ (a .before .line-from .ensures) (a .add-item .ensures) (c .if1 .taken)
+unfolding readingOf
+returns c = let l = c .before .before .before .before .before .before .loop in
+    whole-comes _ _ _ _ (counted-refused _ _ _ (l .line) (l .at) (l .inv) _ _
+    (c .before .before .before .before .line-from .ensures) (c .before .before .add-item .ensures) (c .if1 .taken))
 
 loop-less : tie.Need-loop-less Inv-loop μ-loop
-loop-less c = let f = c .before .before .before .line-from .ensures in omega (arith, f .onward, f .within)
+loop-less c = let f = c .before .before .before .before .line-from .ensures in omega (arith, f .onward, f .within)
 
 loop-again : tie.Need-loop-again Inv-loop μ-loop
-loop-again c = let a = c .before .before in
-    let l = a .before .before .before .loop in
-    counted-next _ (l .r) _ (l .line) (l .at) (l .inv) _ _ (a .before .line-from .ensures) (a .add-item .ensures) (c .if1 .left)
+unfolding readingOf
+loop-again c = let l = c .before .before .before .before .before .before .loop in
+    counted-next _ _ _ (l .line) (l .at) (l .inv) _ _ (c .before .before .before .before .line-from .ensures)
+    (c .before .before .add-item .ensures) (c .if1 .left)
 
 finished-requires : tie.Need-finished-requires Inv-loop μ-loop
 finished-requires c κs = search needs
 
 returns-2 : tie.Need-returns-2 Inv-loop μ-loop
-returns-2 c = let l = c .before .before .loop in
-    counted-end _ (l .r) _ (l .line) (l .at) (l .inv) (omega arith) (c .finished .ensures)
+returns-2 c = let l = c .before .before .before .loop in
+    whole-comes _ _ _ _ (counted-end _ _ _ (l .line) (l .at) (l .inv) (omega arith) (c .finished .ensures))
 
 pub read-lines-spec : {M : Type 1} → statement M
 read-lines-spec =
@@ -55,7 +60,7 @@ read-lines-spec =
     (tie.spec
     Inv-loop
     μ-loop
-    first-reading-requires
+    first-progress-requires
     loop-holds
     line-from-requires
     add-line

@@ -1,17 +1,19 @@
--- `description::write` meets its contract: refused for the board, refused for the room, written. Assumes nothing.
-use mathlib.Core.List.{List}
+-- `description::write` meets its contract. Refused for the board, refused for the room, written.
+-- Assumes nothing.
 use mathlib.Core.Path.{_≡_, ap, sym, _∙_}
+use mathlib.Core.List.{List}
 use Prim.Native.Nat.{ℕ, _≤_}
 use native.Mathlib.Omega.{arith}
 use lib.ListN.{length}
 use borrow.Author.Needs.{needs}
-use Rattle.board.specs.declared.Board.{Board}
 use Rattle.board.specs.Items.{checkBoard}
-use Rattle.description.specs.declared.Written.{Written}
-use Rattle.description.specs.Longest.{longest}
-use Rattle.description.specs.Writer.{written, outputAfter}
-use Rattle.description.proofs.WriteLaws.{Writes, board-refused, room-refused, text-written}
+use Rattle.board.specs.declared.Board.{Board}
 use Rattle.description.proofs.Trip.{text-room}
+use Rattle.description.proofs.WriteLaws.{Writes, board-refused, room-refused, text-written}
+use Rattle.description.specs.Writer.{written, outputAfter}
+use Rattle.description.specs.Longest.{longest}
+use Rattle.description.specs.declared.Written.{Written}
+use Rattle.board_layout.specs.Layout.{boardIn}
 use Rattle.description.proofs.write.Statement.{statement}
 use Rattle.description.proofs.write.Tie as tie
 
@@ -22,17 +24,14 @@ unfolding written
 promised b out most l w =
     (w .0, (w .1, λ h. ap (λ (r : Written). r .number) (w .0) ∙ text-room b out (omega arith)))
 
--- the board is accepted and the output has room, once both are checked
-put-board-requires : tie.Need-put-board-requires
-put-board-requires c κs = search needs
-
 refusal-requires : tie.Need-refusal-requires
 refusal-requires c κs = search needs
 
 returns : tie.Need-returns
 unfolding longest
 returns c = let a = c .before .before .before .args in
-    promised (a .board) (a .out .now) _ (omega arith) (board-refused (a .board) _ _ (c .before .refusal .ensures) (c .if1 .taken))
+    let b = boardIn (a .board .now) in
+    promised b (a .out .now) _ (omega arith) (board-refused b _ _ (c .before .refusal .ensures) (c .if1 .taken))
 
 board-length-requires : tie.Need-board-length-requires
 board-length-requires c κs = search needs
@@ -40,23 +39,29 @@ board-length-requires c κs = search needs
 returns-2 : tie.Need-returns-2
 unfolding longest
 returns-2 c = let a = c .before .before .before .before .before .args in
+    let b = boardIn (a .board .now) in
     let accepted = sym (c .before .before .before .refusal .ensures) ∙ c .before .before .if1 .left in
-    promised (a .board) (a .out .now) _ (omega arith)
-    (room-refused (a .board) _ accepted (omega (arith, c .before .board-length .ensures, c .if2 .taken)))
+    promised b (a .out .now) _ (omega arith)
+    (room-refused b _ accepted (omega (arith, c .before .board-length .ensures, c .if2 .taken)))
+
+put-board-requires : tie.Need-put-board-requires
+put-board-requires c κs = search needs
 
 same-length : tie.Need-same-length
 same-length c = search needs
 
 returns-3 : tie.Need-returns-3
 unfolding longest
-returns-3 c = let n = c .before .before .before .before .before in
-    let k = n .before .before in
-    let a = k .before .before .args in
-    let accepted = sym (k .refusal .ensures) ∙ n .before .if1 .left in
-    promised (a .board) (a .out .now) _ (omega arith)
-    (text-written (a .board) _ accepted _ _
-    (omega (arith, n .board-length .ensures, c .before .before .before .before .if2 .left))
-    (c .before .before .put-board .ensures))
+returns-3 c = let a = c .before .before .before .before .before .before .before .before .before .args in
+    let b = boardIn (a .board .now) in
+    let accepted = sym (c .before .before .before .before .before .before .before .refusal .ensures) ∙
+    c .before .before .before .before .before .before .if1 .left in
+    promised b (a .out .now) _ (omega arith)
+    (text-written b _ accepted _ _ (omega (
+      arith,
+      c .before .before .before .before .before .board-length .ensures,
+      c .before .before .before .before .if2 .left,
+    )) (c .before .before .put-board .ensures))
 
 pub write-spec : {M : Type 1} → statement M
 write-spec =

@@ -1,16 +1,19 @@
 -- `readings::add_item` meets its contract. Each kind of line by its own function.
 -- Assumes nothing.
+use mathlib.Core.Path.{sym, refl}
 use native.Mathlib.Omega.{arith}
-use mathlib.Core.Path.{_∙_, sym, refl}
 use borrow.Author.Needs.{needs}
-use Rattle.board.specs.Rules.{itemRefusal}
+use Rattle.board.proofs.RunLaws.{step-stays}
 use Rattle.board.specs.declared.Item.the-variants.{Malformed}
-use Rattle.board.proofs.RunLaws.{step-stays, step-refused}
+use Rattle.board.specs.Rules.{itemRefusal}
+use Rattle.readings.proofs.ReadingLaws.{line-refused}
+use Rattle.readings.specs.Readings.{readingOf}
 use Rattle.readings.proofs.add_item.Statement.{statement}
 use Rattle.readings.proofs.add_item.Tie as tie
 
 returns : tie.Need-returns
-returns c = let a = c .before .before .args in sym (step-stays (a .r) (a .x) (c .if1 .taken))
+unfolding readingOf
+returns c = sym (step-stays _ _ (c .if1 .taken))
 
 enum-told : tie.Need-enum-told
 enum-told c = search needs
@@ -37,19 +40,18 @@ add-share-requires : tie.Need-add-share-requires
 add-share-requires c κs = search needs
 
 returns-2 : tie.Need-returns-2
-unfolding itemRefusal
-returns-2 c =
-    rw (c .before .enum-told .given .1)
-    (c .refuse .ensures ∙ step-refused _ Malformed (c .before .before .before .if1 .left) refl (λ e. omega arith))
+unfolding itemRefusal readingOf
+returns-2 c = rw (c .before .before .enum-told .given .1)
+    (line-refused _ _ Malformed _ _ (c .before .before .before .before .if1 .left) refl (λ e. omega arith) (c .refuse .ensures))
 
 returns-3 : tie.Need-returns-3
-returns-3 c = rw (c .before .before .x .given .1) (c .add-master .ensures)
+returns-3 c = rw (c .before .before .before .x .given .1) (c .add-master .ensures)
 
 returns-4 : tie.Need-returns-4
-returns-4 c = rw (c .before .before .x2 .given .1) (c .add-slave .ensures)
+returns-4 c = rw (c .before .before .before .x2 .given .1) (c .add-slave .ensures)
 
 returns-5 : tie.Need-returns-5
-returns-5 c = rw (c .before .before .x3 .given .1) (c .add-share .ensures)
+returns-5 c = rw (c .before .before .before .x3 .given .1) (c .add-share .ensures)
 
 pub add-item-spec : {M : Type 1} → statement M
 add-item-spec =

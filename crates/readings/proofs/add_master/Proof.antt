@@ -1,13 +1,19 @@
 -- `readings::add_master` meets its contract. The numbers fit their fields, and there is room, as the line is not refused.
 -- Assumes nothing.
-use native.Mathlib.Omega.{arith}
 use mathlib.Core.Path.{_∙_, sym}
+use native.Mathlib.Omega.{arith}
 use borrow.Author.Needs.{needs}
-use Rattle.board.specs.Rules.{itemRefusal, taken, withItem, withMaster, isShare}
 use Rattle.board.proofs.RuleLaws.{MasterTaken, master-taken}
-use Rattle.board.proofs.RunLaws.{step-refused, step-taken}
+use Rattle.board.specs.Rules.{itemRefusal}
+use Rattle.readings.proofs.ReadingLaws.{line-refused, master-added}
+use Rattle.readings.specs.Readings.{readingOf}
+use Rattle.board_layout.specs.Layout.{boardIn}
 use Rattle.readings.proofs.add_master.Statement.{statement}
 use Rattle.readings.proofs.add_master.Tie as tie
+
+-- the line is not refused
+fits : (c : tie.Else1) → let a = c .before .before .before .args in MasterTaken (boardIn (a .board .now)) (a .width) (a .burst)
+fits c = master-taken _ _ _ (sym (c .before .master-refusal .ensures) ∙ c .if1 .left)
 
 master-refusal-requires : tie.Need-master-refusal-requires
 master-refusal-requires c κs = search needs
@@ -16,37 +22,24 @@ refuse-requires : tie.Need-refuse-requires
 refuse-requires c κs = search needs
 
 returns : tie.Need-returns
-unfolding itemRefusal
+unfolding itemRefusal readingOf
 returns c =
-    c .refuse .ensures
-    ∙ step-refused _ _ (c .before .before .before .before .pre) (c .before .before .master-refusal .ensures)
-    (c .before .if1 .taken)
+    line-refused _ _ _ _ _ (c .before .before .before .before .before .pre)
+    (c .before .before .before .master-refusal .ensures) (c .before .before .if1 .taken) (c .refuse .ensures)
 
--- the line is not refused
-fits : (c : tie.Else1) → let a = c .before .before .before .args in MasterTaken (a .r .board) (a .width) (a .burst)
-fits c = master-taken _ _ _ (sym (c .before .master-refusal .ensures) ∙ c .if1 .left)
+cast-put-master : tie.Need-cast-put-master
+cast-put-master c = let t = fits (c .before) in omega arith
 
-cast-at : tie.Need-cast-at
-cast-at c = search needs
+cast-put-master-2 : tie.Need-cast-put-master-2
+cast-put-master-2 c = let t = fits (c .before) in omega arith
 
-cast-b : tie.Need-cast-b
-cast-b c = let t = fits c in omega arith
-
-cast-b-2 : tie.Need-cast-b-2
-cast-b-2 c = let t = fits c in omega arith
-
-mul-t12 : tie.Need-mul-t12
-mul-t12 c = search needs
-
-element-set-from-b : tie.Need-element-set-from-b
-element-set-from-b c = let t = fits c in omega arith
-
-add-b : tie.Need-add-b
-add-b c = let t = fits c in omega arith
+put-master-requires : tie.Need-put-master-requires
+put-master-requires c κs = fits (c .before) .room
 
 returns-2 : tie.Need-returns-2
-unfolding itemRefusal taken withItem withMaster isShare
-returns-2 c = step-taken _ _ (c .before .before .before .pre) (c .before .master-refusal .ensures) (c .if1 .left)
+returns-2 c =
+    master-added _ _ _ _ _ (c .before .before .before .before .before .pre)
+    (c .before .before .before .master-refusal .ensures) (c .before .before .if1 .left) (c .put-master .ensures)
 
 pub add-master-spec : {M : Type 1} → statement M
 add-master-spec =
@@ -55,10 +48,7 @@ add-master-spec =
     master-refusal-requires
     refuse-requires
     returns
-    cast-at
-    cast-b
-    cast-b-2
-    mul-t12
-    element-set-from-b
-    add-b
+    cast-put-master
+    cast-put-master-2
+    put-master-requires
     returns-2)

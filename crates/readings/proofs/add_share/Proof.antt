@@ -1,18 +1,25 @@
--- `readings::add_share` meets its contract. The share fits its field, as the line is not refused; past the
--- table `set` changes nothing.
+-- `readings::add_share` meets its contract. The share fits its field, as the line is not refused; past the 128 places
+-- it changes nothing.
 -- Assumes nothing.
-use Prim.Native.Nat.{_+_, _*_}
+use mathlib.Core.Path.{_∙_, sym}
+use Prim.Native.Nat.{_+_, _*_, _<_}
 use native.Mathlib.Omega.{arith}
-use mathlib.Core.Path.{_≡_, _∙_, sym}
+use borrow.Author.Tests.{ltb-true, ltb-false}
 use borrow.Author.Needs.{needs}
-use lib.ListN.{length}
-use lib.Seq.{set-out}
-use Rattle.board.specs.Rules.{itemRefusal, taken, withItem, withShare, isShare}
-use Rattle.board.specs.declared.Item.the-variants.{ShareLine}
 use Rattle.board.proofs.RuleLaws.{ShareTaken, share-taken}
-use Rattle.board.proofs.RunLaws.{step-refused, step-taken}
+use Rattle.board.specs.Rules.{itemRefusal}
+use Rattle.readings.proofs.ReadingLaws.{line-refused, share-added, share-past}
+use Rattle.readings.specs.Readings.{readingOf}
+use Rattle.board_layout.specs.Layout.{boardIn}
 use Rattle.readings.proofs.add_share.Statement.{statement}
 use Rattle.readings.proofs.add_share.Tie as tie
+
+-- the line is not refused, and its share has a place
+fits : (c : tie.Else1) → let a = c .before .before .before .args in ShareTaken (boardIn (a .board .now)) (a .m) (a .s) (a .shares)
+fits c = share-taken _ _ _ _ (sym (c .before .share-refusal .ensures) ∙ c .if1 .left)
+
+inside : (c : tie.Then2) → let a = c .before .before .before .before .before .args in 16 * a .m + a .s < 128
+inside c = ltb-true _ _ (sym (c .before .in-table .ensures) ∙ c .if2 .taken)
 
 share-refusal-requires : tie.Need-share-refusal-requires
 share-refusal-requires c κs = search needs
@@ -21,42 +28,36 @@ refuse-requires : tie.Need-refuse-requires
 refuse-requires c κs = search needs
 
 returns : tie.Need-returns
-unfolding itemRefusal
+unfolding itemRefusal readingOf
 returns c =
-    c .refuse .ensures
-    ∙ step-refused _ _ (c .before .before .before .before .pre) (c .before .before .share-refusal .ensures)
-    (c .before .if1 .taken)
+    line-refused _ _ _ _ _ (c .before .before .before .before .before .pre) (c .before .before .before .share-refusal .ensures)
+    (c .before .before .if1 .taken) (c .refuse .ensures)
 
--- the line is not refused
-fits : (c : tie.Else1) → let a = c .before .before .before .args in ShareTaken (a .r .board) (a .m) (a .s) (a .shares)
-fits c = share-taken _ _ _ _ (sym (c .before .share-refusal .ensures) ∙ c .if1 .left)
+in-table-requires : tie.Need-in-table-requires
+in-table-requires c κs = search needs
 
-mul-at : tie.Need-mul-at
-mul-at c = let t = fits c in omega arith
+mul-put-share : tie.Need-mul-put-share
+mul-put-share c = let i = inside (c .before) in omega arith
 
-add-at : tie.Need-add-at
-add-at c = let t = fits c in omega arith
+add-put-share : tie.Need-add-put-share
+add-put-share c = let i = inside (c .before) in omega arith
 
-cast-b : tie.Need-cast-b
-cast-b c = let t = fits (c .before) in omega arith
+cast-put-share : tie.Need-cast-put-share
+cast-put-share c = let t = fits (c .before .before .before) in omega arith
 
-element-write-b : tie.Need-element-write-b
-element-write-b c = search needs
+put-share-requires : tie.Need-put-share-requires
+put-share-requires c κs = inside (c .before)
 
 returns-2 : tie.Need-returns-2
-unfolding itemRefusal taken withItem withShare isShare
 returns-2 c =
-    step-taken _ _ (c .before .before .before .before .pre) (c .before .before .share-refusal .ensures)
-    (c .before .if1 .left)
+    share-added _ _ _ _ _ _ (c .before .before .before .before .before .before .before .pre)
+    (c .before .before .before .before .before .share-refusal .ensures) (c .before .before .before .before .if1 .left)
+    (c .put-share .ensures)
 
 returns-3 : tie.Need-returns-3
-unfolding itemRefusal taken withItem withShare isShare
-returns-3 c = let a = c .before .before .before .before .args in
-    let g : length (a .r .board .shares) ≡ 128 = search needs in
-    let same = set-out (a .r .board .shares) (16 * a .m + a .s) (a .shares) (omega arith) in
-    let x = ShareLine (a .m) (a .s) (a .shares) in
-    let whole = c .before .before .share-refusal .ensures in
-    rw same at (step-taken (a .r) x (c .before .before .before .before .pre) whole (c .before .if1 .left))
+returns-3 c =
+    share-past _ _ _ _ _ (c .before .before .before .before .before .pre) (c .before .before .before .share-refusal .ensures)
+    (c .before .before .if1 .left) (ltb-false _ _ (sym (c .before .in-table .ensures) ∙ c .if2 .left))
 
 pub add-share-spec : {M : Type 1} → statement M
 add-share-spec =
@@ -65,9 +66,10 @@ add-share-spec =
     share-refusal-requires
     refuse-requires
     returns
-    mul-at
-    add-at
-    cast-b
-    element-write-b
+    in-table-requires
+    mul-put-share
+    add-put-share
+    cast-put-share
+    put-share-requires
     returns-2
     returns-3)

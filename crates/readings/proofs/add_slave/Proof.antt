@@ -1,13 +1,18 @@
 -- `readings::add_slave` meets its contract. The values passed their test, and there is room, as the line is not refused.
 -- Assumes nothing.
-use native.Mathlib.Omega.{arith}
 use mathlib.Core.Path.{_∙_, sym}
 use borrow.Author.Needs.{needs}
-use Rattle.board.specs.Rules.{itemRefusal, taken, withItem, withSlave, isShare}
 use Rattle.board.proofs.RuleLaws.{SlaveTaken, slave-taken}
-use Rattle.board.proofs.RunLaws.{step-refused, step-taken}
+use Rattle.board.specs.Rules.{itemRefusal}
+use Rattle.readings.proofs.ReadingLaws.{line-refused, slave-added}
+use Rattle.readings.specs.Readings.{readingOf}
+use Rattle.board_layout.specs.Layout.{boardIn}
 use Rattle.readings.proofs.add_slave.Statement.{statement}
 use Rattle.readings.proofs.add_slave.Tie as tie
+
+-- the line is not refused
+fits : (c : tie.Else1) → let a = c .before .before .before .args in SlaveTaken (boardIn (a .board .now)) (a .p .sharing) (a .n)
+fits c = slave-taken _ _ _ (sym (c .before .slave-refusal .ensures) ∙ c .if1 .left)
 
 slave-refusal-requires : tie.Need-slave-refusal-requires
 slave-refusal-requires c κs = search needs
@@ -16,36 +21,22 @@ refuse-requires : tie.Need-refuse-requires
 refuse-requires c κs = search needs
 
 returns : tie.Need-returns
-unfolding itemRefusal
+unfolding itemRefusal readingOf
 returns c =
-    c .refuse .ensures
-    ∙ step-refused _ _ (c .before .before .before .before .pre) (c .before .before .slave-refusal .ensures)
-    (c .before .if1 .taken)
-
--- the line is not refused
-fits : (c : tie.Else1) → let a = c .before .before .before .args in SlaveTaken (a .r .board) (a .r .sharing) (a .n)
-fits c = slave-taken _ _ _ (sym (c .before .slave-refusal .ensures) ∙ c .if1 .left)
-
-cast-at : tie.Need-cast-at
-cast-at c = search needs
+    line-refused _ _ _ _ _ (c .before .before .before .before .before .pre) (c .before .before .before .slave-refusal .ensures)
+    (c .before .before .if1 .taken) (c .refuse .ensures)
 
 slave-of-requires : tie.Need-slave-of-requires
-slave-of-requires c κs = fits c .values
+slave-of-requires c κs = fits (c .before) .values
 
-mul-t9 : tie.Need-mul-t9
-mul-t9 c = search needs
-
-element-set-from-b : tie.Need-element-set-from-b
-element-set-from-b c = let t = fits (c .before) in omega arith
-
-add-b : tie.Need-add-b
-add-b c = let t = fits (c .before) in omega arith
+put-slave-requires : tie.Need-put-slave-requires
+put-slave-requires c κs = fits (c .before .before) .room
 
 returns-2 : tie.Need-returns-2
-unfolding itemRefusal taken withItem withSlave isShare
 returns-2 c =
-    rw (c .slave-of .ensures)
-    (step-taken _ _ (c .before .before .before .before .pre) (c .before .before .slave-refusal .ensures) (c .before .if1 .left))
+    slave-added _ _ _ _ _ (c .before .before .before .before .before .before .pre)
+    (c .before .before .before .before .slave-refusal .ensures) (c .before .before .before .if1 .left)
+    (c .before .slave-of .ensures) (c .put-slave .ensures)
 
 pub add-slave-spec : {M : Type 1} → statement M
 add-slave-spec =
@@ -54,9 +45,6 @@ add-slave-spec =
     slave-refusal-requires
     refuse-requires
     returns
-    cast-at
     slave-of-requires
-    mul-t9
-    element-set-from-b
-    add-b
+    put-slave-requires
     returns-2)

@@ -1,14 +1,15 @@
--- `readings::refuse` meets its contract. The record written out.
+-- `readings::refuse` meets its contract. An array of zeros is the zero board.
 -- Assumes nothing.
-use mathlib.Core.Path.{refl}
-use Rattle.board.specs.Records.{noBoard}
-use Rattle.board.specs.Rules.{refused}
+use borrow.Author.Needs.{needs}
+use Rattle.readings.proofs.ReadingLaws.{of-zeros}
 use Rattle.readings.proofs.refuse.Statement.{statement}
 use Rattle.readings.proofs.refuse.Tie as tie
 
+clear-requires : tie.Need-clear-requires
+clear-requires c κs = search needs
+
 returns : tie.Need-returns
-unfolding refused noBoard
-returns c = refl
+returns c = of-zeros _ _ (c .clear .ensures)
 
 pub refuse-spec : {M : Type 1} → statement M
-refuse-spec = tie.close (tie.spec returns)
+refuse-spec = tie.close (tie.spec clear-requires returns)

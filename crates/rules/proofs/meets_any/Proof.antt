@@ -1,30 +1,29 @@
 -- `rules::meets_any` meets its contract. The loop's invariant: an overlap is one with a slave that is left.
 -- Assumes nothing.
+use mathlib.Core.Path.{_≡_, _∙_, sym, refl, ap}
 use Prim.Native.Nat.{_≤_, _-_}
 use native.Mathlib.Omega.{arith}
-use mathlib.Core.Path.{_≡_, _∙_, sym, refl}
+use lib.ListN.{drop, take}
 use borrow.Author.Needs.{needs}
-use lib.ListN.{length, drop, take}
-use Rattle.board.specs.Rules.{overlaps}
 use Rattle.board.proofs.RuleLaws.{overlaps-here, overlaps-next, overlaps-end}
+use Rattle.board.specs.Rules.{meets, overlaps}
+use Rattle.board_layout.proofs.PlaceLaws.{slaves-length}
+use Rattle.board_layout.specs.Layout.{boardIn}
 use Rattle.rules.proofs.meets_any.Statement.{statement}
 use Rattle.rules.proofs.meets_any.Tie as tie
 
 abbrev Inv-loop : tie.InvT-loop
-Inv-loop base span n slaves i₀ i =
+Inv-loop board n base span i₀ i = let slaves = boardIn board .slaves in
     (i ≤ n) × (overlaps base span (take n slaves) ≡ overlaps base span (drop i (take n slaves)))
 
 abbrev μ-loop : tie.MeasureT-loop
-μ-loop base span n slaves i₀ i = n - i
+μ-loop board n base span i₀ i = n - i
 
 loop-holds : tie.Need-loop-holds Inv-loop μ-loop
 loop-holds c = (search needs, refl)
 
-mul-s : tie.Need-mul-s Inv-loop μ-loop
-mul-s c = search needs
-
-array-copy-out-s : tie.Need-array-copy-out-s Inv-loop μ-loop
-array-copy-out-s c = search needs
+slave-at-requires : tie.Need-slave-at-requires Inv-loop μ-loop
+slave-at-requires c κs = search needs
 
 meets-one-requires : tie.Need-meets-one-requires Inv-loop μ-loop
 meets-one-requires c κs = search needs
@@ -32,9 +31,11 @@ meets-one-requires c κs = search needs
 returns : tie.Need-returns Inv-loop μ-loop
 returns c = let l = c .before .before .before .before .loop in
     let a = c .before .before .before .before .before .args in
-    let g : length (a .t3) ≡ 16 = search needs in
-    let met = sym (c .before .meets-one .ensures) ∙ c .if1 .taken in
-    sym (l .inv .1 ∙ overlaps-here (a .t3) (a .n) (l .i) (omega arith) (omega arith) (a .base) (a .span) met)
+    let g = slaves-length (a .board .now) in
+    let there = ap (meets (a .base) (a .span)) (sym (c .before .before .slave-at .ensures)) in
+    let met = there ∙ sym (c .before .meets-one .ensures) ∙ c .if1 .taken in
+    let slaves = boardIn (a .board .now) .slaves in
+    sym (l .inv .1 ∙ overlaps-here slaves (a .n) (l .i) (omega arith) (omega arith) (a .base) (a .span) met)
 
 add-i : tie.Need-add-i Inv-loop μ-loop
 add-i c = search needs
@@ -45,14 +46,16 @@ loop-less c = search needs
 loop-again : tie.Need-loop-again Inv-loop μ-loop
 loop-again c = let l = c .before .before .before .before .loop in
     let a = c .before .before .before .before .before .args in
-    let g : length (a .t3) ≡ 16 = search needs in
-    let apart = sym (c .before .meets-one .ensures) ∙ c .if1 .left in
-    (omega arith, l .inv .1 ∙ overlaps-next (a .t3) (a .n) (l .i) (omega arith) (omega arith) (a .base) (a .span) apart)
+    let g = slaves-length (a .board .now) in
+    let there = ap (meets (a .base) (a .span)) (sym (c .before .before .slave-at .ensures)) in
+    let apart = there ∙ sym (c .before .meets-one .ensures) ∙ c .if1 .left in
+    let slaves = boardIn (a .board .now) .slaves in
+    (omega arith, l .inv .1 ∙ overlaps-next slaves (a .n) (l .i) (omega arith) (omega arith) (a .base) (a .span) apart)
 
 returns-2 : tie.Need-returns-2 Inv-loop μ-loop
 returns-2 c = let l = c .before .loop in
     let a = c .before .before .args in
-    sym (l .inv .1 ∙ overlaps-end (a .t3) (a .n) (l .i) (omega arith) (a .base) (a .span))
+    sym (l .inv .1 ∙ overlaps-end (boardIn (a .board .now) .slaves) (a .n) (l .i) (omega arith) (a .base) (a .span))
 
 pub meets-any-spec : {M : Type 1} → statement M
 meets-any-spec =
@@ -61,8 +64,7 @@ meets-any-spec =
     Inv-loop
     μ-loop
     loop-holds
-    mul-s
-    array-copy-out-s
+    slave-at-requires
     meets-one-requires
     returns
     add-i

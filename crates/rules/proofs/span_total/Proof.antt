@@ -1,33 +1,33 @@
--- `rules::span_total` meets its contract. The loop's invariant: the total so far and the spans that are
--- left make the whole; the bound keeps the sum in a u64.
+-- `rules::span_total` meets its contract. The loop's invariant: the total so far and the spans that are left make
+-- the whole; the bound keeps the sum in a u64.
 -- Assumes nothing.
+use mathlib.Core.Path.{_≡_, ap}
 use Prim.Native.Nat.{_≤_, _-_, _+_, _*_}
 use native.Mathlib.Omega.{arith}
-use mathlib.Core.Path.{_≡_}
+use lib.ListN.{drop, take}
 use borrow.Author.Needs.{needs}
-use lib.ListN.{length, drop, take}
-use Rattle.board.specs.Records.{totalSpan}
 use Rattle.board.proofs.RuleLaws.{total-next, total-end}
+use Rattle.board.specs.declared.Slave.{Slave}
+use Rattle.board.specs.Records.{totalSpan}
+use Rattle.board_layout.proofs.PlaceLaws.{slaves-length}
+use Rattle.board_layout.specs.Layout.{boardIn}
 use Rattle.rules.proofs.span_total.Statement.{statement}
 use Rattle.rules.proofs.span_total.Tie as tie
 
 abbrev Inv-loop : tie.InvT-loop
-Inv-loop n span slaves total₀ i₀ total i =
+Inv-loop board n span total₀ i₀ total i = let slaves = boardIn board .slaves in
     (i ≤ n)
     × (total ≤ 4294967295 * (i + 1))
     × (totalSpan (take n slaves) + span ≡ total + totalSpan (drop i (take n slaves)))
 
 abbrev μ-loop : tie.MeasureT-loop
-μ-loop n span slaves total₀ i₀ total i = n - i
+μ-loop board n span total₀ i₀ total i = n - i
 
 loop-holds : tie.Need-loop-holds Inv-loop μ-loop
 loop-holds c = (search needs, search needs, omega arith)
 
-mul-s : tie.Need-mul-s Inv-loop μ-loop
-mul-s c = search needs
-
-array-copy-out-s : tie.Need-array-copy-out-s Inv-loop μ-loop
-array-copy-out-s c = search needs
+slave-at-requires : tie.Need-slave-at-requires Inv-loop μ-loop
+slave-at-requires c κs = search needs
 
 cast-total : tie.Need-cast-total Inv-loop μ-loop
 cast-total c = search needs
@@ -44,14 +44,15 @@ loop-less c = search needs
 loop-again : tie.Need-loop-again Inv-loop μ-loop
 loop-again c = let l = c .before .before .before .loop in
     let a = c .before .before .before .before .args in
-    let g : length (a .t1) ≡ 16 = search needs in
-    let t = total-next (a .t1) (a .n) (l .i) (omega arith) (omega arith) in
-    (omega arith, omega arith, omega (arith, l .inv .2, t))
+    let g = slaves-length (a .board .now) in
+    let t = total-next (boardIn (a .board .now) .slaves) (a .n) (l .i) (omega arith) (omega arith) in
+    let e = ap (λ (s : Slave). s .span) (c .before .slave-at .ensures) in
+    (omega arith, omega arith, omega (arith, l .inv .2, t, e))
 
 returns : tie.Need-returns Inv-loop μ-loop
 returns c = let l = c .before .loop in
     let a = c .before .before .args in
-    omega (arith, l .inv .2, total-end (a .t1) (a .n) (l .i) (omega arith))
+    omega (arith, l .inv .2, total-end (boardIn (a .board .now) .slaves) (a .n) (l .i) (omega arith))
 
 pub span-total-spec : {M : Type 1} → statement M
 span-total-spec =
@@ -60,8 +61,7 @@ span-total-spec =
     Inv-loop
     μ-loop
     loop-holds
-    mul-s
-    array-copy-out-s
+    slave-at-requires
     cast-total
     add-total
     add-i
