@@ -1,7 +1,7 @@
 -- The two calls that look up a wait, path by path.
 -- Assumes nothing.
-use mathlib.Core.Path.{_≡_, _∙_}
-use mathlib.Core.Bool.{Bool, true, false, not}
+use mathlib.Core.Path.{_≡_, sym, _∙_}
+use mathlib.Core.Bool.{true, not}
 use mathlib.Core.List.{List, _++_}
 use Prim.Native.Nat.{ℕ, _≤_, _<_}
 use native.Mathlib.Omega.{arith}
@@ -13,14 +13,14 @@ use Rattle.laws.proofs.Tests.{both, passed}
 use Rattle.text.specs.Scanning.{Put}
 use Rattle.text.proofs.Puts.{put-front, put-then}
 use Rattle.board.specs.declared.Board.{Board}
-use Rattle.board.specs.Records.{connected}
+use Rattle.board.specs.Records.{sharesAt, connected}
 use Rattle.board.specs.Items.{checkBoard}
-use Rattle.description.specs.declared.Parsed.{Parsed}
+use Rattle.board.specs.Legal.{Legal}
 use Rattle.description.specs.Reader.{readText}
 use Rattle.waits.specs.declared.Quote.{Quote}
 use Rattle.quote.specs.Answers.{bytes64, pairBytes, pairRefusal, waitRefusal, waitOutput}
 use Rattle.waits.specs.Waits.{quotedWait, serveOf}
-use Rattle.waits.specs.Parts.{figuresOf}
+use Rattle.waits.specs.Parts.{PairOf, figuresOf}
 use Rattle.quote.specs.Calls.{quoteRefusal, quoteOf}
 
 -- the bytes of two numbers, one behind the other
@@ -45,14 +45,26 @@ module _ (b : Board) (m s : ℕ) where
       let q = passed (not (connected b m s)) 15 0 (p .1) in
       ltb-true s (b .«slave_count») (both (ltb s (b .«slave_count»)) _ (not-false (connected b m s) (q .0)) .0)
 
-  module _ (known : m < b .«master_count») {g : Bool} (f : g ≡ connected b m s) where
-    pub pair-apart : not g ≡ true → 16 ≡ pairRefusal b m s
-    unfolding pairRefusal
-    pair-apart h = rw (lt-leb (b .«master_count») m known, ← f, h)
+  -- a pair that is not refused has figures
+  pub pair-of : Legal b → {n : ℕ} → n ≡ pairRefusal b m s → n ≡ 0 → PairOf b m s
+  pair-of legal e z =
+      let none = sym e ∙ z in
+      record { legal = legal; master = pair-master none; slave = pair-known none }
 
-    pub pair-found : not g ≡ false → 0 ≡ pairRefusal b m s
-    unfolding pairRefusal
-    pair-found h = rw (lt-leb (b .«master_count») m known, ← f, h)
+  module _ (known : m < b .«master_count») where
+    pub pair-outside : b .«slave_count» ≤ s → 16 ≡ pairRefusal b m s
+    unfolding pairRefusal connected
+    pair-outside h = rw (lt-leb (b .«master_count») m known, le-ltb s (b .«slave_count») h)
+
+    module _ (inside : s < b .«slave_count») {n : ℕ} (f : n ≡ sharesAt b m s) where
+      pub pair-apart : n ≡ 0 → 16 ≡ pairRefusal b m s
+      unfolding pairRefusal connected
+      pair-apart h = rw (lt-leb (b .«master_count») m known, lt-ltb s (b .«slave_count») inside, ← f, h)
+
+      pub pair-found : (n ≡ 0 → ⊥) → 0 ≡ pairRefusal b m s
+      unfolding pairRefusal connected
+      pair-found h =
+          rw (lt-leb (b .«master_count») m known, lt-ltb s (b .«slave_count») inside, ← f, lt-ltb 0 n (omega arith))
 
 -- a look-up on a board
 module _ (b : Board) (m s : ℕ) {n : ℕ} (e : n ≡ checkBoard b) where
@@ -77,37 +89,37 @@ unfolding quoteOf quoteRefusal pairRefusal
 quote-connected b m s ok h e = rw (ok, lt-leb (b .«master_count») m h, e)
 
 -- the wait call, from what the reader answers
-module _ (text : List ℕ) (m s : ℕ) (out : List ℕ) {p : Parsed} (e : p ≡ readText text) where
+module _ (text : List ℕ) (m s : ℕ) (out : List ℕ) {n : ℕ} (e : n ≡ readText text .number) where
   -- a number and the lent bytes, as the call is to hand them back
   abbrev pub Answer : ℕ → List ℕ → Type 0
   Answer r o = (r ≡ waitRefusal text m s out) × (o ≡ waitOutput text m s out)
 
   -- a refusal leaves the bytes
-  kept : {n : ℕ} → n ≡ waitRefusal text m s out → (n ≡ 0 → ⊥) → Answer n out
+  kept : {k : ℕ} → k ≡ waitRefusal text m s out → (k ≡ 0 → ⊥) → Answer k out
   unfolding waitOutput
-  kept {n} r h = (r, rw (← r, ne-eqb n 0 h))
+  kept {k} r h = (r, rw (← r, ne-eqb k 0 h))
 
-  pub wait-text : (p .number ≡ 0 → ⊥) → Answer (p .number) out
+  pub wait-text : (n ≡ 0 → ⊥) → Answer n out
   unfolding waitRefusal
-  wait-text h = kept (rw (← e, ne-eqb (p .number) 0 h)) h
+  wait-text h = kept (rw (← e, ne-eqb n 0 h)) h
 
-  module _ (none : p .number ≡ 0) where
+  module _ (none : n ≡ 0) where
     pub wait-short : length out < 16 → Answer 10 out
     unfolding waitRefusal
-    wait-short h = kept (rw (← e, eq-eqb (p .number) 0 none, lt-ltb (length out) 16 h)) (λ z. omega arith)
+    wait-short h = kept (rw (← e, eq-eqb n 0 none, lt-ltb (length out) 16 h)) (λ z. omega arith)
 
-    module _ (room : 16 ≤ length out) where
-      module _ {n : ℕ} (f : n ≡ pairRefusal (p .board) m s) where
-        pub wait-pair : (n ≡ 0 → ⊥) → Answer n out
-        unfolding waitRefusal
-        wait-pair h = kept (rw (← e, eq-eqb (p .number) 0 none, le-ltb (length out) 16 room) f) h
+    -- the board that was read
+    module _ {b : Board} (x : b ≡ readText text .board) (room : 16 ≤ length out) {k : ℕ} (f : k ≡ pairRefusal b m s) where
+      pub wait-pair : (k ≡ 0 → ⊥) → Answer k out
+      unfolding waitRefusal
+      wait-pair h = kept (rw (← e, eq-eqb n 0 none, le-ltb (length out) 16 room, ← x) f) h
 
-        wait-zero : n ≡ 0 → 0 ≡ waitRefusal text m s out
-        unfolding waitRefusal
-        wait-zero z = rw (← e, eq-eqb (p .number) 0 none, le-ltb (length out) 16 room, ← f, z)
+      wait-zero : k ≡ 0 → 0 ≡ waitRefusal text m s out
+      unfolding waitRefusal
+      wait-zero z = rw (← e, eq-eqb n 0 none, le-ltb (length out) 16 room, ← x, ← f, z)
 
-        -- taken: the figures stand at the front
-        pub wait-taken : n ≡ 0 → {q : Quote} → q ≡ figuresOf (p .board) m s → {o : List ℕ} {t : ℕ}
-            → Put out 0 (bytes64 (q .wait) ++ bytes64 (q .serve)) o t → Answer 0 o
-        unfolding waitOutput pairBytes figuresOf bytes64 table gather
-        wait-taken z {q} k {o} x = (wait-zero z, put-front x room ∙ rw (k, e, ← wait-zero z))
+      -- taken: the figures stand at the front
+      pub wait-taken : k ≡ 0 → {q : Quote} → q ≡ figuresOf b m s → {o : List ℕ} {t : ℕ}
+          → Put out 0 (bytes64 (q .wait) ++ bytes64 (q .serve)) o t → Answer 0 o
+      unfolding waitOutput pairBytes figuresOf bytes64 table gather
+      wait-taken z {q} g {o} y = (wait-zero z, put-front y room ∙ rw (g, x, ← wait-zero z))

@@ -1,18 +1,18 @@
-// The calls that look up the quoted wait of a pair: one for Rattle, one for C.
-use board::Board;
+// The calls that look up the quoted wait of a pair: one on a board, one on a text.
 use waits::Quote;
 ghost use mathlib.Core.Path.{_≡_};
 ghost use mathlib.Core.List.{_++_};
 ghost use Prim.Native.Nat.{_≤_};
 ghost use lib.ListN.{length};
-ghost use Rattle.board.specs.Records.{connected};
 ghost use Rattle.text.specs.Scanning.{Put};
+ghost use Rattle.board.specs.Legal.{Legal};
+ghost use Rattle.board_layout.specs.Layout.{boardIn};
 ghost use Rattle.quote.specs.Answers.{bytes64, pairRefusal, waitRefusal, waitOutput};
 ghost use Rattle.quote.specs.Calls.{quoteOf};
 
 // A refusal's number and zeros, or 0 with wait and serve of a pair, in clocks.
 pub struct Quoted {
-    pub number: u8,
+    pub number: u32,
     pub wait: u64,
     pub serve: u64,
 }
@@ -44,33 +44,26 @@ fn put_figures(out: &mut [u8], q: Quote) -> usize
     text::put_bytes(&mut *out, behind, &serve)
 }
 
-// Whether master m has shares at slave s.
-fn is_connected(b: Board, m: u32, s: u32) -> bool
-    ensures { λ r. ⌜ r ≡ connected b m s ⌝ }
+// What a pair of a legal board that a wait is looked up for is refused for, or 0.
+fn pair_refusal(board: &[u32; 242], m: u32, s: u32) -> u32
+    requires { ⌜ Legal (boardIn (now board)) ⌝ }
+    ensures { λ r. ⌜ r ≡ pairRefusal (boardIn (now (board .entry))) m s ⌝ }
 {
-    if b.slave_count as u32 <= s {
-        return false;
-    }
-    let shares = b.shares;
-    0 < rules::share_at(&shares, 16 * (m as u64) + (s as u64))
-}
-
-// What a pair that a wait is looked up for is refused for, or 0.
-fn pair_refusal(b: Board, m: u32, s: u32) -> u8
-    ensures { λ r. ⌜ r ≡ pairRefusal b m s ⌝ }
-{
-    if b.master_count as u32 <= m {
+    if board_layout::master_count(board) <= m {
         return 11;
     }
-    if !is_connected(b, m, s) {
+    if board_layout::slave_count(board) <= s {
+        return 16;
+    }
+    if board_layout::share_at(board, m as usize, s as usize) == 0 {
         return 16;
     }
     0
 }
 
 // Wait and serve of a pair of a board. The board need not come through the reader: its own lines are checked first.
-pub fn quote_of(board: Board, master: u32, slave: u32) -> Quoted
-    ensures { λ q. ⌜ q ≡ quoteOf board master slave ⌝ }
+pub fn quote_of(board: &[u32; 242], master: u32, slave: u32) -> Quoted
+    ensures { λ q. ⌜ q ≡ quoteOf (boardIn (now (board .entry))) master slave ⌝ }
 {
     let unfit = board_check::refusal(board);
     if unfit != 0 {
@@ -98,24 +91,23 @@ pub fn quote_of(board: Board, master: u32, slave: u32) -> Quoted
 
 // Wait and serve of master m at slave s of the board that a text describes, as 16 bytes at the front of out. The answer is 0,
 // or a refusal's number; then out is as it was.
-#[no_mangle]
-pub extern "C" fn fabric_wait(text: &[u8], master: u32, slave: u32, out: &mut [u8]) -> u32
+pub fn wait_call(text: &[u8], master: u32, slave: u32, out: &mut [u8]) -> u32
     ensures { λ r. ⌜ r ≡ waitRefusal (now (text .entry)) master slave (now (out .entry)) ⌝ }
     ensures { λ r. ⌜ now (out .exit) ≡ waitOutput (now (text .entry)) master slave (now (out .entry)) ⌝ }
 {
-    let p = description::read(text);
-    if p.number != 0 {
-        return p.number as u32;
+    let mut board = [0u32; 242];
+    let refused = description::read(text, &mut board);
+    if refused != 0 {
+        return refused;
     }
     if out.len() < 16 {
         return 10;
     }
-    let b = p.board;
-    let number = pair_refusal(b, master, slave);
+    let number = pair_refusal(&board, master, slave);
     if number != 0 {
-        return number as u32;
+        return number;
     }
-    let q = waits::figures(b, master, slave);
+    let q = waits::figures(&board, master, slave);
     put_figures(&mut *out, q);
     0
 }

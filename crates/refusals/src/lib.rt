@@ -11,7 +11,7 @@ fn say_decimal(fd: i32, n: u64) -> bool {
 }
 
 // 1 or 2 where the text as a whole is to blame.
-fn say_of_text(fd: i32, number: u8) -> bool {
+fn say_of_text(fd: i32, number: u32) -> bool {
     match number {
         1 => streams::write_all(fd, b"text over 8192 bytes"),
         _ => streams::write_all(fd, b"at the end, no master or no slave"),
@@ -19,7 +19,7 @@ fn say_of_text(fd: i32, number: u8) -> bool {
 }
 
 // 1 to 7 where a line is to blame.
-fn say_of_line(fd: i32, number: u8) -> bool {
+fn say_of_line(fd: i32, number: u32) -> bool {
     match number {
         1 => streams::write_all(
             fd,
@@ -35,7 +35,7 @@ fn say_of_line(fd: i32, number: u8) -> bool {
 }
 
 // 8 to 10, caused by whoever embeds the library, and 11 to 18, by whoever posts or looks up a wait.
-fn say_of_call(fd: i32, number: u8) -> bool {
+fn say_of_call(fd: i32, number: u32) -> bool {
     match number {
         8 => streams::write_all(fd, b"memory or buffer not of its exact length"),
         9 => streams::write_all(fd, b"the state breaks a rule"),
@@ -53,7 +53,7 @@ fn say_of_call(fd: i32, number: u8) -> bool {
 }
 
 // A number by itself: of 1 and 2 both kinds of cause.
-fn say_number(fd: i32, number: u8) -> bool {
+fn say_number(fd: i32, number: u32) -> bool {
     if 7 < number {
         return say_of_call(fd, number);
     }
@@ -63,14 +63,14 @@ fn say_number(fd: i32, number: u8) -> bool {
     say_of_line(fd, number)
 }
 
-fn say_refusal(number: u8) {
+fn say_refusal(number: u32) {
     streams::write_all(STDERR_FILENO, b"refusal ");
     say_decimal(STDERR_FILENO, number as u64);
     streams::write_all(STDERR_FILENO, b": ");
 }
 
 // One line on standard error, as `refusal 4: base no multiple of span`, of a number that no line of a text is known for.
-pub fn explain_number(number: u8) {
+pub fn explain_number(number: u32) {
     say_refusal(number);
     say_number(STDERR_FILENO, number);
     streams::write_all(STDERR_FILENO, b"\n");
@@ -93,7 +93,7 @@ pub fn explain(r: Refusal) {
 }
 
 // A number and what it means.
-fn say_entry(fd: i32, number: u8) -> bool {
+fn say_entry(fd: i32, number: u32) -> bool {
     streams::write_all(fd, b"  ")
         && say_decimal(fd, number as u64)
         && streams::write_all(fd, b" ")
@@ -102,7 +102,7 @@ fn say_entry(fd: i32, number: u8) -> bool {
 }
 
 // A line for each number from 1 to last, for a program's help.
-pub fn list(fd: i32, last: u8) -> bool {
+pub fn list(fd: i32, last: u32) -> bool {
     for number in 1..=last {
         if !say_entry(fd, number) {
             return false;
@@ -112,7 +112,7 @@ pub fn list(fd: i32, last: u8) -> bool {
 }
 
 // What a program prints of a description that is refused.
-pub fn print(number: u8) -> bool {
+pub fn print(number: u32) -> bool {
     streams::write_all(STDOUT_FILENO, b"refused,")
         && say_decimal(STDOUT_FILENO, number as u64)
         && streams::write_all(STDOUT_FILENO, b"\n")

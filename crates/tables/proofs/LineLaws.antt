@@ -2,46 +2,37 @@
 -- Assumes nothing.
 use mathlib.Core.Path.{_≡_, ap, sym}
 use mathlib.Core.List.{List, []}
-use Prim.Native.Nat.{ℕ, zero, suc, _+_, _*_, _/_, _%_, _≤_, _<_}
-use native.Mathlib.Nat.{mod-lt, mul-zero}
+use Prim.Native.Nat.{ℕ, _+_, _*_, _/_, _%_, _≤_, _<_}
+use native.Mathlib.Nat.{mod-lt, div-lt-iff-lt-mul}
 use native.Mathlib.Omega.{arith}
-use lib.ListN.{length, getD}
+use lib.ListN.{length}
 use borrow.Author.Tests.{lt-ltb}
 use Rattle.laws.specs.Lists.{gather}
+use Rattle.laws.proofs.Arithmetic.{product-le}
 use Rattle.laws.proofs.ListLaws.{gather-suc}
 use Rattle.text.specs.Scanning.{Put}
 use Rattle.text.proofs.Puts.{put-then, put-length}
-use Rattle.board.specs.declared.Master.{Master}
-use Rattle.board.specs.declared.Slave.{Slave}
 use Rattle.board.specs.declared.Board.{Board}
-use Rattle.board.specs.Records.{slaveAt, connected}
+use Rattle.board.specs.Records.{sharesAt, connected}
+use Rattle.board.specs.Legal.{Legal}
 use Rattle.waits.specs.declared.Quote.{Quote}
-use Rattle.waits.specs.Waits.{longestAccess, quotedWait, serveOf}
+use Rattle.waits.specs.Parts.{PairOf, figuresOf}
 use Rattle.tables.specs.Tables.{pairLine, pairLines}
-use Rattle.waits.specs.Parts.{quoteAmong}
-use Rattle.tables.specs.Lines.{quoteLine, lineAmong}
+use Rattle.tables.specs.Lines.{quoteLine}
 use Rattle.waits.proofs.SumLaws.{rows, gather-room}
-use Rattle.waits.proofs.PartLaws.{turns-at}
 
 -- a pair that is not connected has no line
-module _ (masters : List Master) (shares : List ℕ) (sl : Slave) (m s count : ℕ) {n : ℕ} (e : n ≡ getD shares (16 * m + s) 0) where
-  pub line-none : n ≡ 0 → lineAmong masters shares sl m s count ≡ []
-  unfolding lineAmong
-  line-none z = rw (← e, z)
+module _ (b : Board) (m s : ℕ) (x : PairOf b m s) {n : ℕ} (e : n ≡ sharesAt b m s) where
+  pub line-none : n ≡ 0 → pairLine b m s ≡ []
+  unfolding pairLine connected
+  line-none z = rw (lt-ltb s (b .«slave_count») (x .slave), ← e, z)
 
-  pub line-some : {q : Quote} → (n ≡ 0 → ⊥) → q ≡ quoteAmong masters shares sl m s count
-      → lineAmong masters shares sl m s count ≡ quoteLine m s q
-  unfolding lineAmong
-  line-some z f = rw (← e, lt-ltb 0 n (omega arith), f)
+  pub line-some : {q : Quote} → (n ≡ 0 → ⊥) → q ≡ figuresOf b m s → pairLine b m s ≡ quoteLine m s q
+  unfolding pairLine connected quoteLine figuresOf
+  line-some z f = rw (lt-ltb s (b .«slave_count») (x .slave), ← e, lt-ltb 0 n (omega arith), f)
 
+-- pair i of the board
 module _ (b : Board) where
-  -- the line from the arrays
-  pub line-at : (m s : ℕ) {sl : Slave} → s < b .«slave_count» → sl ≡ slaveAt b s
-      → lineAmong (b .masters) (b .shares) sl m s (b .«master_count») ≡ pairLine b m s
-  unfolding lineAmong quoteLine quoteAmong pairLine connected quotedWait serveOf
-  line-at m s h e = rw (e, lt-ltb s (b .«slave_count») h, turns-at b m s h (longestAccess (slaveAt b s)))
-
-  -- pair i of the board
   abbrev pub pairAt : ℕ → List ℕ
   pairAt i = pairLine b (i / b .«slave_count») (i % b .«slave_count»)
 
@@ -49,35 +40,42 @@ module _ (b : Board) where
   unfolding pairLines
   pairs-all = sym (rows (pairLine b) (b .«slave_count») (b .«master_count»))
 
--- the lines of the first i pairs are written: one pair more
-module _ (b : Board) (i : ℕ) (h : i < b .«master_count» * b .«slave_count») where
-  -- there is a slave, as there is a pair
-  pub some-slave : 0 < b .«slave_count»
-  some-slave = go (b .«slave_count») h
-    where
-      go : (n : ℕ) → i < b .«master_count» * n → 0 < n
-      go zero l = omega (arith, mul-zero (b .«master_count»), l)
-      go (suc n) l = omega arith
+-- of a legal board, with its counts as they were read
+module _ (b : Board) (legal : Legal b) {c n : ℕ} (count : c ≡ b .«master_count») (slaves : n ≡ b .«slave_count») where
+  pub some-slave : 0 < n
+  some-slave = rw slaves (legal .someSlave)
 
-  abbrev line : Slave → List ℕ
-  line sl = lineAmong (b .masters) (b .shares) sl (i / b .«slave_count») (i % b .«slave_count») (b .«master_count»)
+  pub pairs-are : c * n ≡ b .«master_count» * b .«slave_count»
+  pairs-are = rw (count, slaves)
 
-  line-is : {sl : Slave} → sl ≡ slaveAt b (i % b .«slave_count») → line sl ≡ pairAt b i
-  line-is e = line-at b (i / b .«slave_count») (i % b .«slave_count») (mod-lt i some-slave) e
+  pub pairs-few : c * n ≤ 8 * 16
+  pairs-few = rw (count, slaves) (product-le _ _ 8 16 (legal .fewMasters) (legal .fewSlaves))
 
-  module _ {sl : Slave} (e : sl ≡ slaveAt b (i % b .«slave_count»))
-      {o p : List ℕ} {at r : ℕ} (x : Put o at (gather (pairAt b) i) p r) where
-    pub pair-room : at + length (pairLines b) ≤ length o → r + length (line sl) ≤ length p
-    pair-room l =
-        omega (
-          arith,
-          x .end,
-          put-length x,
-          ap length (line-is e),
-          ap length (pairs-all b),
-          gather-room (pairAt b) i (b .«master_count» * b .«slave_count») h,
-          l,
-        )
+  module _ (i : ℕ) (h : i < c * n) where
+    pub pair-of : PairOf b (i / n) (i % n)
+    pair-of = record {
+      legal = legal;
+      master = rw (← count) (div-lt-iff-lt-mul some-slave .1 h);
+      slave = rw (← slaves) (mod-lt i some-slave);
+    }
 
-    pub pair-next : {q : List ℕ} {t : ℕ} → Put p r (line sl) q t → Put o at (gather (pairAt b) (i + 1)) q t
-    pair-next y = rw (gather-suc (pairAt b) i) (put-then x (rw (line-is e) at y))
+    line-is : pairLine b (i / n) (i % n) ≡ pairAt b i
+    line-is = rw slaves
+
+    -- the lines of the first i pairs are written: one pair more
+    module _ {o p : List ℕ} {at r : ℕ} (x : Put o at (gather (pairAt b) i) p r) where
+      pub pair-room : at + length (pairLines b) ≤ length o → r + length (pairLine b (i / n) (i % n)) ≤ length p
+      pair-room l =
+          omega (
+            arith,
+            x .end,
+            put-length x,
+            ap length line-is,
+            ap length (pairs-all b),
+            gather-room (pairAt b) i (b .«master_count» * b .«slave_count») (rw (← pairs-are) h),
+            l,
+          )
+
+      pub pair-next : {q : List ℕ} {t : ℕ} → Put p r (pairLine b (i / n) (i % n)) q t
+          → Put o at (gather (pairAt b) (i + 1)) q t
+      pair-next y = rw (gather-suc (pairAt b) i) (put-then x (rw line-is at y))

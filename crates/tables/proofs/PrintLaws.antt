@@ -19,10 +19,8 @@ use Rattle.text.proofs.Puts.{put-front, put-length}
 use Rattle.board.specs.declared.Board.{Board}
 use Rattle.board.specs.Records.{connected}
 use Rattle.board.specs.Legal.{Legal}
-use Rattle.board.proofs.Accepted.{accepted-legal}
-use Rattle.description.specs.declared.Parsed.{Parsed}
 use Rattle.description.specs.Reader.{readText}
-use Rattle.description.proofs.Trip.{read-accepted}
+use Rattle.description.proofs.Trip.{read-legal}
 use Rattle.tables.specs.declared.Printed.{Printed}
 use Rattle.waits.specs.Waits.{quotedWait, serveOf}
 use Rattle.tables.specs.Tables.{heading, pairLine, pairLines, tableText, tableOf, printRefusal, printAnswer, printOutput}
@@ -92,10 +90,6 @@ module _ (b : Board) (legal : Legal b) where
         gather-le (λ m. gather (pairLine b m) (b .«slave_count»)) (10 * 19 + 6 * 20) (b .«master_count») row,
       )
 
--- a text that is not refused reads to a legal board
-read-legal : (text : List ℕ) → readText text .number ≡ 0 → Legal (readText text .board)
-read-legal text e = accepted-legal (readText text .board) (read-accepted text e)
-
 heading-length : length heading ≡ 24
 unfolding heading bytesOf
 heading-length = refl
@@ -108,7 +102,7 @@ table-long text none =
       arith,
       length-append heading (pairLines (readText text .board)),
       heading-length,
-      pairs-long (readText text .board) (read-legal text none),
+      pairs-long (readText text .board) (read-legal text refl none refl),
     )
 
 -- an output of `longestTable` bytes has room for every table: `print_table` refuses what the reader refuses, and no more
@@ -140,27 +134,28 @@ promised text out most l e =
     (e .0, (e .1, λ h. ap (λ (r : Printed). r .number) (e .0) ∙ print-room text out (omega arith)))
 
 -- the three ways that a print ends
-module _ (text : List ℕ) {p : Parsed} (e : p ≡ readText text) where
-  number-is : p .number ≡ readText text .number
-  number-is = ap (λ (q : Parsed). q .number) e
-
-  pub text-refused : (out : List ℕ) → (p .number ≡ 0 → ⊥) → Prints text out (record { number = p .number; length = 0 }) out
+module _ (text : List ℕ) {k : ℕ} (e : k ≡ readText text .number) where
+  pub text-refused : (out : List ℕ) → (k ≡ 0 → ⊥) → Prints text out (record { number = k; length = 0 }) out
   unfolding printAnswer printOutput printRefusal
-  text-refused out h = let z = ne-eqb (p .number) 0 h in (rw (← number-is, z, z), rw (← number-is, z, z))
+  text-refused out h = let z = ne-eqb k 0 h in (rw (← e, z, z), rw (← e, z, z))
 
-  module _ (none : p .number ≡ 0) where
+  -- of the board that was read
+  module _ (none : k ≡ 0) {b : Board} (f : b ≡ readText text .board) where
     accepted : readText text .number ≡ 0
-    accepted = sym number-is ∙ none
+    accepted = sym e ∙ none
 
-    table-is : tableText (p .board) ≡ tableOf text
+    pub board-legal : Legal b
+    board-legal = rw f (read-legal text refl accepted refl)
+
+    table-is : tableText b ≡ tableOf text
     unfolding tableOf
-    table-is = ap (λ (q : Parsed). tableText (q .board)) e
+    table-is = ap tableText f
 
-    pub table-fits : length (tableText (p .board)) ≤ longestTable
+    pub table-fits : length (tableText b) ≤ longestTable
     table-fits = omega (arith, ap length table-is, table-long text accepted)
 
     -- the page that the table is made on
-    module _ {blank page : List ℕ} {n : ℕ} (x : Put blank 0 (tableText (p .board)) page n) (room : longestTable ≤ length page)
+    module _ {blank page : List ℕ} {n : ℕ} (x : Put blank 0 (tableText b) page n) (room : longestTable ≤ length page)
       where
         page-end : n ≡ length (tableOf text)
         page-end = omega (arith, x .end, ap length table-is)
@@ -171,7 +166,7 @@ module _ (text : List ℕ) {p : Parsed} (e : p ≡ readText text) where
         page-text : take n page ≡ tableOf text
         page-text =
             ap (take n) (put-front x (omega (arith, put-length x, table-fits)))
-            ∙ take-at (tableText (p .board)) _ n (sym (page-end ∙ ap length (sym table-is)))
+            ∙ take-at (tableText b) _ n (sym (page-end ∙ ap length (sym table-is)))
             ∙ table-is
 
         module _ (out : List ℕ) where

@@ -1,19 +1,19 @@
 // The table of a board: one line for each connected pair.
-use board::Board;
-use board::Master;
-use board::Slave;
 use waits::Quote;
 ghost use mathlib.Core.Path.{_≡_};
 ghost use Prim.Native.Nat.{_+_, _≤_};
 ghost use lib.ListN.{length};
 ghost use Rattle.text.specs.Scanning.{Put};
+ghost use Rattle.board.specs.Legal.{Legal};
+ghost use Rattle.board_layout.specs.Layout.{boardIn};
 ghost use Rattle.description.specs.Reader.{readText};
-ghost use Rattle.tables.specs.Tables.{pairLines, tableText, printAnswer, printOutput, Page};
-ghost use Rattle.tables.specs.Lines.{quoteLine, lineAmong};
+ghost use Rattle.waits.specs.Parts.{PairOf};
+ghost use Rattle.tables.specs.Tables.{pairLine, pairLines, tableText, printAnswer, printOutput, Page};
+ghost use Rattle.tables.specs.Lines.{quoteLine};
 
 // A refusal's number and 0, or 0 and the count of bytes written.
 pub struct Printed {
-    pub number: u8,
+    pub number: u32,
     pub length: usize,
 }
 
@@ -29,43 +29,31 @@ fn put_quote(out: &mut [u8], at: usize, m: u32, s: u32, q: Quote) -> usize
 }
 
 // Writes the line of master m at slave s, where they are connected.
-fn put_pair(
-    out: &mut [u8],
-    at: usize,
-    masters: [Master; 8],
-    count: u8,
-    shares: &[u8],
-    sl: Slave,
-    m: u32,
-    s: u32,
-) -> usize
-    requires { ⌜ at + length (lineAmong masters (now shares) sl m s count) ≤ length (now out) ⌝ }
-    ensures { λ r. ⌜ Put (now (out .entry)) at (lineAmong masters (now (shares .entry)) sl m s count) (now (out .exit)) r ⌝ }
+fn put_pair(out: &mut [u8], at: usize, board: &[u32; 242], m: u32, s: u32) -> usize
+    requires { ⌜ PairOf (boardIn (now board)) m s ⌝ }
+    requires { ⌜ at + length (pairLine (boardIn (now board)) m s) ≤ length (now out) ⌝ }
+    ensures { λ r. ⌜ Put (now (out .entry)) at (pairLine (boardIn (now (board .entry))) m s) (now (out .exit)) r ⌝ }
 {
-    if rules::share_at(shares, 16 * (m as u64) + (s as u64)) == 0 {
+    if board_layout::share_at(board, m as usize, s as usize) == 0 {
         return at;
     }
-    let q = waits::quote_among(masters, count, shares, sl, m, s);
+    let q = waits::figures(board, m, s);
     put_quote(&mut *out, at, m, s, q)
 }
 
 // Writes the lines of all pairs, by master, then slave: of n slaves, pair i is master i / n at slave i % n.
-fn put_pairs(out: &mut [u8], at: usize, b: Board) -> usize
-    requires { ⌜ at + length (pairLines b) ≤ length (now out) ⌝ }
-    ensures { λ r. ⌜ Put (now (out .entry)) at (pairLines b) (now (out .exit)) r ⌝ }
+fn put_pairs(out: &mut [u8], at: usize, board: &[u32; 242]) -> usize
+    requires { ⌜ Legal (boardIn (now board)) ⌝ }
+    requires { ⌜ at + length (pairLines (boardIn (now board))) ≤ length (now out) ⌝ }
+    ensures { λ r. ⌜ Put (now (out .entry)) at (pairLines (boardIn (now (board .entry)))) (now (out .exit)) r ⌝ }
 {
-    let masters = b.masters;
-    let slaves = b.slaves;
-    let shares = b.shares;
-    let count = b.master_count;
-    let n = b.slave_count as u32;
-    let pairs = (count as u32) * n;
+    let count = board_layout::master_count(board);
+    let n = board_layout::slave_count(board);
+    let pairs = count * n;
     let mut next = at;
     let mut i: u32 = 0;
     while i < pairs {
-        let s = i % n;
-        let sl = waits::slave_at(slaves, s);
-        next = put_pair(&mut *out, next, masters, count, &shares, sl, i / n, s);
+        next = put_pair(&mut *out, next, board, i / n, i % n);
         i += 1;
     }
     next
@@ -76,12 +64,13 @@ fn put_pairs(out: &mut [u8], at: usize, b: Board) -> usize
 pub const LONGEST_TABLE: usize = 24 + 8 * (10 * 19 + 6 * 20);
 
 // Writes a board's table at the front of out.
-fn put_table(out: &mut [u8], b: Board) -> usize
-    requires { ⌜ length (tableText b) ≤ length (now out) ⌝ }
-    ensures { λ r. ⌜ Put (now (out .entry)) 0 (tableText b) (now (out .exit)) r ⌝ }
+fn put_table(out: &mut [u8], board: &[u32; 242]) -> usize
+    requires { ⌜ Legal (boardIn (now board)) ⌝ }
+    requires { ⌜ length (tableText (boardIn (now board))) ≤ length (now out) ⌝ }
+    ensures { λ r. ⌜ Put (now (out .entry)) 0 (tableText (boardIn (now (board .entry)))) (now (out .exit)) r ⌝ }
 {
     let at = text::put_bytes(&mut *out, 0, b"master,slave,wait,serve\n");
-    put_pairs(&mut *out, at, b)
+    put_pairs(&mut *out, at, board)
 }
 
 // The table of the board that a text describes, at the front of out. It is made aside, so that out stays as it was where it is
@@ -93,16 +82,16 @@ pub fn print_table(text: &[u8], out: &mut [u8]) -> Printed
       ⌜ ((← ⟦LONGEST_TABLE⟧ .entry) ≤ length (now (out .entry))
           → r .number ≡ readText (now (text .entry)) .number) ⌝ }
 {
-    let p = description::read(text);
-    if p.number != 0 {
+    let mut board = [0u32; 242];
+    let refused = description::read(text, &mut board);
+    if refused != 0 {
         return Printed {
-            number: p.number,
+            number: refused,
             length: 0,
         };
     }
-    let b = p.board;
     let mut page = [0; LONGEST_TABLE];
-    let n = put_table(&mut page, b);
+    let n = put_table(&mut page, &board);
     if out.len() < n {
         return Printed {
             number: 10,

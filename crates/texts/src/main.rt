@@ -162,13 +162,13 @@ fn put_answer(out: &mut [u8], at: usize, record: &[u8]) -> usize
     requires { ⌜ at + 8300 ≤ length (now out) ⌝ }
     ensures { λ r. ⌜ r ≤ length (now (out .entry)) ⌝ }
 {
-    let parsed = description::read(record);
-    let next = text::put_line(&mut *out, at, b"read", &[parsed.number as u64]);
-    if parsed.number != 0 {
+    let mut board = [0u32; 242];
+    let number = description::read(record, &mut board);
+    let next = text::put_line(&mut *out, at, b"read", &[number as u64]);
+    if number != 0 {
         return next;
     }
-    let board = parsed.board;
-    let written = description::write(board, &mut out[next..]);
+    let written = description::write(&board, &mut out[next..]);
     next + written.length
 }
 

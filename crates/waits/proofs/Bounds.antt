@@ -5,51 +5,52 @@ use mathlib.Core.Bool.{Bool, true, false, cond, not, _&&_}
 use Prim.Native.Nat.{ℕ, _+_, _*_, _^_, _≤_, _<_}
 use native.Mathlib.Nat.{add-le-add}
 use native.Mathlib.Omega.{arith}
-use lib.Dec.{ltb, eqb}
+use lib.Dec.{eqb}
 use borrow.Author.Tests.{eqb-true, eqb-false}
+use Rattle.laws.specs.Lists.{sum}
 use Rattle.laws.proofs.Arithmetic.{product-le}
 use Rattle.board.specs.declared.Master.{Master}
 use Rattle.board.specs.declared.Slave.{Slave}
 use Rattle.board.specs.declared.Board.{Board}
 use Rattle.board.specs.Records.{masterAt, slaveAt, sharesAt, connected}
-use Rattle.board.specs.Legal.{Legal}
+use Rattle.board.specs.Legal.{LegalMaster, Legal}
 use Rattle.board.proofs.RuleLaws.{width-bound, burst-bound}
+use Rattle.geometry.specs.Accesses.{ratio}
 use Rattle.geometry.proofs.AccessLaws.{ratio-le}
 use Rattle.waits.specs.Waits.{longestAccess, mostBeats, single, serve, turn, otherTurn, turnsOf, quotedWait, serveOf}
-use Rattle.waits.specs.Parts.{turnUnless}
 use Rattle.waits.proofs.SumLaws.{sum-le}
 
--- for a width of at most w, a burst of at most u and accesses of at most l clocks
-module _ (ma : Master) (sl : Slave) (v w u l : ℕ) (some : 1 ≤ w) (hw : ma .width ≤ w) (hu : ma .burst ≤ u) (hv : v ≤ l) where
-  pub single-le : single ma sl v ≤ w * l
-  unfolding single
-  single-le = product-le _ _ w l (ratio-le ma sl w some hw) hv
+-- a legal master: a width is at most 8, a burst 64
+module _ (ma : Master) (legal : LegalMaster ma) (sl : Slave) where
+  pub ratio-small : ratio ma sl ≤ 8
+  ratio-small = ratio-le ma sl 8 (omega arith) (width-bound (ma .width) (legal .width) .1)
 
-  pub serve-le : serve ma sl v ≤ u * w * l
-  unfolding serve mostBeats
-  serve-le = product-le _ _ (u * w) l (product-le _ _ u w (omega arith) (ratio-le ma sl w some hw)) hv
+  pub accesses-small : mostBeats ma sl * ratio ma sl ≤ 64 * 8
+  unfolding mostBeats
+  accesses-small = product-le _ _ 64 8 (omega (arith, burst-bound (ma .burst) (legal .burst) .1)) ratio-small
 
-  -- with at most n singles before the longest transfer
-  module _ (n shares : ℕ) (h : shares ≤ n + 1) where
-    pub turn-le : turn ma sl shares v ≤ n * (w * l) + u * w * l
+  -- for accesses of at most l clocks
+  module _ (v l : ℕ) (hv : v ≤ l) where
+    pub single-le : single ma sl v ≤ 8 * l
+    unfolding single
+    single-le = product-le _ _ 8 l ratio-small hv
+
+    pub serve-le : serve ma sl v ≤ 64 * 8 * l
+    unfolding serve
+    serve-le = product-le _ _ (64 * 8) l accesses-small hv
+
+    -- with at most n singles before the longest transfer
+    pub turn-le : (n shares : ℕ) → shares ≤ n + 1 → turn ma sl shares v ≤ n * (8 * l) + 64 * 8 * l
     unfolding turn
-    turn-le = add-le-add (product-le _ _ n (w * l) (omega arith) single-le) serve-le
+    turn-le n shares h = add-le-add (product-le _ _ n (8 * l) (omega arith) single-le) serve-le
 
-    pub unless-le : (own : Bool) → turnUnless own ma sl shares v ≤ n * (w * l) + u * w * l
-    unfolding turnUnless
-    unless-le own = go (ltb 0 shares && not own)
-      where
-        go : (t : Bool) → cond t (turn ma sl shares v) 0 ≤ n * (w * l) + u * w * l
-        go true = turn-le
-        go false = omega arith
-
--- A legal board: a width is at most 8, a burst 64, an access 256 clocks, a pair's shares 100.
+-- a legal board: an access lasts at most 256 clocks, a pair has at most 100 shares
 module _ (b : Board) (legal : Legal b) (s : ℕ) (hs : s < b .«slave_count») where
   v-le : longestAccess (slaveAt b s) ≤ 256
   unfolding longestAccess
   v-le = let l = legal .slave s hs in omega (arith, l .readWait, l .writeWait)
 
-  shares-le : (k : ℕ) → k < b .«master_count» → sharesAt b k s ≤ 100
+  pub shares-le : (k : ℕ) → k < b .«master_count» → sharesAt b k s ≤ 100
   shares-le k h = go (eqb (sharesAt b k s) 0) refl
     where
       go : (t : Bool) → eqb (sharesAt b k s) 0 ≡ t → sharesAt b k s ≤ 100
@@ -59,19 +60,19 @@ module _ (b : Board) (legal : Legal b) (s : ℕ) (hs : s < b .«slave_count») w
           omega (arith, legal .shares (16 * k + s) i (eqb-false _ _ e) .0)
 
   module _ (m : ℕ) where
-    other-le : (k : ℕ) → k < b .«master_count» → otherTurn b (longestAccess (slaveAt b s)) m s k ≤ 99 * (8 * 256) + 64 * 8 * 256
-    unfolding otherTurn
-    other-le k h = go (connected b k s && not (eqb k m))
-      where
-        go : (t : Bool)
-            → cond t (turn (masterAt b k) (slaveAt b s) (sharesAt b k s) (longestAccess (slaveAt b s))) 0
-            ≤ 99 * (8 * 256) + 64 * 8 * 256
-        go true =
-            let w = width-bound (masterAt b k .width) (legal .master k h .width) in
-            let u = burst-bound (masterAt b k .burst) (legal .master k h .burst) in
-            turn-le (masterAt b k) (slaveAt b s) (longestAccess (slaveAt b s)) 8 64 256 (omega arith) (w .1) (u .1) v-le 99
-            (sharesAt b k s) (omega (arith, shares-le k h))
-        go false = omega arith
+    -- for accesses of at most l clocks: one turn, and the first k
+    module _ (v l : ℕ) (hv : v ≤ l) where
+      pub other-le : (k : ℕ) → k < b .«master_count» → otherTurn b v m s k ≤ 99 * (8 * l) + 64 * 8 * l
+      unfolding otherTurn
+      other-le k h = go (connected b k s && not (eqb k m))
+        where
+          go : (t : Bool) → cond t (turn (masterAt b k) (slaveAt b s) (sharesAt b k s) v) 0 ≤ 99 * (8 * l) + 64 * 8 * l
+          go true =
+              turn-le (masterAt b k) (legal .master k h) (slaveAt b s) v l hv 99 (sharesAt b k s) (omega (arith, shares-le k h))
+          go false = omega arith
+
+      pub turns-le : (k : ℕ) → k ≤ b .«master_count» → sum (otherTurn b v m s) k ≤ k * (99 * (8 * l) + 64 * 8 * l)
+      turns-le k h = sum-le (otherTurn b v m s) (99 * (8 * l) + 64 * 8 * l) k (λ i d. other-le i (omega arith))
 
     -- a wait has at most 7 digits
     pub wait-small : quotedWait b m s < 10 ^ 7
@@ -79,7 +80,7 @@ module _ (b : Board) (legal : Legal b) (s : ℕ) (hs : s < b .«slave_count») w
     wait-small =
         omega (
           arith,
-          sum-le (otherTurn b (longestAccess (slaveAt b s)) m s) (99 * (8 * 256) + 64 * 8 * 256) (b .«master_count») other-le,
+          turns-le (longestAccess (slaveAt b s)) 256 v-le (b .«master_count») (omega arith),
           legal .fewMasters,
         )
 
@@ -87,9 +88,4 @@ module _ (b : Board) (legal : Legal b) (s : ℕ) (hs : s < b .«slave_count») w
     pub serve-small : m < b .«master_count» → serveOf b m s < 10 ^ 6
     unfolding serveOf
     serve-small h =
-        let w = width-bound (masterAt b m .width) (legal .master m h .width) in
-        let u = burst-bound (masterAt b m .burst) (legal .master m h .burst) in
-        omega (
-          arith,
-          serve-le (masterAt b m) (slaveAt b s) (longestAccess (slaveAt b s)) 8 64 256 (omega arith) (w .1) (u .1) v-le,
-        )
+        omega (arith, serve-le (masterAt b m) (legal .master m h) (slaveAt b s) (longestAccess (slaveAt b s)) 256 v-le)

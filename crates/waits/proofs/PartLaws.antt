@@ -1,64 +1,81 @@
--- The sum of the other turns, one master after another.
+-- The sum of the other turns, one master after another; what a legal board gives of its pairs.
 -- Assumes nothing.
-use mathlib.Core.Path.{_≡_, refl, _∙_}
-use mathlib.Core.Bool.{Bool, true, false, cond, _&&_}
-use mathlib.Core.List.{List}
-use Prim.Native.Nat.{ℕ, _+_, _*_, _<_}
+use mathlib.Core.Path.{_≡_, refl, ap, _∙_}
+use mathlib.Core.Bool.{Bool, true, false, cond, not, _&&_}
+use Prim.Native.Nat.{ℕ, _+_, _≤_, _<_}
 use native.Mathlib.Numerals.{add-one}
 use native.Mathlib.Omega.{arith}
 use lib.Dec.{ltb, eqb}
-use lib.ListN.{getD}
-use borrow.Author.Tests.{lt-ltb}
+use borrow.Author.Tests.{lt-ltb, eq-eqb, ne-eqb}
 use Rattle.laws.specs.Lists.{sum}
-use Rattle.laws.proofs.FillLaws.{sum-same}
 use Rattle.board.specs.declared.Master.{Master}
 use Rattle.board.specs.declared.Slave.{Slave}
 use Rattle.board.specs.declared.Board.{Board}
-use Rattle.board.specs.Records.{noMaster, slaveAt, connected}
-use Rattle.waits.specs.declared.Quote.{Quote}
-use Rattle.waits.specs.Waits.{longestAccess, turn, otherTurn, turnsOf, quotedWait, serveOf}
-use Rattle.waits.specs.Parts.{turnUnless, turnAmong, turnsAmong, quoteAmong, figuresOf}
+use Rattle.board.specs.Records.{masterAt, slaveAt, sharesAt, connected}
+use Rattle.board.specs.Legal.{LegalSlave}
+use Rattle.waits.specs.Waits.{longestAccess, serve, turn, otherTurn, turnsOf, quotedWait, serveOf}
+use Rattle.waits.specs.Parts.{LegalBoth, SlaveOf, PairOf, figuresOf}
+use Rattle.waits.proofs.Bounds.{shares-le}
 
--- one master's part
-module _ (own : Bool) (ma : Master) (sl : Slave) (shares v : ℕ) where
-  pub unless-own : own ≡ true → 0 ≡ turnUnless own ma sl shares v
-  unfolding turnUnless
-  unless-own e = rw e (go (ltb 0 shares))
+-- a legal slave's record, and a pair of records with it
+module _ {b : Board} {sl : Slave} {s : ℕ} (x : SlaveOf b sl s) where
+  pub slave-legal : LegalSlave sl
+  slave-legal = rw (x .same) (x .legal .slave s (x .known))
+
+  pub both-legal : (m : ℕ) {ma : Master} → m < b .«master_count» → ma ≡ masterAt b m → LegalBoth ma sl
+  both-legal m h e = record { master = rw e (x .legal .master m h); slave = slave-legal }
+
+  pub turn-legal : (k : ℕ) {ma : Master} {n : ℕ} → k < b .«master_count» → ma ≡ masterAt b k → n ≡ sharesAt b k s
+      → LegalBoth ma sl × (n ≤ 100)
+  turn-legal k h e f = (both-legal k h e, rw f (shares-le b (x .legal) s (x .known) k h))
+
+-- slave s of a pair, as it was read
+pub slave-of : {b : Board} {m s : ℕ} {sl : Slave} → PairOf b m s → sl ≡ slaveAt b s → SlaveOf b sl s
+slave-of p e = record { legal = p .legal; known = p .slave; same = e }
+
+-- one master's part of the sum
+module _ (b : Board) (v m s k : ℕ) where
+  pub other-own : k ≡ m → 0 ≡ otherTurn b v m s k
+  unfolding otherTurn
+  other-own e = rw (eq-eqb k m e) (go (connected b k s))
     where
-      go : (t : Bool) → 0 ≡ cond (t && false) (turn ma sl shares v) 0
+      go : (t : Bool) → 0 ≡ cond (t && false) (turn (masterAt b k) (slaveAt b s) (sharesAt b k s) v) 0
       go true = refl
       go false = refl
 
-  pub unless-none : shares ≡ 0 → 0 ≡ turnUnless own ma sl shares v
-  unfolding turnUnless
-  unless-none e = rw e
+  module _ {n : ℕ} (e : n ≡ sharesAt b k s) where
+    pub other-none : n ≡ 0 → 0 ≡ otherTurn b v m s k
+    unfolding otherTurn connected
+    other-none z = rw (← e, z) (go (ltb s (b .«slave_count»)))
+      where
+        go : (t : Bool) → 0 ≡ cond ((t && false) && not (eqb k m)) (turn (masterAt b k) (slaveAt b s) 0 v) 0
+        go true = refl
+        go false = refl
 
-  pub unless-turn : {t : ℕ} → own ≡ false → (shares ≡ 0 → ⊥) → t ≡ turn ma sl shares v → t ≡ turnUnless own ma sl shares v
-  unfolding turnUnless
-  unless-turn e h q = rw (e, lt-ltb 0 shares (omega arith)) q
+    pub other-turn : {sl : Slave} {ma : Master} {r : ℕ} → SlaveOf b sl s → (k ≡ m → ⊥) → (n ≡ 0 → ⊥)
+        → ma ≡ masterAt b k → r ≡ turn ma sl n v → r ≡ otherTurn b v m s k
+    unfolding otherTurn connected
+    other-turn x own some f q =
+        rw (lt-ltb s (b .«slave_count») (x .known), ← e, lt-ltb 0 n (omega arith), ne-eqb k m own, ← f, ← x .same) q
 
-module _ (masters : List Master) (shares : List ℕ) (sl : Slave) (v m s : ℕ) where
-  pub among-none : 0 ≡ turnsAmong masters shares sl v m s 0
-  unfolding turnsAmong sum
-  among-none = refl
+-- the sum of the first k
+module _ (b : Board) (v m s : ℕ) where
+  pub turns-none : 0 ≡ sum (otherTurn b v m s) 0
+  unfolding sum
+  turns-none = refl
 
-  pub among-more : (k : ℕ) {q t n : ℕ} {ma : Master} → q ≡ turnsAmong masters shares sl v m s k
-      → ma ≡ getD masters k noMaster → n ≡ getD shares (16 * k + s) 0 → t ≡ turnUnless (eqb k m) ma sl n v
-      → q + t ≡ turnsAmong masters shares sl v m s (k + 1)
-  unfolding turnsAmong turnAmong sum
-  among-more k e f g h = rw (add-one, e, h, f, g)
+  pub turns-more : (k : ℕ) {q t : ℕ} → q ≡ sum (otherTurn b v m s) k → t ≡ otherTurn b v m s k
+      → q + t ≡ sum (otherTurn b v m s) (k + 1)
+  unfolding sum
+  turns-more k e f = rw (add-one, e, f)
 
--- the arrays and the board
-module _ (b : Board) (m s : ℕ) (h : s < b .«slave_count») where
-  other-among : (v k : ℕ) → turnAmong (b .masters) (b .shares) (slaveAt b s) v m s k ≡ otherTurn b v m s k
-  unfolding otherTurn connected turnAmong turnUnless
-  other-among v k = rw (lt-ltb s (b .«slave_count») h)
+  pub turns-all : {q k : ℕ} → q ≡ sum (otherTurn b v m s) k → k ≡ b .«master_count» → q ≡ turnsOf b v m s
+  unfolding turnsOf
+  turns-all e f = e ∙ ap (sum (otherTurn b v m s)) f
 
-  pub turns-at : (v : ℕ) → turnsAmong (b .masters) (b .shares) (slaveAt b s) v m s (b .«master_count») ≡ turnsOf b v m s
-  unfolding turnsOf turnsAmong
-  turns-at v = sum-same _ _ (b .«master_count») (λ k _. other-among v k)
-
-  pub figures-at : {q : Quote} {sl : Slave} → sl ≡ slaveAt b s
-      → q ≡ quoteAmong (b .masters) (b .shares) sl m s (b .«master_count») → q ≡ figuresOf b m s
-  unfolding quoteAmong figuresOf quotedWait serveOf
-  figures-at e p = p ∙ rw (e, turns-at (longestAccess (slaveAt b s)))
+-- both figures
+pub figures-at : (b : Board) (m s : ℕ) {sl : Slave} {ma : Master} {v wait own : ℕ} → sl ≡ slaveAt b s → v ≡ longestAccess sl
+    → wait ≡ turnsOf b v m s → ma ≡ masterAt b m → own ≡ serve ma sl v
+    → record { wait = wait; serve = own } ≡ figuresOf b m s
+unfolding figuresOf quotedWait serveOf
+figures-at b m s e f g h q = rw (g, q, h, f, e)

@@ -1,37 +1,31 @@
--- The quoted wait from a board's arrays alone: what a loop calls is handed no whole board.
+-- What the code of the quoted wait assumes of an accepted board, and what it answers.
 -- Assumes nothing.
-use mathlib.Core.Bool.{Bool, cond, not, _&&_}
-use mathlib.Core.List.{List}
-use Prim.Native.Nat.{ℕ, _+_, _*_}
-use lib.Dec.{ltb, eqb}
-use lib.ListN.{getD}
-use Rattle.laws.specs.Lists.{sum}
+use mathlib.Core.Path.{_≡_}
+use Prim.Native.Nat.{ℕ, _<_}
 use Rattle.board.specs.declared.Master.{Master}
 use Rattle.board.specs.declared.Slave.{Slave}
 use Rattle.board.specs.declared.Board.{Board}
-use Rattle.board.specs.Records.{noMaster}
+use Rattle.board.specs.Records.{slaveAt}
+use Rattle.board.specs.Legal.{LegalMaster, LegalSlave, Legal}
 use Rattle.waits.specs.declared.Quote.{Quote}
-use Rattle.waits.specs.Waits.{longestAccess, serve, turn, quotedWait, serveOf}
+use Rattle.waits.specs.Waits.{quotedWait, serveOf}
 
--- a master's turn, where another waits for it
-unfoldable pub turnUnless : Bool → Master → Slave → ℕ → ℕ → ℕ
-turnUnless own ma sl shares v = cond (ltb 0 shares && not own) (turn ma sl shares v) 0
+-- a master and a slave whose values are in their lists and ranges
+pub record LegalBoth (ma : Master) (sl : Slave) : Type 0 where
+  pub master : LegalMaster ma
+  pub slave : LegalSlave sl
 
--- `otherTurn` at a slave sl of the board, with number s
-unfoldable pub turnAmong : List Master → List ℕ → Slave → ℕ → ℕ → ℕ → ℕ → ℕ
-turnAmong masters shares sl v m s k =
-    turnUnless (eqb k m) (getD masters k noMaster) sl (getD shares (16 * k + s) 0) v
+-- sl is slave s of a legal board
+pub record SlaveOf (b : Board) (sl : Slave) (s : ℕ) : Type 0 where
+  pub legal : Legal b
+  pub known : s < b .«slave_count»
+  pub same : sl ≡ slaveAt b s
 
--- `turnsOf` there, for so many masters
-unfoldable pub turnsAmong : List Master → List ℕ → Slave → ℕ → ℕ → ℕ → ℕ → ℕ
-turnsAmong masters shares sl v m s count = sum (turnAmong masters shares sl v m s) count
-
--- wait and serve of a pair there
-unfoldable pub quoteAmong : List Master → List ℕ → Slave → ℕ → ℕ → ℕ → Quote
-quoteAmong masters shares sl m s count = record {
-  wait = turnsAmong masters shares sl (longestAccess sl) m s count;
-  serve = serve (getD masters m noMaster) sl (longestAccess sl);
-}
+-- master m and slave s are of a legal board
+pub record PairOf (b : Board) (m s : ℕ) : Type 0 where
+  pub legal : Legal b
+  pub master : m < b .«master_count»
+  pub slave : s < b .«slave_count»
 
 -- wait and serve of a pair of a board
 unfoldable pub figuresOf : Board → ℕ → ℕ → Quote

@@ -1,13 +1,12 @@
 // The quoted wait of a pair: singles, longest transfers, turns and their sum.
-use board::Board;
 use board::Master;
 use board::Slave;
 ghost use mathlib.Core.Path.{_≡_};
-ghost use Prim.Native.Nat.{_<_};
-ghost use lib.ListN.{getD};
-ghost use Rattle.board.specs.Records.{noMaster, noSlave};
-ghost use Rattle.waits.specs.Waits.{longestAccess, mostBeats, single, serve, turn};
-ghost use Rattle.waits.specs.Parts.{turnUnless, turnsAmong, quoteAmong, figuresOf};
+ghost use Prim.Native.Nat.{_≤_, _<_};
+ghost use Rattle.board.specs.Legal.{LegalMaster, LegalSlave};
+ghost use Rattle.board_layout.specs.Layout.{boardIn};
+ghost use Rattle.waits.specs.Waits.{longestAccess, mostBeats, single, serve, turn, otherTurn, turnsOf};
+ghost use Rattle.waits.specs.Parts.{LegalBoth, SlaveOf, PairOf, figuresOf};
 
 // Wait and serve of a pair, in clocks.
 pub struct Quote {
@@ -17,30 +16,30 @@ pub struct Quote {
 
 // The clocks of one access at most: 1 and the longer of the slave's two waits.
 pub fn longest_access(sl: Slave) -> u32
+    requires { ⌜ LegalSlave sl ⌝ }
     ensures { λ r. ⌜ r ≡ longestAccess sl ⌝ }
 {
     if sl.read_wait < sl.write_wait {
-        return 1 + (sl.write_wait as u32);
+        return 1 + sl.write_wait;
     }
-    1 + (sl.read_wait as u32)
+    1 + sl.read_wait
 }
 
-// The most beats of one transfer. No beat fits where the width is 0, which only a board that nobody read can have.
-pub fn most_beats(ma: Master, sl: Slave) -> u8
+// The most beats of one transfer.
+pub fn most_beats(ma: Master, sl: Slave) -> u32
+    requires { ⌜ LegalMaster ma ⌝ }
     ensures { λ r. ⌜ r ≡ mostBeats ma sl ⌝ }
 {
-    if ma.width == 0 {
-        return 0;
-    }
-    let words = sl.span / (ma.width as u32);
-    if (ma.burst as u32) <= words {
+    let words = geometry::quotient(sl.span, ma.width);
+    if ma.burst <= words {
         return ma.burst;
     }
-    words as u8
+    words
 }
 
-// The clocks of a transfer of one beat. A ratio and a burst have 8 bits each and v has 32, so that no product here wraps.
+// The clocks of a transfer of one beat. A ratio is at most 8, a burst 64 and v has 32 bits, so that no product here wraps.
 pub fn single(ma: Master, sl: Slave, v: u32) -> u64
+    requires { ⌜ LegalBoth ma sl ⌝ }
     ensures { λ r. ⌜ r ≡ single ma sl v ⌝ }
 {
     (geometry::width_ratio(ma, sl) as u64) * (v as u64)
@@ -48,6 +47,7 @@ pub fn single(ma: Master, sl: Slave, v: u32) -> u64
 
 // The clocks of the longest transfer.
 pub fn serve(ma: Master, sl: Slave, v: u32) -> u64
+    requires { ⌜ LegalBoth ma sl ⌝ }
     ensures { λ r. ⌜ r ≡ serve ma sl v ⌝ }
 {
     let beats = most_beats(ma, sl) as u64;
@@ -56,7 +56,8 @@ pub fn serve(ma: Master, sl: Slave, v: u32) -> u64
 }
 
 // The clocks of a turn: a single for every share but one, and the longest transfer.
-pub fn turn(ma: Master, sl: Slave, shares: u8, v: u32) -> u64
+pub fn turn(ma: Master, sl: Slave, shares: u32, v: u32) -> u64
+    requires { ⌜ LegalBoth ma sl × (shares ≤ 100) ⌝ }
     ensures { λ r. ⌜ r ≡ turn ma sl shares v ⌝ }
 {
     let longest = serve(ma, sl, v);
@@ -67,97 +68,47 @@ pub fn turn(ma: Master, sl: Slave, shares: u8, v: u32) -> u64
     singles + longest
 }
 
-// Master k; past the array, where the count of a board that nobody read can lead, a master of zeros.
-pub fn master_at(masters: [Master; 8], k: u32) -> Master
-    ensures { λ r. ⌜ r ≡ getD masters k noMaster ⌝ }
+// The turn of master k at slave s, where another master waits for it. The slave's record is handed on: it is read once.
+fn other_turn(board: &[u32; 242], sl: Slave, v: u32, m: u32, s: u32, k: u32) -> u64
+    requires { ⌜ SlaveOf (boardIn (now board)) sl s × (k < boardIn (now board) .«master_count») ⌝ }
+    ensures { λ r. ⌜ r ≡ otherTurn (boardIn (now (board .entry))) v m s k ⌝ }
 {
-    if k < 8 {
-        return masters[k as usize];
-    }
-    Master { width: 0, burst: 0 }
-}
-
-// Slave s; past the array a slave of zeros.
-pub fn slave_at(slaves: [Slave; 16], s: u32) -> Slave
-    ensures { λ r. ⌜ r ≡ getD slaves s noSlave ⌝ }
-{
-    if s < 16 {
-        return slaves[s as usize];
-    }
-    Slave {
-        base: 0,
-        span: 0,
-        width: 0,
-        burst: 0,
-        read_wait: 0,
-        write_wait: 0,
-    }
-}
-
-// The turn of a master that is not the one waiting, and is connected.
-fn turn_unless(own: bool, ma: Master, sl: Slave, shares: u8, v: u32) -> u64
-    ensures { λ r. ⌜ r ≡ turnUnless own ma sl shares v ⌝ }
-{
-    if own {
+    if k == m {
         return 0;
     }
+    let shares = board_layout::share_at(board, k as usize, s as usize);
     if shares == 0 {
         return 0;
     }
-    turn(ma, sl, shares, v)
+    turn(board_layout::master_at(board, k as usize), sl, shares, v)
 }
 
-// The turns of the other masters at slave s, for any v. A turn is below 2 ^ 50, so the sum of 255 fits.
-fn turns_among(
-    masters: [Master; 8],
-    count: u8,
-    shares: &[u8],
-    sl: Slave,
-    v: u32,
-    m: u32,
-    s: u32,
-) -> u64
-    ensures { λ r. ⌜ r ≡ turnsAmong masters (now (shares .entry)) sl v m s count ⌝ }
+// The turns of the other masters at slave s, for any v. A turn is below 2 ^ 50, so the sum of 8 fits.
+fn turns_of(board: &[u32; 242], sl: Slave, v: u32, m: u32, s: u32) -> u64
+    requires { ⌜ SlaveOf (boardIn (now board)) sl s ⌝ }
+    ensures { λ r. ⌜ r ≡ turnsOf (boardIn (now (board .entry))) v m s ⌝ }
 {
-    let n = count as u32;
+    let n = board_layout::master_count(board);
     let mut sum: u64 = 0;
     let mut k: u32 = 0;
     while k < n {
-        let ma = master_at(masters, k);
-        let share = rules::share_at(shares, 16 * (k as u64) + (s as u64));
-        sum += turn_unless(k == m, ma, sl, share, v);
+        sum += other_turn(board, sl, v, m, s, k);
         k += 1;
     }
     sum
 }
 
 // Wait and serve of master m at slave s. The longer wait is chosen once, for every turn.
-pub fn quote_among(
-    masters: [Master; 8],
-    count: u8,
-    shares: &[u8],
-    sl: Slave,
-    m: u32,
-    s: u32,
-) -> Quote
-    ensures { λ q. ⌜ q ≡ quoteAmong masters (now (shares .entry)) sl m s count ⌝ }
+pub fn figures(board: &[u32; 242], m: u32, s: u32) -> Quote
+    requires { ⌜ PairOf (boardIn (now board)) m s ⌝ }
+    ensures { λ q. ⌜ q ≡ figuresOf (boardIn (now (board .entry))) m s ⌝ }
 {
+    let sl = board_layout::slave_at(board, s as usize);
     let v = longest_access(sl);
-    let wait = turns_among(masters, count, shares, sl, v, m, s);
-    let ma = master_at(masters, m);
+    let wait = turns_of(board, sl, v, m, s);
+    let ma = board_layout::master_at(board, m as usize);
     Quote {
         wait: wait,
         serve: serve(ma, sl, v),
     }
-}
-
-// Wait and serve of master m at slave s of a board.
-pub fn figures(b: Board, m: u32, s: u32) -> Quote
-    requires { ⌜ s < b .«slave_count» ⌝ }
-    ensures { λ q. ⌜ q ≡ figuresOf b m s ⌝ }
-{
-    let masters = b.masters;
-    let slaves = b.slaves;
-    let shares = b.shares;
-    quote_among(masters, b.master_count, &shares, slave_at(slaves, s), m, s)
 }

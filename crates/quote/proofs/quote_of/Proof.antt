@@ -2,7 +2,8 @@
 -- Assumes nothing.
 use mathlib.Core.Path.{sym, _∙_}
 use borrow.Author.Needs.{needs}
-use Rattle.quote.proofs.AnswerLaws.{pair-known, quote-board, quote-pair, quote-taken}
+use Rattle.board.proofs.Accepted.{accepted-legal}
+use Rattle.quote.proofs.AnswerLaws.{pair-of, quote-board, quote-pair, quote-taken}
 use Rattle.quote.proofs.quote_of.Statement.{statement}
 use Rattle.quote.proofs.quote_of.Tie as tie
 
@@ -13,14 +14,16 @@ returns : tie.Need-returns
 returns c = quote-board _ _ _ (c .before .refusal .ensures) (c .if1 .taken)
 
 pair-refusal-requires : tie.Need-pair-refusal-requires
-pair-refusal-requires c κs = search needs
+pair-refusal-requires c κs = accepted-legal _ (sym (c .before .refusal .ensures) ∙ c .if1 .left)
 
 returns-2 : tie.Need-returns-2
 returns-2 c = let f = c .before .before in
     quote-pair _ _ _ (f .before .refusal .ensures) (f .if1 .left) (c .before .pair-refusal .ensures) (c .if2 .taken)
 
 figures-requires : tie.Need-figures-requires
-figures-requires c κs = pair-known _ _ _ (sym (c .before .pair-refusal .ensures) ∙ c .if2 .left)
+figures-requires c κs =
+    let pair = c .before in
+    pair-of _ _ _ (pair-refusal-requires (pair .before) κs) (pair .pair-refusal .ensures) (c .if2 .left)
 
 returns-3 : tie.Need-returns-3
 returns-3 c = let p = c .before in

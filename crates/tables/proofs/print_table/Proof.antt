@@ -5,7 +5,8 @@ use native.Mathlib.Omega.{arith}
 use lib.ListN.{length, length-take}
 use borrow.Author.Needs.{needs}
 use Rattle.tables.specs.Longest.{longestTable}
-use Rattle.tables.proofs.PrintLaws.{promised, text-refused, table-fits, page-within, room-refused, table-printed}
+use Rattle.tables.proofs.PrintLaws.{promised, text-refused, board-legal, table-fits}
+use Rattle.tables.proofs.PrintLaws.{page-within, room-refused, table-printed}
 use Rattle.tables.proofs.print_table.Statement.{statement}
 use Rattle.tables.proofs.print_table.Tie as tie
 
@@ -14,7 +15,7 @@ read-requires c κs = search needs
 
 returns : tie.Need-returns
 unfolding longestTable
-returns c = promised _ _ _ (omega arith) (text-refused _ (c .before .before .read .ensures) _ (c .if1 .taken))
+returns c = promised _ _ _ (omega arith) (text-refused _ (c .before .read .ensures .number) _ (c .if1 .taken))
 
 slice-aggregate-put-table : tie.Need-slice-aggregate-put-table
 slice-aggregate-put-table c = search needs
@@ -23,7 +24,9 @@ put-table-requires : tie.Need-put-table-requires
 unfolding longestTable
 put-table-requires c κs =
     let p = c .before .before in
-    omega (arith, table-fits _ (p .before .before .read .ensures) (p .if1 .left))
+    let x = p .before .read .ensures in
+    let none = p .if1 .left in
+    (board-legal _ (x .number) none (x .board none), omega (arith, table-fits _ (x .number) none (x .board none)))
 
 -- the page has room for the longest table
 room : (t : tie.After-put-table) → longestTable ≤ length (t .put-table .last .0)
@@ -35,20 +38,26 @@ unfolding longestTable
 returns-2 c =
     let t = c .before .before in
     let p = t .before .before .before in
+    let x = p .before .read .ensures in
+    let none = p .if1 .left in
     promised _ _ _ (omega arith)
-    (room-refused _ (p .before .before .read .ensures) (p .if1 .left) (t .put-table .ensures) (room t) _ (c .if2 .taken))
+    (room-refused _ (x .number) none (x .board none) (t .put-table .ensures) (room t) _ (c .if2 .taken))
 
 array-share-prefix-page : tie.Need-array-share-prefix-page
 array-share-prefix-page c =
     let t = c .before .before .before in
     let p = t .before .before .before in
-    page-within _ (p .before .before .read .ensures) (p .if1 .left) (t .put-table .ensures) (room t)
+    let x = p .before .read .ensures in
+    let none = p .if1 .left in
+    page-within _ (x .number) none (x .board none) (t .put-table .ensures) (room t)
 
 slice-aggregate-put-bytes : tie.Need-slice-aggregate-put-bytes
 slice-aggregate-put-bytes c =
     let t = c .before .before .before .before in
     let p = t .before .before .before in
-    let h = page-within _ (p .before .before .read .ensures) (p .if1 .left) (t .put-table .ensures) (room t) in
+    let x = p .before .read .ensures in
+    let none = p .if1 .left in
+    let h = page-within _ (x .number) none (x .board none) (t .put-table .ensures) (room t) in
     omega (arith, length-take (t .put-table .result) (t .put-table .last .0))
 
 put-bytes-requires : tie.Need-put-bytes-requires
@@ -66,8 +75,10 @@ returns-3 c =
     let e = b .before .before .before in
     let t = e .before .before in
     let p = t .before .before .before in
+    let x = p .before .read .ensures in
+    let none = p .if1 .left in
     promised _ _ _ (omega arith)
-    (table-printed _ (p .before .before .read .ensures) (p .if1 .left) (t .put-table .ensures) (room t) _ (e .if2 .left)
+    (table-printed _ (x .number) none (x .board none) (t .put-table .ensures) (room t) _ (e .if2 .left)
     (b .put-bytes .ensures))
 
 pub print-table-spec : {M : Type 1} → statement M

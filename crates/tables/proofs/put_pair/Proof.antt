@@ -9,45 +9,37 @@ use Rattle.tables.proofs.LineLaws.{line-none, line-some}
 use Rattle.tables.proofs.put_pair.Statement.{statement}
 use Rattle.tables.proofs.put_pair.Tie as tie
 
-mul-share-at : tie.Need-mul-share-at
-mul-share-at c = search needs
-
-add-share-at : tie.Need-add-share-at
-add-share-at c = search needs
-
 share-at-requires : tie.Need-share-at-requires
 share-at-requires c κs = search needs
 
 returns : tie.Need-returns
-returns c = rw (line-none _ _ _ _ _ _ (c .before .share-at .ensures) (c .if1 .taken)) (put-none _ _)
+returns c =
+    let share = c .before in
+    rw (line-none _ _ _ (share .before .before .pre .0) (share .share-at .ensures) (c .if1 .taken)) (put-none _ _)
 
-quote-among-requires : tie.Need-quote-among-requires
-quote-among-requires c κs = search needs
+figures-requires : tie.Need-figures-requires
+figures-requires c κs = search needs
 
 put-quote-requires : tie.Need-put-quote-requires
 put-quote-requires c κs =
     let q = c .before in
-    let e = line-some _ _ _ _ _ _ (q .before .before .share-at .ensures) (q .before .if1 .left) (q .quote-among .ensures) in
-    omega (arith, ap length e)
+    let share = q .before .before in
+    let start = share .before .before in
+    let e = line-some _ _ _ (start .pre .0) (share .share-at .ensures) (q .before .if1 .left) (q .figures .ensures) in
+    omega (arith, ap length e, start .pre .1)
 
 same-length : tie.Need-same-length
 same-length c = search needs
 
 returns-2 : tie.Need-returns-2
 returns-2 c =
-    let q = c .before .before .before .before in
-    let e = line-some _ _ _ _ _ _ (q .before .before .share-at .ensures) (q .before .if1 .left) (q .quote-among .ensures) in
-    rw e (c .before .before .put-quote .ensures)
+    let put = c .before .before in
+    let q = put .before .before in
+    let share = q .before .before in
+    rw (line-some _ _ _ (share .before .before .pre .0) (share .share-at .ensures) (q .before .if1 .left) (q .figures .ensures))
+    (put .put-quote .ensures)
 
 pub put-pair-spec : {M : Type 1} → statement M
 put-pair-spec =
     tie.close
-    (tie.spec
-    mul-share-at
-    add-share-at
-    share-at-requires
-    returns
-    quote-among-requires
-    put-quote-requires
-    same-length
-    returns-2)
+    (tie.spec share-at-requires returns figures-requires put-quote-requires same-length returns-2)

@@ -5,90 +5,97 @@ use mathlib.Core.Path.{_≡_}
 use Prim.Native.Nat.{_-_, _*_, _≤_}
 use native.Mathlib.Omega.{arith}
 use borrow.Author.Needs.{needs}
-use Rattle.laws.proofs.Arithmetic.{product-le}
 use Rattle.laws.specs.Lists.{gather}
 use Rattle.text.proofs.Puts.{put-none, put-length}
 use Rattle.text.specs.Scanning.{Put}
-use Rattle.board.specs.declared.Board.{Board}
-use Rattle.tables.proofs.LineLaws.{some-slave, pair-room, pair-next, pairAt, pairs-all}
+use Rattle.board_layout.specs.Layout.{boardIn}
+use Rattle.tables.proofs.LineLaws.{pairAt, pairs-all, some-slave, pairs-are, pairs-few, pair-of, pair-room, pair-next}
 use Rattle.tables.proofs.put_pairs.Statement.{statement}
 use Rattle.tables.proofs.put_pairs.Tie as tie
 
 abbrev Inv-loop : tie.InvT-loop
-Inv-loop out₀ at masters slaves shares count n pairs next₀ i₀ out next i =
-    let b : Board = record {
-      «master_count» = count;
-      «slave_count» = n;
-      masters = masters;
-      slaves = slaves;
-      shares = shares;
-    } in
-    (i ≤ count * n) × Put out₀ at (gather (pairAt b) i) out next
+Inv-loop out₀ at board count n pairs next₀ i₀ out next i =
+    (i ≤ count * n) × Put out₀ at (gather (pairAt (boardIn board)) i) out next
 
 abbrev μ-loop : tie.MeasureT-loop
-μ-loop out₀ at masters slaves shares count n pairs next₀ i₀ out next i = count * n - i
+μ-loop out₀ at board count n pairs next₀ i₀ out next i = count * n - i
 
-cast-n : tie.Need-cast-n Inv-loop μ-loop
-cast-n c = search needs
+master-count-requires : tie.Need-master-count-requires Inv-loop μ-loop
+master-count-requires c κs = search needs
 
-cast-pairs : tie.Need-cast-pairs Inv-loop μ-loop
-cast-pairs c = search needs
+slave-count-requires : tie.Need-slave-count-requires Inv-loop μ-loop
+slave-count-requires c κs = search needs
+
+-- 8 masters at 16 slaves at most
+few : (c : tie.After-slave-count Inv-loop μ-loop) → c .before .master-count .result * c .slave-count .result ≤ 128
+few c = let count = c .before in
+    omega (arith, pairs-few _ (count .before .before .pre .0) (count .master-count .ensures) (c .slave-count .ensures))
 
 mul-pairs : tie.Need-mul-pairs Inv-loop μ-loop
-mul-pairs c = let b = c .before .before .before .before .before .args .b in
-    omega (arith, product-le (b .«master_count») (b .«slave_count») 255 255 (omega arith) (omega arith))
+mul-pairs c = omega (arith, few c)
 
 loop-holds : tie.Need-loop-holds Inv-loop μ-loop
 unfolding gather
 loop-holds c = (omega arith, put-none _ _)
 
-rem-s : tie.Need-rem-s Inv-loop μ-loop
-rem-s c = let l = c .before in
-    some-slave (l .before .before .before .before .before .before .args .b) (l .loop .i) (c .loop-test .taken)
-
-slave-at-requires : tie.Need-slave-at-requires Inv-loop μ-loop
-slave-at-requires c κs = search needs
-
-slice-aggregate-put-pair : tie.Need-slice-aggregate-put-pair Inv-loop μ-loop
-slice-aggregate-put-pair c = search needs
-
 div-put-pair : tie.Need-div-put-pair Inv-loop μ-loop
-div-put-pair c = let t = c .before .before .before in
-    let l = t .before in
-    some-slave (l .before .before .before .before .before .before .args .b) (l .loop .i) (t .loop-test .taken)
+div-put-pair c =
+    let n = c .before .before .before in
+    let count = n .before in
+    some-slave _ (count .before .before .pre .0) (count .master-count .ensures) (n .slave-count .ensures)
+
+rem-put-pair : tie.Need-rem-put-pair Inv-loop μ-loop
+rem-put-pair c = div-put-pair c
 
 put-pair-requires : tie.Need-put-pair-requires Inv-loop μ-loop
-put-pair-requires c κs = let t = c .before .before .before in
+put-pair-requires c κs =
+    let t = c .before in
     let l = t .before in
-    let start = l .before .before .before .before .before .before in
-    pair-room (start .args .b) (l .loop .i) (t .loop-test .taken) (c .before .before .slave-at .ensures) (l .loop .inv .1)
-    (start .pre)
+    let n = l .before in
+    let count = n .before in
+    let start = count .before .before in
+    let legal = start .pre .0 in
+    let e = count .master-count .ensures in
+    let f = n .slave-count .ensures in (
+      pair-of _ legal e f (l .loop .i) (t .loop-test .taken),
+      pair-room _ legal e f (l .loop .i) (t .loop-test .taken) (l .loop .inv .1) (start .pre .1),
+    )
 
 add-i : tie.Need-add-i Inv-loop μ-loop
-add-i c = let start = c .before .before .before .before .before .before .before .before .before .before .before .before .before in
-    let b = start .args .b in
-    omega (arith, product-le (b .«master_count») (b .«slave_count») 255 255 (omega arith) (omega arith))
+add-i c =
+    let t = c .before .before .before .before in
+    omega (arith, t .loop-test .taken, few (t .before .before))
 
 loop-less : tie.Need-loop-less Inv-loop μ-loop
 loop-less c = search needs
 
 loop-again : tie.Need-loop-again Inv-loop μ-loop
-loop-again c = let s = c .before .before .before .before .before in
-    let l = s .before .before in
-    let b = l .before .before .before .before .before .before .args .b in (
+loop-again c =
+    let put = c .before .before in
+    let t = put .before .before in
+    let l = t .before in
+    let n = l .before in
+    let count = n .before in
+    let legal = count .before .before .pre .0 in
+    let e = count .master-count .ensures in
+    let f = n .slave-count .ensures in (
       omega arith,
-      pair-next b (l .loop .i) (s .before .loop-test .taken) (s .slave-at .ensures) (l .loop .inv .1)
-          (c .before .before .put-pair .ensures),
+      pair-next _ legal e f (l .loop .i) (t .loop-test .taken) (l .loop .inv .1) (put .put-pair .ensures),
     )
 
 same-length : tie.Need-same-length Inv-loop μ-loop
 same-length c = put-length (c .before .loop .inv .1)
 
 returns : tie.Need-returns Inv-loop μ-loop
-returns c = let l = c .before .loop in
-    let b = c .before .before .before .before .before .before .before .args .b in
-    let e : l .i ≡ b .«master_count» * b .«slave_count» = omega arith in
-    rw (← pairs-all b, ← e) (l .inv .1)
+returns c =
+    let l = c .before in
+    let n = l .before in
+    let count = n .before in
+    let start = count .before .before in
+    let b = boardIn (start .args .board .now) in
+    let p = pairs-are b (start .pre .0) (count .master-count .ensures) (n .slave-count .ensures) in
+    let e : l .loop .i ≡ b .«master_count» * b .«slave_count» = omega (arith, p, l .loop .inv .0, c .loop-test .left) in
+    rw (← pairs-all b, ← e) (l .loop .inv .1)
 
 pub put-pairs-spec : {M : Type 1} → statement M
 put-pairs-spec =
@@ -96,14 +103,12 @@ put-pairs-spec =
     (tie.spec
     Inv-loop
     μ-loop
-    cast-n
-    cast-pairs
+    master-count-requires
+    slave-count-requires
     mul-pairs
     loop-holds
-    rem-s
-    slave-at-requires
-    slice-aggregate-put-pair
     div-put-pair
+    rem-put-pair
     put-pair-requires
     add-i
     loop-less

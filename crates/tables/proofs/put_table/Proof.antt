@@ -5,6 +5,7 @@ use lib.ListN.{length-append}
 use borrow.Author.Needs.{needs}
 use Rattle.laws.specs.Bytes.{bytesOf}
 use Rattle.text.proofs.Puts.{put-then, put-length}
+use Rattle.board_layout.specs.Layout.{boardIn}
 use Rattle.tables.specs.Tables.{heading, pairLines, tableText}
 use Rattle.tables.proofs.put_table.Statement.{statement}
 use Rattle.tables.proofs.put_table.Tie as tie
@@ -14,17 +15,23 @@ slice-aggregate-put-bytes c = search needs
 
 put-bytes-requires : tie.Need-put-bytes-requires
 unfolding tableText heading bytesOf
-put-bytes-requires c κs = omega (arith, length-append heading (pairLines (c .before .before .before .args .b)))
+put-bytes-requires c κs =
+    let start = c .before .before .before in
+    omega (arith, length-append heading (pairLines (boardIn (start .args .board .now))), start .pre .1)
 
 put-pairs-requires : tie.Need-put-pairs-requires
 unfolding tableText heading bytesOf
 put-pairs-requires c κs =
     let h = c .before .before .before in
-    omega (
-      arith,
-      h .put-bytes .ensures .end,
-      put-length (h .put-bytes .ensures),
-      length-append heading (pairLines (h .before .before .before .before .args .b)),
+    let start = h .before .before .before .before in (
+      start .pre .0,
+      omega (
+        arith,
+        h .put-bytes .ensures .end,
+        put-length (h .put-bytes .ensures),
+        length-append heading (pairLines (boardIn (start .args .board .now))),
+        start .pre .1,
+      ),
     )
 
 same-length : tie.Need-same-length

@@ -6,18 +6,12 @@ use Rattle.waits.specs.Waits.{longestAccess}
 use Rattle.waits.proofs.longest_access.Statement.{statement}
 use Rattle.waits.proofs.longest_access.Tie as tie
 
-cast-result : tie.Need-cast-result
-cast-result c = search needs
-
 add-result : tie.Need-add-result
 add-result c = search needs
 
 returns : tie.Need-returns
 unfolding longestAccess
 returns c = omega arith
-
-cast-result-2 : tie.Need-cast-result-2
-cast-result-2 c = search needs
 
 add-result-2 : tie.Need-add-result-2
 add-result-2 c = search needs
@@ -27,5 +21,4 @@ unfolding longestAccess
 returns-2 c = omega arith
 
 pub longest-access-spec : {M : Type 1} → statement M
-longest-access-spec =
-    tie.close (tie.spec cast-result add-result returns cast-result-2 add-result-2 returns-2)
+longest-access-spec = tie.close (tie.spec add-result returns add-result-2 returns-2)

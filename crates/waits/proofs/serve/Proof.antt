@@ -1,4 +1,4 @@
--- `waits::serve` meets its contract: 8 bits times 8 times 32 fit 64.
+-- `waits::serve` meets its contract: 512 accesses at most, of 32 bits, fit 64.
 -- Assumes nothing.
 use mathlib.Core.Path.{ap₂}
 use Prim.Native.Nat.{ℕ, _*_, _≤_}
@@ -6,6 +6,7 @@ use native.Mathlib.Omega.{arith}
 use borrow.Author.Needs.{needs}
 use Rattle.laws.proofs.Arithmetic.{product-le}
 use Rattle.waits.specs.Waits.{serve}
+use Rattle.waits.proofs.Bounds.{accesses-small}
 use Rattle.waits.proofs.serve.Statement.{statement}
 use Rattle.waits.proofs.serve.Tie as tie
 
@@ -22,17 +23,19 @@ cast-each : tie.Need-cast-each
 cast-each c = search needs
 
 -- the accesses of the longest transfer
-count : (c : tie.After-width-ratio) → c .before .most-beats .result * c .width-ratio .result ≤ 255 * 255
-count c = product-le (c .before .most-beats .result) (c .width-ratio .result) 255 255 (omega arith) (omega arith)
+count : (c : tie.After-width-ratio) → c .before .most-beats .result * c .width-ratio .result ≤ 64 * 8
+count c =
+    let start = c .before .before in
+    rw (c .before .most-beats .ensures, c .width-ratio .ensures)
+    (accesses-small (start .args .ma) (start .pre .master) (start .args .sl))
 
 mul-result : tie.Need-mul-result
-mul-result c =
-    omega (arith, count c)
+mul-result c = omega (arith, count c)
 
 mul-result-2 : tie.Need-mul-result-2
 mul-result-2 c =
     let n = c .before .most-beats .result * c .width-ratio .result in
-    omega (arith, product-le n (c .before .before .args .v) (255 * 255) 4294967296 (count c) (omega arith))
+    omega (arith, product-le n (c .before .before .args .v) (64 * 8) 4294967296 (count c) (omega arith))
 
 returns : tie.Need-returns
 unfolding serve

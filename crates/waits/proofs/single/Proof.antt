@@ -1,4 +1,4 @@
--- `waits::single` meets its contract: 8 bits times 32 fit 64.
+-- `waits::single` meets its contract: 8 accesses at most, of 32 bits, fit 64.
 -- Assumes nothing.
 use mathlib.Core.Path.{ap}
 use Prim.Native.Nat.{ℕ, _*_}
@@ -6,6 +6,7 @@ use native.Mathlib.Omega.{arith}
 use borrow.Author.Needs.{needs}
 use Rattle.laws.proofs.Arithmetic.{product-le}
 use Rattle.waits.specs.Waits.{single}
+use Rattle.waits.proofs.Bounds.{ratio-small}
 use Rattle.waits.proofs.single.Statement.{statement}
 use Rattle.waits.proofs.single.Tie as tie
 
@@ -16,7 +17,10 @@ cast-result : tie.Need-cast-result
 cast-result c = search needs
 
 mul-result : tie.Need-mul-result
-mul-result c = omega (arith, product-le (c .width-ratio .result) (c .before .args .v) 255 4294967296 (omega arith) (omega arith))
+mul-result c =
+    let start = c .before in
+    let e = ratio-small (start .args .ma) (start .pre .master) (start .args .sl) in
+    omega (arith, product-le (c .width-ratio .result) (start .args .v) 8 4294967296 (omega arith) (omega arith))
 
 returns : tie.Need-returns
 unfolding single

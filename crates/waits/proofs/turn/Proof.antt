@@ -1,7 +1,7 @@
 -- `waits::turn` meets its contract: no singles for one share or none.
 -- Assumes nothing.
 use mathlib.Core.Path.{_≡_, ap₂}
-use Prim.Native.Nat.{ℕ, _+_, _-_, _*_, _^_, _≤_, _<_}
+use Prim.Native.Nat.{ℕ, _+_, _-_, _*_, _^_, _<_}
 use native.Mathlib.Omega.{arith}
 use borrow.Author.Needs.{needs}
 use Rattle.laws.proofs.Arithmetic.{product-le}
@@ -36,20 +36,18 @@ single-requires c κs = search needs
 small : (c : tie.After-single)
     → ((c .before .before .before .args .shares - 1) * c .single .result < 2 ^ 49) × (c .before .before .serve .result < 2 ^ 49)
 small c =
-    let a = c .before .before .before .args in
-    let w : a .ma .width ≤ 255 = omega arith in
-    let u : a .ma .burst ≤ 255 = omega arith in
-    let l = single-le (a .ma) (a .sl) (a .v) 255 255 4294967296 (omega arith) w u (omega arith) in
-    let p = product-le (a .shares - 1) (c .single .result) 255 (255 * 4294967296) (omega arith) (omega arith) in
-    (omega arith, omega (arith, serve-le (a .ma) (a .sl) (a .v) 255 255 4294967296 (omega arith) w u (omega arith)))
+    let start = c .before .before .before in
+    let a = start .args in
+    let legal = start .pre .0 .master in
+    let l = single-le (a .ma) legal (a .sl) (a .v) 4294967296 (omega arith) in
+    let p = product-le (a .shares - 1) (c .single .result) 99 (8 * 4294967296) (omega arith) (omega arith) in
+    (omega arith, omega (arith, serve-le (a .ma) legal (a .sl) (a .v) 4294967296 (omega arith)))
 
 mul-singles : tie.Need-mul-singles
-mul-singles c =
-    omega (arith, small c .0)
+mul-singles c = omega (arith, small c .0)
 
 add-result : tie.Need-add-result
-add-result c =
-    omega (arith, small c .0, small c .1)
+add-result c = omega (arith, small c .0, small c .1)
 
 returns-2 : tie.Need-returns-2
 unfolding turn
