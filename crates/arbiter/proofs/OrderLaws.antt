@@ -11,9 +11,11 @@ use Rattle.laws.proofs.Tests.{both}
 use Rattle.arbiter.specs.declared.Arbiter.{Arbiter}
 use Rattle.arbiter.specs.declared.Choice.{Choice}
 use Rattle.arbiter.specs.declared.Choice.the-variants.{Requester, Nobody}
+use Rattle.arbiter.specs.declared.Winner.the-variants.{Again, First}
 use Rattle.arbiter.specs.declared.Grant.the-variants.{Granted}
 use Rattle.arbiter.specs.Choosing.{above, tried, chosen}
 use Rattle.arbiter.specs.Granting.{kept, grantTo, granted}
+use Rattle.arbiter.specs.Winning.{firstOf, winner}
 
 pub above-lt : (n m : ℕ) → 0 < n → above n m < n
 unfolding above
@@ -49,6 +51,51 @@ unfolding chosen tried
 chosen-asks requests zero owner j e = let z : _≡_ {A = ℕ} 0 1 = cc in absurd (omega arith)
 chosen-asks requests (suc n) owner j e =
     tried-asks requests (suc n) (suc n) (above (suc n) owner) j (above-lt (suc n) owner (omega arith)) e
+
+-- whoever is to be granted requests
+module _ (n : ℕ) (requests : ℕ → Bool) (a : Arbiter) where
+  pub winner-again : winner n requests a ≡ Again → requests (a .owner) ≡ true
+  unfolding winner firstOf
+  winner-again e = go (requests (a .owner) && ltb 0 (a .remaining)) refl
+    where
+      none : (c : Choice) → firstOf c ≡ Again → requests (a .owner) ≡ true
+      none (Requester m) f = let z : _≡_ {A = ℕ} 0 1 = cc in absurd (omega arith)
+      none Nobody f = let z : _≡_ {A = ℕ} 0 1 = cc in absurd (omega arith)
+
+      go : (c : Bool) → (requests (a .owner) && ltb 0 (a .remaining)) ≡ c → requests (a .owner) ≡ true
+      go true q = both (requests (a .owner)) (ltb 0 (a .remaining)) q .0
+      go false q = none (chosen requests n (a .owner)) (rw (q, winner) at e)
+
+  pub winner-first : (j : ℕ) → winner n requests a ≡ First j → (requests j ≡ true) × (j < n)
+  unfolding winner firstOf
+  winner-first j e = go (requests (a .owner) && ltb 0 (a .remaining)) refl
+    where
+      found : (c : Choice) → chosen requests n (a .owner) ≡ c → firstOf c ≡ First j → (requests j ≡ true) × (j < n)
+      found (Requester m) q f = let i : m ≡ j = cc in chosen-asks requests n (a .owner) j (rw i at q)
+      found Nobody q f = let z : _≡_ {A = ℕ} 0 1 = cc in absurd (omega arith)
+
+      go : (c : Bool) → (requests (a .owner) && ltb 0 (a .remaining)) ≡ c → (requests j ≡ true) × (j < n)
+      go true q = let f : Again ≡ First j = rw (q, winner) at e in let z : _≡_ {A = ℕ} 0 1 = cc in absurd (omega arith)
+      go false q = found (chosen requests n (a .owner)) refl (rw (q, winner) at e)
+
+-- a grant looks at the beats of a requester alone
+pub granted-agree : (n : ℕ) (requests : ℕ → Bool) (shares beats others : ℕ → ℕ) (a : Arbiter)
+    → ((m : ℕ) → requests m ≡ true → beats m ≡ others m)
+    → granted n requests shares beats a ≡ granted n requests shares others a
+unfolding granted grantTo
+granted-agree n requests shares beats others a same = go (requests (a .owner) && ltb 0 (a .remaining)) refl
+  where
+    another : (c : Choice) → chosen requests n (a .owner) ≡ c → grantTo shares beats c ≡ grantTo shares others c
+    another (Requester m) e = rw (same m (chosen-asks requests n (a .owner) m e .0))
+    another Nobody e = refl
+
+    go : (c : Bool) → (requests (a .owner) && ltb 0 (a .remaining)) ≡ c
+        → cond c (Granted (a .owner) (kept (beats (a .owner)) (a .remaining - 1)))
+        (grantTo shares beats (chosen requests n (a .owner)))
+        ≡ cond c (Granted (a .owner) (kept (others (a .owner)) (a .remaining - 1)))
+        (grantTo shares others (chosen requests n (a .owner)))
+    go true q = rw (same (a .owner) (both (requests (a .owner)) (ltb 0 (a .remaining)) q .0))
+    go false q = another (chosen requests n (a .owner)) refl
 
 -- master j is granted, and r grants remain to it
 pub record Grants (n : ℕ) (requests : ℕ → Bool) (shares : ℕ → ℕ) (j r : ℕ) : Type 0 where

@@ -1,2 +1,3 @@
 pub mod Choosing
 pub mod Granting
+pub mod Winning

@@ -19,13 +19,13 @@ use Rattle.geometry.specs.Decoding.{agrees, selects, targetOf}
 use Rattle.geometry.specs.Accesses.{ratio, accesses, accessBytes, firstByte, accessOffset, wordOffset, writeLanes, slaveLanes, waitOf, ownLength}
 use Rattle.geometry.specs.Runs.{runLimit, placeOf, runOf}
 use Rattle.arbiter.specs.Choosing.{above, tried, chosen}
-use Rattle.arbiter.specs.Granting.{kept, grantTo, granted}
+use Rattle.arbiter.specs.Granting.{kept, grantTo, granted, arbiterAfter}
 use Rattle.moves.specs.Moving.{move}
 use Rattle.moves.specs.Bytes.{posted, enabled, memoryPlace, written, fetched, accessed}
 use Rattle.state.specs.Records.{noState}
 use Rattle.state.specs.Posting.{wrongBeats, unaligned, wrongLanes, unmapped, passesEnd, refusalAt, transferRefusal}
 use Rattle.state.specs.Soundness.{requests, soundTransfer, soundOwner, soundRemaining, soundService, soundRest, slotSound, soundSlot, sound}
-use Rattle.state.specs.Control.{grantAt, slotGranted, slotAfterGrant, lineOf, waits, slotWaiting, slotAccessed, slotFinished, served, stepOf, lineAfter, slotAfter, finishes, finished, maskOf, transferAfter, stateAfter, linesOf}
+use Rattle.state.specs.Control.{grantAt, slotBy, slotGranted, slotAfterGrant, lineOf, waits, slotWaiting, slotAccessed, slotFinished, served, stepOf, lineAfter, slotAfter, finishes, finished, maskOf, transferAfter, stateAfter, linesOf}
 use Rattle.state.specs.Carrying.{carriesOut, carried, carriedBy, storeAfter}
 use Rattle.state.specs.Resetting.{ownedBy, stateAtReset}
 use Rattle.state.specs.Posting.{stateWith}
@@ -49,10 +49,10 @@ unfolding
     masterLine slaveLine shareLine itemOfFields itemOf unended itemsOfPieces itemsOf mostBytes reading readText
     lowest adjacent legalLanes postLanes agrees selects targetOf
     ratio accesses accessBytes firstByte accessOffset wordOffset writeLanes slaveLanes waitOf ownLength runLimit placeOf runOf
-    above tried chosen kept grantTo granted move posted enabled memoryPlace written fetched accessed
+    above tried chosen kept grantTo granted arbiterAfter move posted enabled memoryPlace written fetched accessed
     noState wrongBeats unaligned wrongLanes unmapped passesEnd refusalAt transferRefusal
     requests soundTransfer soundOwner soundRemaining soundService soundRest slotSound soundSlot sound
-    grantAt slotGranted slotAfterGrant lineOf waits slotWaiting slotAccessed slotFinished served stepOf lineAfter slotAfter finishes
+    grantAt slotBy slotGranted slotAfterGrant lineOf waits slotWaiting slotAccessed slotFinished served stepOf lineAfter slotAfter finishes
     finished maskOf transferAfter stateAfter linesOf carriesOut carried carriedBy storeAfter
     ownedBy stateAtReset reset wrongWords requestRefusal refusalBy postRefusal stateWith post bufferAfterPost clockRefusal clock storeAfterClock
     quoted.longestAccess quoted.mostBeats quoted.single quoted.serve quoted.turn quoted.otherTurn quoted.turnsOf quoted.quotedWait quoted.serveOf

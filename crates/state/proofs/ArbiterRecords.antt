@@ -1,4 +1,4 @@
--- The slave's last owner and remaining grants after a clock are those that `arbiter::arbitrate_record` leaves in its record.
+-- A clock changes a slave's last owner and remaining grants by rule 1, once, and by no other rule.
 -- Assumes nothing.
 use mathlib.Core.Path.{_≡_, refl, _∙_, ap}
 use mathlib.Core.Bool.{Bool, true, false}
@@ -9,21 +9,22 @@ use Rattle.arbiter.specs.declared.Grant.the-variants.{Granted, Silent}
 use Rattle.arbiter.specs.Granting.{arbiterAfter}
 use Rattle.state.specs.declared.Slot.{Slot}
 use Rattle.state.specs.declared.State.{State}
-use Rattle.state.specs.Records.{slotAt}
-use Rattle.state.specs.Control.{slotGranted, slotAfterGrant, slotWaiting, slotAccessed, slotFinished, stepOf, stateAfter, grantAt}
-use Rattle.state.specs.ArbiterRecords.{recordOf, recordAfter}
+use Rattle.state.specs.Records.{slotAt, recordOf}
+use Rattle.state.specs.Control.{slotBy, slotGranted, slotAfterGrant, slotWaiting, slotAccessed, slotFinished}
+use Rattle.state.specs.Control.{stepOf, stateAfter, grantAt}
+use Rattle.state.specs.ArbiterRecords.{recordAfter}
 use Rattle.state.proofs.StateLaws.{slot-after}
 use Rattle.state.proofs.StepLaws.{Outcome, rests, waiting, works, ends, outcome, grant-serving, grant-given}
 
 -- rule 1 changes a slot's record as the arbiter's rule says
 pub granted-record : (slot : Slot) (g : Grant) → recordOf (slotGranted slot g) ≡ arbiterAfter (recordOf slot) g
-unfolding recordOf slotGranted arbiterAfter
+unfolding slotGranted slotBy
 granted-record slot (Granted m r) = refl
 granted-record slot Silent = refl
 
 -- rules 2 and 3 leave the record
 step-record : (b : Board) (st : State) (s : ℕ) → recordOf (stepOf b st s .slot) ≡ recordOf (slotAfterGrant b st s)
-unfolding recordOf slotWaiting slotAccessed slotFinished
+unfolding slotWaiting slotAccessed slotFinished
 step-record b st s = go (outcome b st s)
   where
     go : Outcome b st s → recordOf (stepOf b st s .slot) ≡ recordOf (slotAfterGrant b st s)

@@ -19,6 +19,7 @@ use Rattle.geometry.specs.declared.Transfer.{Transfer}
 use Rattle.geometry.specs.Accesses.{noTransfer, accesses, waitOf}
 use Rattle.arbiter.specs.declared.Grant.{Grant}
 use Rattle.arbiter.specs.declared.Grant.the-variants.{Granted, Silent}
+use Rattle.arbiter.specs.Granting.{arbiterAfter}
 use Rattle.arbiter.proofs.OrderLaws.{Grants, granted-facts}
 use Rattle.state.specs.declared.Slot.{Slot}
 use Rattle.state.specs.declared.State.{State}
@@ -26,7 +27,7 @@ use Rattle.state.specs.Records.{transferAt, slotAt}
 use Rattle.state.specs.Posting.{transferRefusal}
 use Rattle.state.specs.Soundness.{requests, soundTransfer, slotSound, soundSlot, sound}
 use Rattle.state.specs.Soundness.{soundOwner, soundRemaining, soundService, soundRest}
-use Rattle.state.specs.Control.{grantAt, slotGranted, slotAfterGrant, slotWaiting, slotAccessed, slotFinished}
+use Rattle.state.specs.Control.{grantAt, slotBy, slotGranted, slotAfterGrant, slotWaiting, slotAccessed, slotFinished}
 use Rattle.state.specs.Control.{stepOf, finished, stateAfter}
 use Rattle.state.specs.Resetting.{ownedBy, stateAtReset}
 use Rattle.state.specs.Posting.{stateWith}
@@ -267,7 +268,7 @@ module _ (b : Board) (st : State) (legal : Legal b) (x : Sound b st) where
 
   -- after rule 1
   pub grant-sound : (s : ℕ) → s < b .«slave_count» → SlotSound b st s (slotAfterGrant b st s)
-  unfolding slotGranted
+  unfolding slotGranted slotBy arbiterAfter
   grant-sound s h = go (slotAt st s .serving) refl
     where
       given : (g : Grant) → grantAt b st s ≡ g → slotAt st s .serving ≡ false → SlotSound b st s (slotGranted (slotAt st s) g)

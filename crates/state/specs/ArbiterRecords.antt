@@ -1,18 +1,13 @@
--- A slave's arbiter record, and how one clock changes it.
+-- How one clock changes a slave's arbiter record.
 -- Assumes nothing.
 use mathlib.Core.Bool.{cond}
 use Prim.Native.Nat.{ℕ}
 use Rattle.board.specs.declared.Board.{Board}
 use Rattle.arbiter.specs.declared.Arbiter.{Arbiter}
 use Rattle.arbiter.specs.Granting.{arbiterAfter}
-use Rattle.state.specs.declared.Slot.{Slot}
 use Rattle.state.specs.declared.State.{State}
-use Rattle.state.specs.Records.{slotAt}
+use Rattle.state.specs.Records.{slotAt, recordOf}
 use Rattle.state.specs.Control.{grantAt}
-
--- "Each remembers its last owner, the grants remaining to it"
-unfoldable pub recordOf : Slot → Arbiter
-recordOf slot = record { owner = slot .owner; remaining = slot .remaining }
 
 -- "One clock changes a slave's last owner and remaining grants by these rules.": rule 1 where slave s does not serve; while
 -- it serves, neither changes

@@ -12,27 +12,32 @@ use Rattle.board.specs.Records.{masterAt, slaveAt, sharesAt}
 use Rattle.geometry.specs.declared.Transfer.{Transfer}
 use Rattle.geometry.specs.Accesses.{noTransfer, accesses, wordOffset, slaveLanes, waitOf}
 use Rattle.geometry.specs.Runs.{runOf, placeOf}
+use Rattle.arbiter.specs.declared.Arbiter.{Arbiter}
 use Rattle.arbiter.specs.declared.Grant.{Grant}
 use Rattle.arbiter.specs.declared.Grant.the-variants.{Granted, Silent}
-use Rattle.arbiter.specs.Granting.{granted}
+use Rattle.arbiter.specs.Granting.{granted, arbiterAfter}
 use Rattle.state.specs.declared.Slot.{Slot}
 use Rattle.state.specs.declared.State.{State}
 use Rattle.state.specs.declared.Line.{Line}
 use Rattle.state.specs.declared.Step.{Step}
-use Rattle.state.specs.Records.{noLine, transferAt, slotAt}
+use Rattle.state.specs.Records.{noLine, transferAt, slotAt, recordOf}
 use Rattle.state.specs.Soundness.{requests}
 
 -- Rule 1. The grant of slave s, which is not serving
 unfoldable pub grantAt : Board → State → ℕ → Grant
 grantAt b st s =
     granted (b .«master_count») (requests b st s) (λ m. sharesAt b m s) (λ m. transferAt st m .beats)
-    (record { owner = slotAt st s .owner; remaining = slotAt st s .remaining })
+    (recordOf (slotAt st s))
 
--- "The granted master is the last owner from then on."; "With none, remaining becomes 0."
+-- the slot by its arbiter record a after the grant g: a grant begins a service, with none the slave does not serve
+unfoldable pub slotBy : Slot → Arbiter → Grant → Slot
+slotBy slot a (Granted m r) = record { owner = a .owner; remaining = a .remaining; serving = true; done = 0; waited = 0 }
+slotBy slot a Silent =
+    record { owner = a .owner; remaining = a .remaining; serving = false; done = slot .done; waited = slot .waited }
+
+-- "One clock changes a slave's last owner and remaining grants by these rules."
 unfoldable pub slotGranted : Slot → Grant → Slot
-slotGranted slot (Granted m r) = record { owner = m; remaining = r; serving = true; done = 0; waited = 0 }
-slotGranted slot Silent =
-    record { owner = slot .owner; remaining = 0; serving = false; done = slot .done; waited = slot .waited }
+slotGranted slot g = slotBy slot (arbiterAfter (recordOf slot) g) g
 
 -- "The grant and the first cycle fall in the same clock.": slave s after rule 1, before rules 2 and 3
 unfoldable pub slotAfterGrant : Board → State → ℕ → Slot

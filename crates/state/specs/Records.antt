@@ -5,6 +5,7 @@ use Prim.Native.Nat.{ℕ}
 use lib.ListN.{getD, replicate}
 use Rattle.geometry.specs.declared.Transfer.{Transfer}
 use Rattle.geometry.specs.Accesses.{noTransfer}
+use Rattle.arbiter.specs.declared.Arbiter.{Arbiter}
 use Rattle.state.specs.declared.Slot.{Slot}
 use Rattle.state.specs.declared.State.{State}
 use Rattle.state.specs.declared.Line.{Line}
@@ -24,3 +25,7 @@ transferAt st m = getD (st .transfers) m noTransfer
 
 abbrev pub slotAt : State → ℕ → Slot
 slotAt st s = getD (st .slots) s noSlot
+
+-- "Each remembers its last owner, the grants remaining to it": a slave's arbiter record
+abbrev pub recordOf : Slot → Arbiter
+recordOf slot = record { owner = slot .owner; remaining = slot .remaining }

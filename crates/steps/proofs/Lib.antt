@@ -1,2 +1,3 @@
+pub mod RuleLaws
 pub mod ServeLaws
 pub mod PlaceLaws

@@ -16,7 +16,8 @@ use Rattle.geometry.specs.declared.Transfer.{Transfer}
 use Rattle.geometry.specs.Accesses.{accesses}
 use Rattle.geometry.proofs.DecodeLaws.{span-of}
 use Rattle.geometry.proofs.AccessLaws.{width-pos, width-le, base-aligned, first-in-word, first-byte-within}
-use Rattle.geometry.proofs.AccessLaws.{word-within, in-word}
+use Rattle.geometry.proofs.AccessLaws.{word-within, in-word, ratio-le, accesses-le}
+use Rattle.geometry.proofs.PowerLaws.{legal-pair}
 use Rattle.moves.specs.Bytes.{Store, bufferLength, memoryPlace}
 use Rattle.moves.specs.Reaching.{Reached}
 use Rattle.state.specs.declared.State.{State}
@@ -43,8 +44,13 @@ module _ (b : Board) (legal : Legal b) (m s : ℕ) (t : Transfer) (known : m < b
       let sl = legal .slave s (ok .within) in
       let span = span-of (slaveAt b s .span) (sl .span) in
       let far : slaveAt b s .span ≤ 65536 = span-bound (slaveAt b s .span) (sl .span) .1 in
+      let burst : masterAt b m .burst ≤ 64 = burst-bound (masterAt b m .burst) (legal .master m known .burst) .1 in
+      let each = ratio-le (masterAt b m) (slaveAt b s) 8 (omega arith) (width-le (masterAt b m .width) wm) in
+      let most = accesses-le (masterAt b m) (slaveAt b s) t 64 (omega (arith, ok .few)) in
       record {
+        pair = legal-pair (masterAt b m) (slaveAt b s) (legal .master m known) sl;
         left = more;
+        few = omega arith;
         word = in-word (masterAt b m) (slaveAt b s) wm (sl .width) t a (ok .aligned)
             (base-aligned (slaveAt b s .base) (slaveAt b s .span) (slaveAt b s .width) (sl .aligned) (sl .span) (sl .width));
         offset = omega (
@@ -54,8 +60,8 @@ module _ (b : Board) (legal : Legal b) (m s : ℕ) (t : Transfer) (known : m < b
         );
       }
 
-  pub accepted-reached : (d : Store) → b .«master_count» ≤ 8 → length (d .memory) ≡ memoryLength b → length (d .buffer) ≡ bufferLength
-      → Reached (masterAt b m) (slaveAt b s) t m (startOf b s) a d
+  pub accepted-reached : (d : Store) → b .«master_count» ≤ 8 → length (d .memory) ≡ memoryLength b
+      → length (d .buffer) ≡ bufferLength → Reached (masterAt b m) (slaveAt b s) t m (startOf b s) a d
   unfolding memoryPlace
   accepted-reached d few p q =
       let wm = legal .master m known .width in
@@ -70,8 +76,7 @@ module _ (b : Board) (legal : Legal b) (m s : ℕ) (t : Transfer) (known : m < b
         part = omega arith;
         address = ok .low;
         memory = omega (arith, ends, board.end-inside b s (ok .within));
-        some = width-pos (masterAt b m .width) wm;
-        few = width-le (masterAt b m .width) wm;
+        width = wm;
         word = first-in-word (masterAt b m) (slaveAt b s) wm ws a;
       }
 
@@ -83,7 +88,8 @@ module _ (b : Board) (st : State) (legal : Legal b) (x : Sound b st) (s : ℕ) (
   grant-placed =
       let v = grant-sound b st legal x s h .serving on in
       let r = requester b st legal x s (slotAfterGrant b st s .owner) (v .asks) in
-      accepted-placed b legal (slotAfterGrant b st s .owner) s (transferAt st (slotAfterGrant b st s .owner)) (r .0) (r .1) _ (v .done)
+      accepted-placed b legal (slotAfterGrant b st s .owner) s (transferAt st (slotAfterGrant b st s .owner)) (r .0) (r .1) _
+      (v .done)
 
   pub grant-reached : (d : Store) → length (d .memory) ≡ memoryLength b → length (d .buffer) ≡ bufferLength
       → Reached (masterAt b (slotAfterGrant b st s .owner)) (slaveAt b s) (transferAt st (slotAfterGrant b st s .owner))
@@ -91,5 +97,5 @@ module _ (b : Board) (st : State) (legal : Legal b) (x : Sound b st) (s : ℕ) (
   grant-reached d p q =
       let v = grant-sound b st legal x s h .serving on in
       let r = requester b st legal x s (slotAfterGrant b st s .owner) (v .asks) in
-      accepted-reached b legal (slotAfterGrant b st s .owner) s (transferAt st (slotAfterGrant b st s .owner)) (r .0) (r .1) _ (v .done)
-      d (legal .fewMasters) p q
+      accepted-reached b legal (slotAfterGrant b st s .owner) s (transferAt st (slotAfterGrant b st s .owner)) (r .0) (r .1) _
+      (v .done) d (legal .fewMasters) p q

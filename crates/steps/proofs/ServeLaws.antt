@@ -1,87 +1,45 @@
 -- One slave's clock from its own parts: what each path of the code gives, and that on the parts of a board and a state it is
 -- the clock of the definition.
 -- Assumes nothing.
-use mathlib.Core.Path.{_≡_, refl, _∙_, fun-ext}
+use mathlib.Core.Path.{_≡_, sym, _∙_}
 use mathlib.Core.Bool.{Bool, true, false, cond}
-use mathlib.Core.List.{List}
-use Prim.Native.Nat.{ℕ, zero, suc, _+_, _≤_, _<_}
-use native.Mathlib.Omega.{arith}
-use lib.ListN.{getD}
-use borrow.Author.Tests.{lt-ltb, le-ltb}
-use Rattle.laws.specs.Bits.{bit}
-use Rattle.laws.proofs.BitLaws.{bit-above}
+use Prim.Native.Nat.{ℕ, _+_, _≤_, _<_}
+use borrow.Author.Tests.{lt-ltb, le-ltb, ltb-true, ltb-false}
 use Rattle.board.specs.declared.Master.{Master}
 use Rattle.board.specs.declared.Slave.{Slave}
 use Rattle.board.specs.declared.Board.{Board}
-use Rattle.board.specs.Records.{masterAt, slaveAt, sharesAt, startOf}
+use Rattle.board.specs.Records.{masterAt, slaveAt, startOf}
 use Rattle.geometry.specs.declared.Transfer.{Transfer}
 use Rattle.geometry.specs.Accesses.{accesses, waitOf}
-use Rattle.arbiter.specs.declared.Grant.{Grant}
-use Rattle.arbiter.specs.declared.Grant.the-variants.{Granted, Silent}
-use Rattle.arbiter.specs.declared.Choice.the-variants.{Nobody}
-use Rattle.arbiter.specs.Choosing.{above, tried, chosen}
-use Rattle.arbiter.specs.Granting.{grantTo, granted}
 use Rattle.moves.specs.Bytes.{Store, accessed}
 use Rattle.state.specs.declared.Slot.{Slot}
 use Rattle.state.specs.declared.State.{State}
 use Rattle.state.specs.declared.Line.{Line}
 use Rattle.state.specs.declared.Step.{Step}
-use Rattle.state.specs.Records.{noLine, transferAt, slotAt}
-use Rattle.state.specs.Soundness.{requests}
-use Rattle.state.specs.Control.{grantAt, slotGranted, slotAfterGrant, lineOf, waits}
+use Rattle.state.specs.Records.{noLine, transferAt}
+use Rattle.state.specs.Control.{slotAfterGrant, lineOf, waits}
 use Rattle.state.specs.Control.{slotWaiting, slotAccessed, slotFinished, served, stepOf}
 use Rattle.state.specs.Carrying.{carriesOut, carried}
-use Rattle.steps.specs.Serving.{slotAsked, stepFrom, carriedFrom}
+use Rattle.steps.specs.Serving.{stepFrom, carriedFrom}
 
--- ---- rule 1
-
-pub after-granted : (slot : Slot) {g : Grant} {m r : ℕ} → g ≡ Granted m r
-    → record { owner = m; remaining = r; serving = true; done = 0; waited = 0 } ≡ slotGranted slot g
-unfolding slotGranted
-after-granted slot e = rw e
-
-pub after-silent : (slot : Slot) {g : Grant} → g ≡ Silent
-    → record { owner = slot .owner; remaining = 0; serving = false; done = slot .done; waited = slot .waited }
-    ≡ slotGranted slot g
-unfolding slotGranted
-after-silent slot e = rw e
-
-module _ (n requests : ℕ) (shares beats : List ℕ) (slot : Slot) where
-  pub asked-serving : slot .serving ≡ true → slot ≡ slotAsked n requests shares beats slot
-  unfolding slotAsked
-  asked-serving e = rw e
-
-  pub asked-resting : {g : Grant} {r : Slot} → slot .serving ≡ false
-      → g
-      ≡ granted n (bit requests) (λ m. getD shares m 0) (λ m. getD beats m 0)
-      (record { owner = slot .owner; remaining = slot .remaining })
-      → r ≡ slotGranted slot g → r ≡ slotAsked n requests shares beats slot
-  unfolding slotAsked
-  asked-resting e f q = q ∙ rw (e, f)
-
--- nobody requests
-none-tried : (requests : ℕ → Bool) → ((m : ℕ) → requests m ≡ false) → (n m k : ℕ) → tried requests n m k ≡ Nobody
-unfolding tried
-none-tried requests f n m zero = refl
-none-tried requests f n m (suc k) = rw (f m) (none-tried requests f n (above n m) k)
-
-pub asked-nobody : (n : ℕ) (shares beats : List ℕ) (slot : Slot) {requests : ℕ} {r : Slot} → slot .serving ≡ false → requests ≡ 0
-    → r ≡ slotGranted slot Silent → r ≡ slotAsked n requests shares beats slot
-unfolding slotAsked granted chosen grantTo
-asked-nobody n shares beats slot {requests} off e q =
-    let none : (m : ℕ) → bit 0 m ≡ false = λ m. bit-above 0 0 m (omega arith) (omega arith) in
-    q ∙ rw (off, e, none (slot .owner), none-tried (bit 0) none n (above n (slot .owner)) n, grantTo)
-
--- ---- rules 2 and 3
-
--- a wait is a byte, so that waits passed stay one
-pub wait-byte : (sl : Slave) (t : Transfer) → sl .«read_wait» < 256 → sl .«write_wait» < 256 → waitOf sl t < 256
+-- a wait is a number of 32 bits, so that waits passed stay one
+pub wait-fits : (sl : Slave) (t : Transfer) (n : ℕ) → sl .«read_wait» < n → sl .«write_wait» < n → waitOf sl t < n
 unfolding waitOf
-wait-byte sl t r w = go (t .write)
+wait-fits sl t n r w = go (t .write)
   where
-    go : (b : Bool) → cond b (sl .«write_wait») (sl .«read_wait») < 256
+    go : (b : Bool) → cond b (sl .«write_wait») (sl .«read_wait») < n
     go true = w
     go false = r
+
+-- what the answer of the test tells
+module _ (sl : Slave) (t : Transfer) (slot : Slot) {waiting : Bool} (e : waiting ≡ waits sl t slot) where
+  pub waits-yes : waiting ≡ true → slot .waited < waitOf sl t
+  unfolding waits
+  waits-yes q = ltb-true (slot .waited) (waitOf sl t) (sym e ∙ q)
+
+  pub waits-no : waiting ≡ false → waitOf sl t ≤ slot .waited
+  unfolding waits
+  waits-no q = ltb-false (slot .waited) (waitOf sl t) (sym e ∙ q)
 
 module _ (ma : Master) (sl : Slave) (t : Transfer) (slot : Slot) {line : Line} where
   pub step-waiting : slot .waited < waitOf sl t → line ≡ lineOf ma sl t slot 1
@@ -128,17 +86,6 @@ module _ (ma : Master) (sl : Slave) (t : Transfer) (slot : Slot) where
 -- ---- on the parts of a board and a state
 
 module _ (b : Board) (st : State) (s : ℕ) where
-  -- the mask, the shares and the beats that the code is handed
-  pub asked-is : (mask : ℕ) (shares beats : List ℕ) → ((m : ℕ) → bit mask m ≡ requests b st s m)
-      → ((m : ℕ) → getD shares m 0 ≡ sharesAt b m s) → ((m : ℕ) → getD beats m 0 ≡ transferAt st m .beats)
-      → slotAsked (b .«master_count») mask shares beats (slotAt st s) ≡ slotAfterGrant b st s
-  unfolding slotAsked slotAfterGrant grantAt
-  asked-is mask shares beats p q r =
-      let f : bit mask ≡ requests b st s = fun-ext p in
-      let g : _≡_ {A = ℕ → ℕ} (λ m. getD shares m 0) (λ m. sharesAt b m s) = fun-ext q in
-      let h : _≡_ {A = ℕ → ℕ} (λ m. getD beats m 0) (λ m. transferAt st m .beats) = fun-ext r in
-      rw (f, g, h)
-
   -- the slot after rule 1 is the one to go on from
   pub step-is : {x : Slot} → x ≡ slotAfterGrant b st s
       → stepFrom (masterAt b (x .owner)) (slaveAt b s) (transferAt st (x .owner)) x ≡ stepOf b st s

@@ -1,6 +1,7 @@
 // One slave's clock: the grant, the wait or the access, and the line that it shows.
 use arbiter::Arbiter;
 use arbiter::Grant;
+use arbiter::Winner;
 use board::Master;
 use board::Slave;
 use geometry::Transfer;
@@ -9,28 +10,39 @@ use state::Slot;
 use state::Step;
 ghost use mathlib.Core.Path.{_≡_};
 ghost use mathlib.Core.Bool.{true};
-ghost use Prim.Native.Nat.{_-_};
-ghost use Rattle.geometry.specs.Accesses.{waitOf};
+ghost use Rattle.arbiter.specs.Winning.{grantBy};
 ghost use Rattle.moves.specs.Reaching.{Reached};
-ghost use Rattle.state.specs.Records.{noLine};
-ghost use Rattle.state.specs.Control.{slotGranted, lineOf, served};
-ghost use Rattle.steps.specs.Serving.{Placed, slotAsked, stepFrom, carriedFrom};
+ghost use Rattle.state.specs.Records.{recordOf};
+ghost use Rattle.state.specs.Control.{slotBy, slotGranted, lineOf, waits, served};
+ghost use Rattle.steps.specs.Serving.{Placed, Serves, Served, carriedFrom};
 
-// The slot after a grant, or after none.
-pub fn slot_granted(slot: Slot, g: Grant) -> Slot
-    ensures { λ r. ⌜ r ≡ slotGranted slot g ⌝ }
+// The slave's arbiter record.
+pub fn record_of(slot: Slot) -> Arbiter
+    ensures { λ r. ⌜ r ≡ recordOf slot ⌝ }
 {
+    Arbiter {
+        owner: slot.owner,
+        remaining: slot.remaining,
+    }
+}
+
+// The slot by its record after a grant, or after none.
+fn slot_by(slot: Slot, a: Arbiter, g: Grant) -> Slot
+    ensures { λ r. ⌜ r ≡ slotBy slot a g ⌝ }
+{
+    let owner = a.owner;
+    let remaining = a.remaining;
     match g {
-        Grant::Granted(m, remaining) => Slot {
-            owner: m,
+        Grant::Granted(m, left) => Slot {
+            owner: owner,
             remaining: remaining,
             serving: true,
             done: 0,
             waited: 0,
         },
         Grant::Silent => Slot {
-            owner: slot.owner,
-            remaining: 0,
+            owner: owner,
+            remaining: remaining,
             serving: false,
             done: slot.done,
             waited: slot.waited,
@@ -38,37 +50,18 @@ pub fn slot_granted(slot: Slot, g: Grant) -> Slot
     }
 }
 
-// Rule 1: the masters' shares are those at this slave, the beats those of each one's transfer.
-pub fn slot_asked(slot: Slot, n: u8, requests: u8, shares: [u8; 8], beats: [u8; 8]) -> Slot
-    ensures { λ r. ⌜ r ≡ slotAsked n requests shares beats slot ⌝ }
+// Rule 1 at a slave that is not serving, by the winner's shares at it and the beats of the winner's transfer: the slave's
+// record is lent to the rule, and stands in the slot after it.
+pub fn slot_ruled(slot: Slot, w: Winner, shares: u32, beats: u32) -> Slot
+    ensures { λ r. ⌜ r ≡ slotGranted slot (grantBy (recordOf slot) w shares beats) ⌝ }
 {
-    if slot.serving {
-        return slot;
-    }
-    let last = Arbiter {
-        owner: slot.owner,
-        remaining: slot.remaining,
-    };
-    let g = arbiter::arbitrate(n, requests, shares, beats, last);
-    slot_granted(slot, g)
-}
-
-// What a slave shows that does nothing.
-pub fn no_line() -> Line
-    ensures { λ r. ⌜ r ≡ noLine ⌝ }
-{
-    Line {
-        phase: 0,
-        owner: 0,
-        offset: 0,
-        lanes: 0,
-        run: 0,
-        place: 0,
-    }
+    let mut a = record_of(slot);
+    let g = arbiter::arbitrate_record(&mut a, w, shares, beats);
+    slot_by(slot, a, g)
 }
 
 // What the slave shows of the access in hand.
-fn line_of(ma: Master, sl: Slave, t: Transfer, slot: Slot, phase: u8) -> Line
+fn line_of(ma: Master, sl: Slave, t: Transfer, slot: Slot, phase: u32) -> Line
     requires { ⌜ Placed ma sl t (slot .done) ⌝ }
     ensures { λ r. ⌜ r ≡ lineOf ma sl t slot phase ⌝ }
 {
@@ -87,31 +80,27 @@ fn line_of(ma: Master, sl: Slave, t: Transfer, slot: Slot, phase: u8) -> Line
     }
 }
 
-// Rule 2: how many clocks the access in hand has still to wait. Each access waits anew: waits passed return to 0 with it.
-fn waits_left(sl: Slave, t: Transfer, slot: Slot) -> u8
-    ensures { λ r. ⌜ r ≡ waitOf sl t - slot .waited ⌝ }
+// Rule 2: whether the access in hand has still to wait. Each access waits anew: waits passed return to 0 with it.
+fn still_waits(sl: Slave, t: Transfer, slot: Slot) -> bool
+    ensures { λ r. ⌜ r ≡ waits sl t slot ⌝ }
 {
-    let wait = geometry::wait_of(sl, t);
-    if slot.waited < wait {
-        wait - slot.waited
-    } else {
-        0
-    }
+    let waited = slot.waited;
+    waited < geometry::wait_of(sl, t)
 }
 
 // Rules 2 and 3 at a slave that serves.
-fn served_step(ma: Master, sl: Slave, t: Transfer, slot: Slot) -> Step
-    requires { ⌜ Placed ma sl t (slot .done) ⌝ }
+fn served_step(ma: Master, sl: Slave, t: Transfer, slot: Slot, waiting: bool) -> Step
+    requires { ⌜ (Placed ma sl t (slot .done)) × (waiting ≡ waits sl t slot) ⌝ }
     ensures { λ r. ⌜ r ≡ served ma sl t slot ⌝ }
 {
     let mut after = slot;
     after.serving = true;
-    if 0 < waits_left(sl, t, slot) {
+    if waiting {
         after.waited = slot.waited + 1;
-        let waiting = line_of(ma, sl, t, slot, 1);
+        let shown = line_of(ma, sl, t, slot, 1);
         return Step {
             slot: after,
-            line: waiting,
+            line: shown,
             finished: false,
         };
     }
@@ -119,7 +108,7 @@ fn served_step(ma: Master, sl: Slave, t: Transfer, slot: Slot) -> Step
     let total = geometry::access_count(ma, sl, t);
     let done = slot.done + 1;
     after.waited = 0;
-    if done < total {
+    if (done as u64) < total {
         after.done = done;
         return Step {
             slot: after,
@@ -136,23 +125,31 @@ fn served_step(ma: Master, sl: Slave, t: Transfer, slot: Slot) -> Step
     }
 }
 
-// Rules 2 and 3: a slave that does not serve shows nothing.
-pub fn step_from(ma: Master, sl: Slave, t: Transfer, slot: Slot) -> Step
-    requires { ⌜ (slot .serving ≡ true → Placed ma sl t (slot .done)) ⌝ }
-    ensures { λ r. ⌜ r ≡ stepFrom ma sl t slot ⌝ }
+// The bytes of the access that the slave carries out in this clock, if it does; its span starts at `start`.
+fn carry_slot(
+    ma: Master,
+    sl: Slave,
+    t: Transfer,
+    slot: Slot,
+    waiting: bool,
+    start: usize,
+    memory: &mut [u8],
+    buffer: &mut [u8],
+)
+    requires { ⌜ (waiting ≡ waits sl t slot) × (slot .serving ≡ true)
+        × Reached ma sl t (slot .owner) start (slot .done) (record { memory = now memory; buffer = now buffer }) ⌝ }
+    ensures { λ r. ⌜ record { memory = now (memory .exit); buffer = now (buffer .exit) }
+        ≡ carriedFrom ma sl t slot start (record { memory = now (memory .entry); buffer = now (buffer .entry) }) ⌝ }
 {
-    if slot.serving {
-        return served_step(ma, sl, t, slot);
+    if waiting {
+        return;
     }
-    Step {
-        slot: slot,
-        line: no_line(),
-        finished: false,
-    }
+    let m = slot.owner as usize;
+    moves::carry_access(ma, sl, t, m, start, slot.done, memory, buffer);
 }
 
-// The bytes of the access that the slave carries out in this clock, if it does; its span starts at `start`.
-pub fn carry_slot(
+// One clock of a slave that serves. Whether it still waits is asked once, for its step and for its bytes.
+pub fn serve(
     ma: Master,
     sl: Slave,
     t: Transfer,
@@ -160,16 +157,12 @@ pub fn carry_slot(
     start: usize,
     memory: &mut [u8],
     buffer: &mut [u8],
-)
-    requires { ⌜ (slot .serving ≡ true
-        → Reached ma sl t (slot .owner) start (slot .done) (record { memory = now memory; buffer = now buffer })) ⌝ }
-    ensures { λ r. ⌜ record { memory = now (memory .exit); buffer = now (buffer .exit) }
-        ≡ carriedFrom ma sl t slot start (record { memory = now (memory .entry); buffer = now (buffer .entry) }) ⌝ }
+) -> Step
+    requires { ⌜ Serves ma sl t slot start (record { memory = now memory; buffer = now buffer }) ⌝ }
+    ensures { λ r. ⌜ Served ma sl t slot start (record { memory = now (memory .entry); buffer = now (buffer .entry) })
+        (record { memory = now (memory .exit); buffer = now (buffer .exit) }) r ⌝ }
 {
-    if slot.serving {
-        if waits_left(sl, t, slot) == 0 {
-            let m = slot.owner as usize;
-            moves::carry_access(ma, sl, t, m, start, slot.done, memory, buffer);
-        }
-    }
+    let waiting = still_waits(sl, t, slot);
+    carry_slot(ma, sl, t, slot, waiting, start, memory, buffer);
+    served_step(ma, sl, t, slot, waiting)
 }

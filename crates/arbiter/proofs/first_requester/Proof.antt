@@ -34,7 +34,9 @@ loop-less c = search needs
 
 -- src/lib.rt:54:9
 loop-again : tie.Need-loop-again Inv-loop μ-loop
-loop-again c = turn-on _ _ _ _ _ _ (c .before .before .before .before .loop .inv) (c .before .before .before .if1 .left) (c .before .before .next-master .ensures) (sym (c .before .is-requesting .ensures) ∙ c .if2 .left)
+loop-again c = let a = c .before .before in
+    turn-on _ _ _ _ _ _ (a .before .before .loop .inv) (a .before .if1 .left) (a .next-master .ensures)
+    (sym (c .before .is-requesting .ensures) ∙ c .if2 .left)
 
 -- src/lib.rt:49:1
 returns : tie.Need-returns Inv-loop μ-loop
@@ -44,7 +46,9 @@ returns c = sym (c .before .loop .inv ∙ tried-none _ _ _ _ (c .if1 .taken))
 -- src/lib.rt:49:1
 returns-2 : tie.Need-returns-2 Inv-loop μ-loop
 unfolding chosen
-returns-2 c = turn-found _ _ _ _ _ _ (c .before .before .before .before .loop .inv) (c .before .before .before .if1 .left) (c .before .before .next-master .ensures) (sym (c .before .is-requesting .ensures) ∙ c .if2 .taken)
+returns-2 c = let a = c .before .before in
+    turn-found _ _ _ _ _ _ (a .before .before .loop .inv) (a .before .if1 .left) (a .next-master .ensures)
+    (sym (c .before .is-requesting .ensures) ∙ c .if2 .taken)
 
 pub first-requester-spec : {M : Type 1} → statement M
 first-requester-spec =

@@ -7,7 +7,7 @@ use Rattle.arbiter.proofs.is_requesting.Tie as tie
 
 -- src/lib.rt:32:9
 returns : tie.Need-returns
-returns c = sym (bit-above 8 _ _ (c .before .fits .requests .fits) (c .if1 .taken))
+returns c = sym (bit-above 32 _ _ (c .before .fits .requests .fits) (c .if1 .taken))
 
 -- src/lib.rt:34:6
 shr-result : tie.Need-shr-result

@@ -1,32 +1,34 @@
+-- `steps::line_of` meets its contract: the line of the access in hand.
+-- Assumes nothing.
 use Rattle.state.specs.Control.{lineOf}
 use borrow.Author.Needs.{needs}
 use Rattle.steps.proofs.line_of.Statement.{statement}
 use Rattle.steps.proofs.line_of.Tie as tie
 
--- src/steps.rt:59:9
 word-offset-requires : tie.Need-word-offset-requires
 word-offset-requires c κs = search needs
 
--- src/steps.rt:60:9
 lanes-of-requires : tie.Need-lanes-of-requires
 lanes-of-requires c κs = search needs
 
--- src/steps.rt:61:9
 run-of-requires : tie.Need-run-of-requires
 run-of-requires c κs = search needs
 
--- src/steps.rt:62:9
 place-of-requires : tie.Need-place-of-requires
 place-of-requires c κs = search needs
 
--- src/steps.rt:66:17
 cast-t11 : tie.Need-cast-t11
 cast-t11 c = search needs
 
--- src/steps.rt:54:1
 returns : tie.Need-returns
 unfolding lineOf
-returns c = rw (c .before .before .before .word-offset .ensures, c .before .before .lanes-of .ensures, c .before .run-of .ensures, c .place-of .ensures)
+returns c =
+    rw (
+      c .before .before .before .word-offset .ensures,
+      c .before .before .lanes-of .ensures,
+      c .before .run-of .ensures,
+      c .place-of .ensures,
+    )
 
 pub line-of-spec : {M : Type 1} → statement M
 line-of-spec =
