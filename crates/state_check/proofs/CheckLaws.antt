@@ -2,33 +2,35 @@
 -- Assumes nothing.
 use mathlib.Core.Path.{_≡_, refl, sym, ap, _∙_}
 use mathlib.Core.Bool.{Bool, true, false, cond, _&&_, _||_, true≢false}
-use mathlib.Core.List.{List, map}
-use Prim.Native.Nat.{ℕ, _+_, _%_, _≤_, _<_}
+use mathlib.Core.List.{List}
+use Prim.Native.Nat.{ℕ, _+_, _≤_, _<_}
 use native.Mathlib.Numerals.{add-one}
 use native.Mathlib.Omega.{arith}
 use lib.Dec.{ltb, leb, eqb}
-use lib.ListN.{length, getD, length-map}
+use lib.ListN.{length, getD, set}
 use borrow.Author.Tests.{lt-ltb, le-ltb, eqb-true, eqb-false}
-use Rattle.laws.specs.Lists.{every}
-use Rattle.laws.proofs.TableLaws.{every-at, getD-table}
+use Rattle.laws.specs.Lists.{member, every}
+use Rattle.laws.proofs.TableLaws.{every-at}
+use Rattle.laws.proofs.FillLaws.{filled, filled-next, filled-all}
 use Rattle.board.specs.declared.Master.{Master}
 use Rattle.board.specs.declared.Slave.{Slave}
 use Rattle.board.specs.declared.Board.{Board}
-use Rattle.board.specs.Records.{noSlave, masterAt, slaveAt, sharesAt}
+use Rattle.board.specs.Records.{masterAt, slaveAt, sharesAt}
+use Rattle.board.specs.Rules.{widths}
 use Rattle.board.specs.Items.{checkBoard}
 use Rattle.board.proofs.Accepted.{accepted-legal}
 use Rattle.geometry.specs.declared.Transfer.{Transfer}
 use Rattle.geometry.specs.Accesses.{accesses, waitOf}
 use Rattle.geometry.specs.Decoding.{targetOf}
+use Rattle.geometry.specs.Pairs.{Widths}
 use Rattle.state.specs.declared.Slot.{Slot}
 use Rattle.state.specs.declared.State.{State}
 use Rattle.state.specs.Records.{transferAt, slotAt}
-use Rattle.state.specs.Posting.{refusalAt}
+use Rattle.state.specs.Posting.{transferRefusal}
 use Rattle.state.specs.Soundness.{soundTransfer, soundOwner, soundRemaining, soundService, soundRest, slotSound, soundSlot}
-use Rattle.transfers.specs.Targets.{targetIn, targetsIn}
-use Rattle.state_check.specs.Parts.{heldSound}
+use Rattle.transfers.specs.Targets.{heldTarget, targetIn, targetsIn}
+use Rattle.state_check.specs.Parts.{heldSound, Held, Decoded}
 use Rattle.transfers.proofs.TargetLaws.{target-requests}
-use Rattle.transfers.proofs.RefusalLaws.{refusal-parts}
 
 -- a loop over the numbers below n: one more passes, one fails
 module _ (test : ℕ → Bool) where
@@ -43,35 +45,69 @@ module _ (test : ℕ → Bool) where
       go true q = absurd (true≢false (sym (every-at test n q i h) ∙ e))
       go false q = q
 
--- a field that is an array of structs: its relation stands at a map over the list
-pub length-mapped : {X Y : Type 0} (f : X → Y) (l : List X) (n : ℕ) → length (map f l) ≡ n → length l ≡ n
-length-mapped f l n e = sym (length-map l f) ∙ e
+-- the branch of a test that was made
+module _ {X : Type 0} {c : Bool} (x y : X) where
+  cond-taken : c ≡ true → cond c x y ≡ x
+  cond-taken e = rw e
 
--- a held transfer of a master of the board
-pub held-ours : (ours : Bool) (ma : Master) (sl : Slave) (t : Transfer) (target count : ℕ) → t .held ≡ true → ours ≡ true
-    → heldSound ours ma sl t target count ≡ eqb (refusalAt ma sl t target count) 0
-unfolding heldSound
-held-ours ours ma sl t target count h o =
-    ap (λ (c : Bool). cond c (ours && eqb (refusalAt ma sl t target count) 0) true) h
-    ∙ ap (λ (c : Bool). c && eqb (refusalAt ma sl t target count) 0) o
+  cond-left : c ≡ false → cond c x y ≡ y
+  cond-left e = rw e
 
-module _ (b : Board) (ok : checkBoard b ≡ 0) where
-  pub transfer-parts : (st : State) (m target : ℕ) → m < 8 → target ≡ getD (targetsIn b (st .transfers)) m 0
-      → heldSound (ltb m (b .«master_count»)) (masterAt b m) (getD (b .slaves) (target % 16) noSlave) (transferAt st m) target
-      (b .«slave_count») ≡ soundTransfer b st m
-  unfolding heldSound soundTransfer targetsIn targetIn
-  transfer-parts st m target h e = go (transferAt st m .held) refl
-    where
-      is : target ≡ targetIn b (st .transfers) m
-      is = e ∙ getD-table (targetIn b (st .transfers)) 8 0 m h
+-- a transfer that a master of the board holds, that another holds, and that is not held: what is answered, and what is put
+module _ (b : Board) (m : ℕ) (t : Transfer) (before : List ℕ) where
+  abbrev ours : Bool
+  ours = ltb m (b .«master_count»)
 
-      go : (c : Bool) → transferAt st m .held ≡ c
-          → heldSound (ltb m (b .«master_count»)) (masterAt b m) (getD (b .slaves) (target % 16) noSlave) (transferAt st m) target
-          (b .«slave_count») ≡ soundTransfer b st m
-      go true q =
-          let held : target ≡ targetOf b m (transferAt st m .address) = rw (q, targetIn) at is in
-          rw (q, refusal-parts b ok m (transferAt st m) target held)
-      go false q = rw q
+  abbrev passes : Bool
+  passes = eqb (transferRefusal b m t) 0
+
+  pub held-ours : {masters target number : ℕ} → t .held ≡ true → masters ≡ b .«master_count» → m < masters
+      → target ≡ targetOf b m (t .address) → number ≡ transferRefusal b m t
+      → Held b m t (eqb number 0) before (set before m target)
+  unfolding heldSound heldTarget
+  held-ours on em h e f = record {
+    sound =
+        ap (λ (n : ℕ). eqb n 0) f
+        ∙ sym (ap (λ (c : Bool). c && passes) (lt-ltb m (b .«master_count») (rw (← em) h)))
+        ∙ sym (cond-taken (ours && passes) true on);
+    target = λ q. ap (set before m) (e ∙ sym (cond-taken (targetOf b m (t .address)) (b .«slave_count») on));
+  }
+
+  pub held-stranger : {masters : ℕ} → t .held ≡ true → masters ≡ b .«master_count» → masters ≤ m → (after : List ℕ)
+      → Held b m t false before after
+  unfolding heldSound
+  held-stranger on em h after = record {
+    sound =
+        sym (ap (λ (c : Bool). c && passes) (le-ltb m (b .«master_count») (rw (← em) h)))
+        ∙ sym (cond-taken (ours && passes) true on);
+    target = λ q. absurd (true≢false (sym q));
+  }
+
+  pub held-none : {count : ℕ} → t .held ≡ false → count ≡ b .«slave_count» → Held b m t true before (set before m count)
+  unfolding heldSound heldTarget
+  held-none off e = record {
+    sound = sym (cond-left (ours && passes) true off);
+    target = λ q. ap (set before m) (e ∙ sym (cond-left (targetOf b m (t .address)) (b .«slave_count») off));
+  }
+
+-- a transfer that was read: its rule, and its slave put behind those of the transfers before it
+module _ (b : Board) (st : State) (m : ℕ) {t : Transfer} (et : t ≡ transferAt st m) where
+  pub read-sound : heldSound b m t ≡ soundTransfer b st m
+  unfolding heldSound soundTransfer
+  read-sound = rw et
+
+  read-target : heldTarget b m t ≡ targetIn b (st .transfers) m
+  unfolding targetIn
+  read-target = rw et
+
+  pub targets-next : (g : ℕ → ℕ) {r : Bool} {before after : List ℕ} → Held b m t r before after → r ≡ true
+      → before ≡ filled (targetIn b (st .transfers)) g 8 m → after ≡ filled (targetIn b (st .transfers)) g 8 (m + 1)
+  targets-next g held on e = held .target on ∙ filled-next (targetIn b (st .transfers)) g 8 m e read-target
+
+pub targets-all : (b : Board) (ts : List Transfer) (g : ℕ → ℕ) (m : ℕ) {out : List ℕ} → 8 ≤ m
+    → out ≡ filled (targetIn b ts) g 8 m → out ≡ targetsIn b ts
+unfolding targetsIn
+targets-all b ts g m h e = filled-all (targetIn b ts) g 8 m h e
 
 -- grants that remain: none, or fewer than the shares
 grants : (remaining share : ℕ)
@@ -104,17 +140,41 @@ module _ (slot : Slot) (share : ℕ) (here : Bool) (ma : Master) (sl : Slave) (t
   unfolding slotSound soundRemaining
   slot-over e = rw (← grants (slot .remaining) share, e)
 
-module _ (b : Board) (st : State) (s : ℕ) where
-  pub slot-stranger : b .«master_count» ≤ slotAt st s .owner → soundSlot b st s ≡ false
+module _ (b : Board) (st : State) (s : ℕ) {slot : Slot} {masters : ℕ} (eslot : slot ≡ slotAt st s)
+    (em : masters ≡ b .«master_count») where
+  pub slot-stranger : masters ≤ slot .owner → soundSlot b st s ≡ false
   unfolding soundSlot soundOwner
-  slot-stranger h = rw (le-ltb (slotAt st s .owner) (b .«master_count») h)
+  slot-stranger h =
+      let far : b .«master_count» ≤ slotAt st s .owner = rw (← em, ← eslot) h in
+      rw (le-ltb (slotAt st s .owner) (b .«master_count») far)
 
-  -- the slot's owner is a master of the board, and the code has the target of its transfer
-  pub slot-parts : checkBoard b ≡ 0 → length (st .transfers) ≡ 8 → s < b .«slave_count» → slotAt st s .owner < b .«master_count»
-      → (targets : List ℕ) → targets ≡ targetsIn b (st .transfers)
-      → slotSound (sharesAt b (slotAt st s .owner) s) (eqb (getD targets (slotAt st s .owner) 0) s)
-      (masterAt b (slotAt st s .owner)) (slaveAt b s) (transferAt st (slotAt st s .owner)) (slotAt st s) ≡ soundSlot b st s
+  -- the slot's owner is a master of the board; the code has read its shares, the two, its transfer and that transfer's target
+  pub slot-parts : (targets : List ℕ) → Decoded b st targets → length (st .transfers) ≡ 8 → s < b .«slave_count»
+      → slot .owner < masters
+      → {share : ℕ} {ma : Master} {sl : Slave} {t : Transfer} → share ≡ sharesAt b (slot .owner) s
+      → ma ≡ masterAt b (slot .owner) → sl ≡ slaveAt b s → t ≡ transferAt st (slot .owner)
+      → slotSound share (eqb (getD targets (slot .owner) 0) s) ma sl t slot ≡ soundSlot b st s
   unfolding soundSlot soundOwner
-  slot-parts ok full here h targets e =
-      let small : slotAt st s .owner < 8 = omega (arith, accepted-legal b ok .fewMasters) in
-      rw (lt-ltb (slotAt st s .owner) (b .«master_count») h, e, target-requests b ok st full s here (slotAt st s .owner) small)
+  slot-parts targets decoded full here h e f g k = rw (e, f, g, k, eslot) (whole (rw (← em, ← eslot) h))
+    where
+      whole : slotAt st s .owner < b .«master_count»
+          → slotSound (sharesAt b (slotAt st s .owner) s) (eqb (getD targets (slotAt st s .owner) 0) s)
+          (masterAt b (slotAt st s .owner)) (slaveAt b s) (transferAt st (slotAt st s .owner)) (slotAt st s)
+          ≡ soundSlot b st s
+      whole l =
+          let small : slotAt st s .owner < 8 = omega (arith, accepted-legal b (decoded .board) .fewMasters) in
+          rw (
+            lt-ltb (slotAt st s .owner) (b .«master_count») l,
+            decoded .targets,
+            target-requests b (decoded .board) st full s here (slotAt st s .owner) small,
+          )
+
+-- the width of a master of an accepted board, and that of a slave
+pub legal-width : (b : Board) → checkBoard b ≡ 0 → (m : ℕ) {masters : ℕ} → masters ≡ b .«master_count» → m < masters
+    → {ma : Master} → ma ≡ masterAt b m → member (ma .width) widths ≡ true
+legal-width b ok m e h f = rw f (accepted-legal b ok .master m (rw (← e) h) .width)
+
+pub legal-widths : (b : Board) → checkBoard b ≡ 0 → (m s : ℕ) → m < b .«master_count» → s < b .«slave_count»
+    → {ma : Master} {sl : Slave} → ma ≡ masterAt b m → sl ≡ slaveAt b s → Widths ma sl
+legal-widths b ok m s h k e f =
+    record { master = legal-width b ok m refl h e; slave = rw f (accepted-legal b ok .slave s k .width) }

@@ -1,47 +1,52 @@
 // Whether a state breaks a rule (refusal 9), and what a call knows of a board and a state before it acts. Tests are joined by &
 // and |, not by && and ||: each part is safe by itself, and a proof meets the whole as one test.
-use board::Board;
 use board::Master;
 use board::Slave;
 use geometry::Transfer;
 use state::Slot;
-use state::State;
 ghost use mathlib.Core.Path.{_≡_};
-ghost use mathlib.Core.Bool.{true};
-ghost use Rattle.laws.specs.Lists.{member, every};
-ghost use Rattle.board.specs.Rules.{widths};
+ghost use Prim.Native.Nat.{_<_};
+ghost use Rattle.laws.specs.Lists.{every};
 ghost use Rattle.board.specs.Items.{checkBoard};
+ghost use Rattle.geometry.specs.Pairs.{Widths};
 ghost use Rattle.state.specs.Soundness.{soundTransfer, slotSound, soundSlot, sound};
-ghost use Rattle.transfers.specs.Targets.{targetsIn};
-ghost use Rattle.state_check.specs.Parts.{heldSound, Preconditions};
+ghost use Rattle.board_layout.specs.Layout.{boardIn};
+ghost use Rattle.state_layout.specs.Layout.{stateIn};
+ghost use Rattle.state_check.specs.Parts.{Held, Answered, Decoded, Preconditions};
 
-// Whether a transfer breaks no rule, of a master of the board or not.
-fn held_sound(ours: bool, ma: Master, sl: Slave, t: Transfer, target: u8, count: u8) -> bool
-    requires { ⌜ (ours ≡ true → member (ma .width) widths ≡ true) ⌝ }
-    ensures { λ r. ⌜ r ≡ heldSound ours ma sl t target count ⌝ }
+// Whether the transfer t of master m breaks no rule; where it breaks none, the slave that it is for is left in `targets`. The
+// rules ask for that slave and so does the call that follows: an address is decoded once.
+fn held_at(board: &[u32; 242], m: usize, t: Transfer, targets: &mut [u32; 8]) -> bool
+    requires { ⌜ (checkBoard (boardIn (now board)) ≡ 0) × (m < 8) ⌝ }
+    ensures { λ r. ⌜ Held (boardIn (now (board .entry))) m t r (now (targets .entry)) (now (targets .exit)) ⌝ }
 {
+    let count = board_layout::slave_count(board);
     if t.held {
-        if ours {
+        if m < board_layout::master_count(board) as usize {
+            let target = transfers::target(board, m, t.address);
+            targets[m] = target;
+            // the number of slaves can be 16: what stands for no slave is looked up, and not used
+            let sl = board_layout::slave_at(board, (target % 16) as usize);
+            let ma = board_layout::master_at(board, m);
             return transfers::transfer_refusal(ma, sl, t, target, count) == 0;
         }
         return false;
     }
+    targets[m] = count;
     true
 }
 
-// Whether no transfer breaks a rule.
-fn transfers_sound(b: Board, st: State, targets: [u8; 8]) -> bool
-    requires { ⌜ (checkBoard b ≡ 0) × (targets ≡ targetsIn b (st .transfers)) ⌝ }
-    ensures { λ r. ⌜ r ≡ every (soundTransfer b st) 8 ⌝ }
+// Whether no transfer breaks a rule; where none does, the slave of each is left in `targets`. One pass decodes and checks.
+fn transfers_sound(board: &[u32; 242], st: &[u32; 120], targets: &mut [u32; 8]) -> bool
+    requires { ⌜ checkBoard (boardIn (now board)) ≡ 0 ⌝ }
+    ensures { λ r. ⌜ Answered (boardIn (now (board .entry))) (stateIn (now (st .entry)))
+        (every (soundTransfer (boardIn (now (board .entry))) (stateIn (now (st .entry)))) 8) r (now (targets .exit)) ⌝ }
 {
+    board_layout::count(targets);
     let mut m: usize = 0;
     while m < 8 {
-        let t = st.transfers[m];
-        let ma = b.masters[m];
-        let target = targets[m];
-        let sl = b.slaves[(target % 16) as usize];
-        let ours = m < b.master_count as usize;
-        if !held_sound(ours, ma, sl, t, target, b.slave_count) {
+        let t = state_layout::transfer_at(st, m);
+        if !held_at(board, m, t, targets) {
             return false;
         }
         m += 1;
@@ -51,12 +56,13 @@ fn transfers_sound(b: Board, st: State, targets: [u8; 8]) -> bool
 
 // Whether a slot whose owner is a master of the board breaks no rule: of its owner's shares, whether its owner's transfer is
 // for this slave, and the two and that transfer.
-fn slot_sound(slot: Slot, share: u8, here: bool, ma: Master, sl: Slave, t: Transfer) -> bool
+fn slot_sound(slot: Slot, share: u32, here: bool, ma: Master, sl: Slave, t: Transfer) -> bool
+    requires { ⌜ Widths ma sl ⌝ }
     ensures { λ r. ⌜ r ≡ slotSound share here ma sl t slot ⌝ }
 {
     if (slot.remaining == 0) | (slot.remaining < share) {
         if slot.serving {
-            let left = slot.done < geometry::access_count(ma, sl, t);
+            let left = (slot.done as u64) < geometry::access_count(ma, sl, t);
             return here & (left & (slot.waited <= geometry::wait_of(sl, t)));
         }
         return (slot.done == 0) & (slot.waited == 0);
@@ -64,22 +70,26 @@ fn slot_sound(slot: Slot, share: u8, here: bool, ma: Master, sl: Slave, t: Trans
     false
 }
 
-// Whether no slot breaks a rule.
-fn slots_sound(b: Board, st: State, targets: [u8; 8]) -> bool
-    requires { ⌜ (checkBoard b ≡ 0) × (targets ≡ targetsIn b (st .transfers)) ⌝ }
-    ensures { λ r. ⌜ r ≡ every (soundSlot b st) (b .«slave_count») ⌝ }
+// Whether no slot breaks a rule. Each slot is read once.
+fn slots_sound(board: &[u32; 242], st: &[u32; 120], targets: &[u32; 8]) -> bool
+    requires { ⌜ Decoded (boardIn (now board)) (stateIn (now st)) (now targets) ⌝ }
+    ensures { λ r. ⌜ r ≡ every (soundSlot (boardIn (now (board .entry))) (stateIn (now (st .entry))))
+        (boardIn (now (board .entry)) .«slave_count») ⌝ }
 {
-    let mut s: u8 = 0;
-    while s < b.slave_count {
-        let slot = st.slots[s as usize];
-        if b.master_count <= slot.owner {
+    let masters = board_layout::master_count(board);
+    let count = board_layout::slave_count(board);
+    let mut s: u32 = 0;
+    while s < count {
+        let i = s as usize;
+        let slot = state_layout::slot_at(st, i);
+        if masters <= slot.owner {
             return false;
         }
         let owner = slot.owner as usize;
-        let share = b.shares[16 * owner + s as usize];
-        let ma = b.masters[owner];
-        let sl = b.slaves[s as usize];
-        let t = st.transfers[owner];
+        let share = board_layout::share_at(board, owner, i);
+        let ma = board_layout::master_at(board, owner);
+        let sl = board_layout::slave_at(board, i);
+        let t = state_layout::transfer_at(st, owner);
         if !slot_sound(slot, share, targets[owner] == s, ma, sl, t) {
             return false;
         }
@@ -88,44 +98,40 @@ fn slots_sound(b: Board, st: State, targets: [u8; 8]) -> bool
     true
 }
 
-// Whether the state breaks no rule.
-fn state_sound(b: Board, st: State, targets: [u8; 8]) -> bool
-    requires { ⌜ (checkBoard b ≡ 0) × (targets ≡ targetsIn b (st .transfers)) ⌝ }
-    ensures { λ r. ⌜ r ≡ sound b st ⌝ }
+// Whether the state breaks no rule; where it breaks none, the slave of each transfer is left in `targets`.
+fn state_sound(board: &[u32; 242], st: &[u32; 120], targets: &mut [u32; 8]) -> bool
+    requires { ⌜ checkBoard (boardIn (now board)) ≡ 0 ⌝ }
+    ensures { λ r. ⌜ Answered (boardIn (now (board .entry))) (stateIn (now (st .entry)))
+        (sound (boardIn (now (board .entry))) (stateIn (now (st .entry)))) r (now (targets .exit)) ⌝ }
 {
-    if transfers_sound(b, st, targets) {
-        return slots_sound(b, st, targets);
+    if transfers_sound(board, st, targets) {
+        return slots_sound(board, st, targets);
     }
     false
 }
 
 // What a call knows of a board and a state before it acts: the board's refusal, or 0; where it is 0, whether the state breaks
-// no rule, and the slave of each master's transfer. Where the board is refused, false and zeros.
+// no rule. Where the board is refused, false.
 pub struct Checked {
-    pub number: u8,
+    pub number: u32,
     pub sound: bool,
-    pub targets: [u8; 8],
 }
 
-// The board and the state checked once a call. In one function, not in each of its callers: a board and a state are copied at
-// each call that is not inlined, and the tests are inlined where they have one caller.
-pub fn ready(b: Board, st: State) -> Checked
-    ensures { λ r. ⌜ Preconditions b st r ⌝ }
+// The board and the state checked once a call: the board's refusal first, then the state. Where neither is refused, the slave
+// of each master's transfer is left in `targets`: the array is the caller's, so that no copy of it is made.
+pub fn ready(board: &[u32; 242], st: &[u32; 120], targets: &mut [u32; 8]) -> Checked
+    ensures { λ r. ⌜ Preconditions (boardIn (now (board .entry))) (stateIn (now (st .entry))) r (now (targets .exit)) ⌝ }
 {
-    let number = board_check::refusal(b);
+    let number = board_check::refusal(board);
     if number != 0 {
         return Checked {
             number: number,
             sound: false,
-            targets: [0; 8],
         };
     }
-    let transfers = st.transfers;
-    let targets = transfers::targets(b, transfers);
-    let sound = state_sound(b, st, targets);
+    let sound = state_sound(board, st, targets);
     Checked {
         number: 0,
         sound: sound,
-        targets: targets,
     }
 }

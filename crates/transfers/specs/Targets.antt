@@ -11,10 +11,12 @@ use Rattle.geometry.specs.declared.Transfer.{Transfer}
 use Rattle.geometry.specs.Accesses.{noTransfer}
 use Rattle.geometry.specs.Decoding.{targetOf}
 
--- the slave of master m's transfer, or the count of slaves where it holds none or it is for none
+-- the slave of master m's transfer t, or the count of slaves where it is not held or for none
+unfoldable pub heldTarget : Board → ℕ → Transfer → ℕ
+heldTarget b m t = cond (t .held) (targetOf b m (t .address)) (b .«slave_count»)
+
 unfoldable pub targetIn : Board → List Transfer → ℕ → ℕ
-targetIn b transfers m =
-    let t = getD transfers m noTransfer in cond (t .held) (targetOf b m (t .address)) (b .«slave_count»)
+targetIn b transfers m = heldTarget b m (getD transfers m noTransfer)
 
 unfoldable pub targetsIn : Board → List Transfer → List ℕ
 targetsIn b transfers = table (targetIn b transfers) 8

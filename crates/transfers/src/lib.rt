@@ -1,92 +1,76 @@
 // Transfers: which slave each is for, who requests a slave, and what a transfer is refused for.
 // Tests are joined by & and |, not by && and ||: each part is safe by itself, and a proof meets the whole as one test.
-use board::Board;
 use board::Master;
 use board::Slave;
 use geometry::Transfer;
 ghost use mathlib.Core.Path.{_≡_};
 ghost use mathlib.Core.Bool.{true, cond};
-ghost use Prim.Native.Nat.{_<_};
-ghost use Rattle.laws.specs.Lists.{member};
+ghost use Prim.Native.Nat.{_^_, _<_};
+ghost use lib.ListN.{replicate};
+ghost use Rattle.laws.specs.Lists.{member, table};
 ghost use Rattle.board.specs.Rules.{widths};
 ghost use Rattle.board.specs.Items.{checkBoard};
 ghost use Rattle.geometry.specs.Decoding.{targetOf};
 ghost use Rattle.state.specs.Posting.{refusalAt, transferRefusal};
-ghost use Rattle.transfers.specs.Targets.{targetsIn, requestMask};
-ghost use Rattle.transfers.specs.Decoded.{boardOf, Decodes, Asks};
+ghost use Rattle.board_layout.specs.Layout.{boardIn};
+ghost use Rattle.transfers.specs.Targets.{requestMask};
+ghost use Rattle.transfers.specs.Decoded.{Decodes};
 
-// The first slave that an address selects for master m, or the count of slaves.
-fn target(slaves: [Slave; 16], shares: &[u8; 128], count: u8, m: usize, address: u32) -> u8
-    requires { ⌜ Decodes slaves count × m < 8 ⌝ }
-    ensures { λ r. ⌜ r ≡ targetOf (boardOf slaves (now (shares .entry)) count) m address ⌝ }
+// The first slave that an address selects for master m, or the count of slaves. Most slaves are ruled out by their address, so
+// that shares are read only where it agrees.
+pub fn target(board: &[u32; 242], m: usize, address: u32) -> u32
+    requires { ⌜ Decodes (boardIn (now board)) × m < 8 ⌝ }
+    ensures { λ r. ⌜ r ≡ targetOf (boardIn (now (board .entry))) m address ⌝ }
 {
-    let mut s: u8 = 0;
+    let count = board_layout::slave_count(board);
+    let mut s: u32 = 0;
     while s < count {
-        let sl = slaves[s as usize];
-        let connected = 0 < shares[16 * m + s as usize];
-        if connected & geometry::address_agrees(sl, address) {
-            return s;
+        let i = s as usize;
+        let sl = board_layout::slave_at(board, i);
+        if geometry::address_agrees(sl, address) {
+            if 0 < board_layout::share_at(board, m, i) {
+                return s;
+            }
         }
         s += 1;
     }
     count
 }
 
-// The slave of master m's transfer, or the count of slaves where it holds none or it is for none.
-fn held_target(slaves: [Slave; 16], shares: &[u8; 128], count: u8, m: usize, t: Transfer) -> u8
-    requires { ⌜ Decodes slaves count × m < 8 ⌝ }
-    ensures { λ r. ⌜ r ≡ cond (t .held) (targetOf (boardOf slaves (now (shares .entry)) count) m (t .address)) count ⌝ }
+// The bit of master m in a mask, where it is on.
+pub fn weight_of(on: bool, m: u32) -> u32
+    requires { ⌜ m < 8 ⌝ }
+    ensures { λ r. ⌜ r ≡ cond on (2 ^ m) 0 ⌝ }
 {
-    if t.held {
-        return target(slaves, shares, count, m, t.address);
-    }
-    count
+    if on { 1 << m } else { 0 }
 }
 
-// The slave of each master's transfer.
-pub fn targets(b: Board, transfers: [Transfer; 8]) -> [u8; 8]
-    requires { ⌜ checkBoard b ≡ 0 ⌝ }
-    ensures { λ r. ⌜ r ≡ targetsIn b transfers ⌝ }
+// The requests for each slave: bit m is 1 where the transfer of master m is for it. One pass over the masters adds them all to an
+// array of zeros; a target that is no slave adds 0, so that the pass has no branch.
+pub fn request_masks(targets: &[u32; 8], out: &mut [u32; 16])
+    requires { ⌜ now out ≡ replicate 16 0 ⌝ }
+    ensures { λ _. ⌜ now (out .exit) ≡ table (requestMask (now (targets .entry))) 16 ⌝ }
 {
-    let slaves = b.slaves;
-    let shares = b.shares;
-    let count = b.slave_count;
-    let mut out: [u8; 8] = [0; 8];
-    let mut m: usize = 0;
+    let mut m: u32 = 0;
     while m < 8 {
-        let t = transfers[m];
-        out[m] = held_target(slaves, &shares, count, m, t);
+        let target = targets[m as usize];
+        let i = (target % 16) as usize;
+        let before = out[i];
+        out[i] = before + weight_of(target < 16, m);
         m += 1;
     }
-    out
-}
-
-// The weight of a master's bit where its transfer is for slave s.
-fn asks(target: u8, s: u8, weight: u8) -> u8
-    ensures { λ r. ⌜ Asks target s weight r ⌝ }
-{
-    if target == s { weight } else { 0 }
-}
-
-// Bit m is 1 where the transfer of master m is for slave s. Written out, so that it has no branch.
-pub fn request_mask(targets: [u8; 8], s: u8) -> u8
-    ensures { λ r. ⌜ r ≡ requestMask targets s ⌝ }
-{
-    let low = asks(targets[0], s, 1) + asks(targets[1], s, 2) + asks(targets[2], s, 4);
-    let middle = asks(targets[3], s, 8) + asks(targets[4], s, 16) + asks(targets[5], s, 32);
-    low + middle + asks(targets[6], s, 64) + asks(targets[7], s, 128)
 }
 
 // What a transfer is refused for (13 to 17), or 0: of the master, the slave that it is for, that slave's number, or the count
 // of slaves where it is for none. A width is a power of two, so that a mask leaves what is over a multiple of it.
-pub fn transfer_refusal(ma: Master, sl: Slave, t: Transfer, target: u8, count: u8) -> u8
+pub fn transfer_refusal(ma: Master, sl: Slave, t: Transfer, target: u32, count: u32) -> u32
     requires { ⌜ member (ma .width) widths ≡ true ⌝ }
     ensures { λ r. ⌜ r ≡ refusalAt ma sl t target count ⌝ }
 {
     if (t.beats == 0) | (ma.burst < t.beats) {
         return 13;
     }
-    if t.address & (ma.width as u32 - 1) != 0 {
+    if t.address & (ma.width - 1) != 0 {
         return 14;
     }
     if !lanes::lanes_postable(ma.width, t.lanes, t.beats) {
@@ -104,15 +88,13 @@ pub fn transfer_refusal(ma: Master, sl: Slave, t: Transfer, target: u8, count: u
 }
 
 // What the transfer t of master m is refused for, or 0.
-pub fn refusal_of(b: Board, m: usize, t: Transfer) -> u8
-    requires { ⌜ (checkBoard b ≡ 0) × (m < b .«master_count») ⌝ }
-    ensures { λ r. ⌜ r ≡ transferRefusal b m t ⌝ }
+pub fn refusal_of(board: &[u32; 242], m: usize, t: Transfer) -> u32
+    requires { ⌜ (checkBoard (boardIn (now board)) ≡ 0) × (m < boardIn (now board) .«master_count») ⌝ }
+    ensures { λ r. ⌜ r ≡ transferRefusal (boardIn (now (board .entry))) m t ⌝ }
 {
-    let slaves = b.slaves;
-    let shares = b.shares;
-    let at = target(slaves, &shares, b.slave_count, m, t.address);
+    let at = target(board, m, t.address);
     // the number of slaves can be 16: what stands for no slave is looked up, and not used
-    let sl = slaves[(at % 16) as usize];
-    let ma = b.masters[m];
-    transfer_refusal(ma, sl, t, at, b.slave_count)
+    let sl = board_layout::slave_at(board, (at % 16) as usize);
+    let ma = board_layout::master_at(board, m);
+    transfer_refusal(ma, sl, t, at, board_layout::slave_count(board))
 }

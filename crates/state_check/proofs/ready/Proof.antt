@@ -15,15 +15,15 @@ returns c = let e = c .before .refusal .ensures in record {
   targets = λ z. absurd (c .if1 .taken (e ∙ z));
 }
 
-targets-requires : tie.Need-targets-requires
-targets-requires c κs = search needs
-
 state-sound-requires : tie.Need-state-sound-requires
 state-sound-requires c κs = search needs
 
 returns-2 : tie.Need-returns-2
-returns-2 c = search needs
+returns-2 c = let checked = c .state-sound .ensures in record {
+  number = search needs;
+  sound = λ z. checked .sound;
+  targets = λ z on. checked .targets (checked .sound ∙ on);
+}
 
 pub ready-spec : {M : Type 1} → statement M
-ready-spec =
-    tie.close (tie.spec refusal-requires returns targets-requires state-sound-requires returns-2)
+ready-spec = tie.close (tie.spec refusal-requires returns state-sound-requires returns-2)

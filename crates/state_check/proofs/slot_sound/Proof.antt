@@ -6,6 +6,9 @@ use Rattle.state_check.proofs.CheckLaws.{slot-serving, slot-resting, sl
 use Rattle.state_check.proofs.slot_sound.Statement.{statement}
 use Rattle.state_check.proofs.slot_sound.Tie as tie
 
+cast-left : tie.Need-cast-left
+cast-left c = search needs
+
 access-count-requires : tie.Need-access-count-requires
 access-count-requires c κs = search needs
 
@@ -13,7 +16,10 @@ wait-of-requires : tie.Need-wait-of-requires
 wait-of-requires c κs = search needs
 
 returns : tie.Need-returns
-returns c = rw (c .before .before .before .access-count .ensures, c .before .wait-of .ensures) (sym (slot-serving _ _ _ _ _ _ (c .before .before .before .before .before .if1 .taken) (c .before .before .before .before .if2 .taken)))
+returns c =
+    let on = c .before .before .before .before in
+    rw (c .before .before .access-count .ensures, c .before .wait-of .ensures)
+    (sym (slot-serving _ _ _ _ _ _ (on .before .if1 .taken) (on .if2 .taken)))
 
 returns-2 : tie.Need-returns-2
 returns-2 c = sym (slot-resting _ _ _ _ _ _ (c .before .before .before .if1 .taken) (c .before .before .if2 .left))
@@ -23,4 +29,5 @@ returns-3 c = sym (slot-over _ _ _ _ _ _ (c .if1 .left))
 
 pub slot-sound-spec : {M : Type 1} → statement M
 slot-sound-spec =
-    tie.close (tie.spec access-count-requires wait-of-requires returns returns-2 returns-3)
+    tie.close
+    (tie.spec cast-left access-count-requires wait-of-requires returns returns-2 returns-3)

@@ -1,120 +1,145 @@
 -- `state_check::slots_sound` meets its contract. The loop's invariant: no slot before s breaks a rule.
 -- Assumes nothing.
-use mathlib.Core.Path.{_≡_, refl, sym, _∙_}
 use mathlib.Core.Bool.{true}
+use mathlib.Core.Path.{_≡_, refl, sym, _∙_}
 use Prim.Native.Nat.{_≤_, _<_, _-_}
 use native.Mathlib.Omega.{arith}
-use lib.ListN.{length}
 use borrow.Author.Tests.{not-true, not-false}
 use borrow.Author.Needs.{needs}
 use Rattle.laws.specs.Lists.{every}
 use Rattle.board.proofs.Accepted.{accepted-legal}
-use Rattle.state.specs.Records.{slotAt}
+use Rattle.board.specs.declared.Board.{Board}
+use Rattle.board_layout.specs.Layout.{boardIn}
 use Rattle.state.specs.Soundness.{soundSlot}
-use Rattle.state_check.proofs.CheckLaws.{every-next, every-not, slot-stranger, slot-parts, length-mapped}
+use Rattle.state.specs.declared.State.{State}
+use Rattle.state_layout.proofs.StateLaws.{transfers-length}
+use Rattle.state_layout.specs.Layout.{stateIn}
+use Rattle.state_check.proofs.CheckLaws.{every-next, every-not, slot-stranger, slot-parts, legal-widths}
 use Rattle.state_check.proofs.slots_sound.Statement.{statement}
 use Rattle.state_check.proofs.slots_sound.Tie as tie
 
 abbrev Inv-loop : tie.InvT-loop
-Inv-loop b st targets s₀ s = (s ≤ b .«slave_count») × (every (soundSlot b st) s ≡ true)
+Inv-loop board st targets masters count s₀ s = let b = boardIn board in
+    (s ≤ b .«slave_count») × (every (soundSlot b (stateIn st)) s ≡ true)
 
 abbrev μ-loop : tie.MeasureT-loop
-μ-loop b st targets s₀ s = b .«slave_count» - s
+μ-loop board st targets masters count s₀ s = boardIn board .«slave_count» - s
+
+abbrev board : tie.Start Inv-loop μ-loop → Board
+board c = boardIn (c .args .board .now)
+
+abbrev state : tie.Start Inv-loop μ-loop → State
+state c = stateIn (c .args .st .now)
+
+-- the slave of a turn is one of the board, and has a place
+slave-in : (c : tie.In-loop Inv-loop μ-loop) → c .before .loop .s < board (c .before .before .before .before) .«slave_count»
+slave-in c = omega (arith, c .loop-test .taken, c .before .before .slave-count .ensures)
+
+place-in : (c : tie.In-loop Inv-loop μ-loop) → c .before .loop .s < 16
+place-in c = omega (arith, slave-in c, accepted-legal _ (c .before .before .before .before .pre .board) .fewSlaves)
+
+-- the turn of a slave whose owner is a master of the board
+abbrev turn : tie.After-struct-known2 Inv-loop μ-loop → tie.In-loop Inv-loop μ-loop
+turn c = c .before .before .before .before
+
+abbrev starting : tie.After-struct-known2 Inv-loop μ-loop → tie.Start Inv-loop μ-loop
+starting c = turn c .before .before .before .before
+
+owner-in : (c : tie.After-struct-known2 Inv-loop μ-loop)
+    → c .before .before .before .slot-at .result .owner < board (starting c) .«master_count»
+owner-in c = omega (arith, c .before .if1 .left, turn c .before .before .before .master-count .ensures)
+
+owner-known : (c : tie.After-struct-known2 Inv-loop μ-loop) → c .before .before .before .slot-at .result .owner < 8
+owner-known c = omega (arith, owner-in c, accepted-legal _ (starting c .pre .board) .fewMasters)
+
+abbrev known : tie.After-slot-sound Inv-loop μ-loop → tie.After-struct-known2 Inv-loop μ-loop
+known c = c .before .before .before .before .before .before
+
+-- what the code tests is the slot's rule
+tested : (c : tie.After-slot-sound Inv-loop μ-loop) → let start = starting (known c) in
+    c .slot-sound .result ≡ soundSlot (board start) (state start) (turn (known c) .before .loop .s)
+tested c =
+    let k = known c in
+    let start = starting k in
+    let read = c .before .before .before .before in
+    c .slot-sound .ensures
+    ∙ slot-parts (board start) (state start) _ (k .before .before .before .slot-at .ensures)
+    (turn k .before .before .before .master-count .ensures) (start .args .targets .now) (start .pre) (transfers-length _)
+    (slave-in (turn k)) (k .before .if1 .left) (read .before .share-at .ensures) (read .master-at .ensures)
+    (c .before .before .before .slave-at .ensures) (c .before .before .transfer-at .ensures)
+
+master-count-requires : tie.Need-master-count-requires Inv-loop μ-loop
+master-count-requires c κs = search needs
+
+slave-count-requires : tie.Need-slave-count-requires Inv-loop μ-loop
+slave-count-requires c κs = search needs
 
 loop-holds : tie.Need-loop-holds Inv-loop μ-loop
 unfolding every
 loop-holds c = (omega arith, refl)
 
-cast-slot : tie.Need-cast-slot Inv-loop μ-loop
-cast-slot c = search needs
+cast-i : tie.Need-cast-i Inv-loop μ-loop
+cast-i c = search needs
 
-mul-slot : tie.Need-mul-slot Inv-loop μ-loop
-mul-slot c = search needs
-
-element-copy-out-slot : tie.Need-element-copy-out-slot Inv-loop μ-loop
-element-copy-out-slot c = omega (arith, accepted-legal _ (c .before .before .pre .0) .fewSlaves)
+slot-at-requires : tie.Need-slot-at-requires Inv-loop μ-loop
+slot-at-requires c κs = place-in c
 
 returns : tie.Need-returns Inv-loop μ-loop
-returns c = sym (every-not _ _ _ (c .before .before .before .loop-test .taken) (slot-stranger _ _ _ (c .if1 .taken)))
-
-few-masters : (c : tie.After-struct-known2 Inv-loop μ-loop) →
-    let start = c .before .before .before .before .before .before in
-    slotAt (start .args .t2) (c .before .before .before .before .before .loop .s) .owner < 8
-few-masters c =
-    let start = c .before .before .before .before .before .before in
-    omega (arith, accepted-legal _ (start .pre .0) .fewMasters, c .before .if1 .left)
+returns c =
+    let mine = c .before .before .before in
+    let masters = mine .before .before .before .master-count .ensures in
+    sym (every-not _ _ _ (slave-in mine) (slot-stranger _ _ _ (c .before .before .slot-at .ensures) masters (c .if1 .taken)))
 
 cast-owner : tie.Need-cast-owner Inv-loop μ-loop
 cast-owner c = search needs
 
-mul-share : tie.Need-mul-share Inv-loop μ-loop
-mul-share c = omega (arith, few-masters c)
+share-at-requires : tie.Need-share-at-requires Inv-loop μ-loop
+share-at-requires c κs = (owner-known c, place-in (c .before .before .before .before))
 
-cast-share : tie.Need-cast-share Inv-loop μ-loop
-cast-share c = search needs
+master-at-requires : tie.Need-master-at-requires Inv-loop μ-loop
+master-at-requires c κs = owner-known (c .before)
 
-add-share : tie.Need-add-share Inv-loop μ-loop
-add-share c = omega (arith, few-masters c)
+slave-at-requires : tie.Need-slave-at-requires Inv-loop μ-loop
+slave-at-requires c κs = place-in (c .before .before .before .before .before .before)
 
-element-copy-out-share : tie.Need-element-copy-out-share Inv-loop μ-loop
-element-copy-out-share c = omega (arith, few-masters c, accepted-legal _ (c .before .before .before .before .before .before .pre .0) .fewSlaves)
+transfer-at-requires : tie.Need-transfer-at-requires Inv-loop μ-loop
+transfer-at-requires c κs = owner-known (c .before .before .before)
 
-mul-ma : tie.Need-mul-ma Inv-loop μ-loop
-mul-ma c = omega (arith, few-masters (c .before))
+mul-slot-sound : tie.Need-mul-slot-sound Inv-loop μ-loop
+mul-slot-sound c = omega (arith, owner-known (c .before .before .before .before))
 
-element-copy-out-ma : tie.Need-element-copy-out-ma Inv-loop μ-loop
-element-copy-out-ma c = omega (arith, few-masters (c .before))
-
-cast-sl : tie.Need-cast-sl Inv-loop μ-loop
-cast-sl c = search needs
-
-mul-sl : tie.Need-mul-sl Inv-loop μ-loop
-mul-sl c = search needs
-
-element-copy-out-sl : tie.Need-element-copy-out-sl Inv-loop μ-loop
-element-copy-out-sl c = omega (arith, accepted-legal _ (c .before .before .before .before .before .before .before .before .pre .0) .fewSlaves)
-
-mul-t : tie.Need-mul-t Inv-loop μ-loop
-mul-t c = omega (arith, few-masters (c .before .before .before))
-
-element-copy-out-t : tie.Need-element-copy-out-t Inv-loop μ-loop
-element-copy-out-t c = omega (arith, few-masters (c .before .before .before))
-
-array-read-slot-sound : tie.Need-array-read-slot-sound Inv-loop μ-loop
-array-read-slot-sound c = omega (arith, few-masters (c .before .before .before .before))
+element-copy-out-slot-sound : tie.Need-element-copy-out-slot-sound Inv-loop μ-loop
+element-copy-out-slot-sound c = owner-known (c .before .before .before .before)
 
 slot-sound-requires : tie.Need-slot-sound-requires Inv-loop μ-loop
-slot-sound-requires c κs = search needs
-
-full : (c : tie.Start Inv-loop μ-loop) → length (c .args .t2 .transfers) ≡ 8
-full c = search length-mapped
-
--- what the code tests is the slot's rule
-tested : (c : tie.After-slot-sound Inv-loop μ-loop) →
-    let start = c .before .before .before .before .before .before .before .before .before .before .before in
-    c .slot-sound .result ≡ soundSlot (start .args .t1) (start .args .t2)
-    (c .before .before .before .before .before .before .before .before .before .before .loop .s)
-tested c =
-    let start = c .before .before .before .before .before .before .before .before .before .before .before in
-    c .slot-sound .ensures
-    ∙ slot-parts (start .args .t1) (start .args .t2) _ (start .pre .0) (full start)
-    (c .before .before .before .before .before .before .before .before .before .loop-test .taken)
-    (c .before .before .before .before .before .before .if1 .left) (start .args .t3) (start .pre .1)
+slot-sound-requires c κs =
+    let k = c .before .before .before .before .before in
+    legal-widths _ (starting k .pre .board) _ _ (owner-in k) (slave-in (turn k)) (c .before .before .before .master-at .ensures)
+    (c .before .before .slave-at .ensures)
 
 returns-2 : tie.Need-returns-2 Inv-loop μ-loop
-returns-2 c = sym (every-not _ _ _ (c .before .before .before .before .before .before .before .before .before .before .loop-test .taken) (sym (tested (c .before)) ∙ not-true _ (c .if2 .taken)))
+returns-2 c =
+    sym (every-not _ _ _ (slave-in (turn (known (c .before)))) (sym (tested (c .before)) ∙ not-true _ (c .if2 .taken)))
 
 add-s : tie.Need-add-s Inv-loop μ-loop
-add-s c = search needs
+add-s c = omega (arith, place-in (turn (known (c .before))))
 
 loop-less : tie.Need-loop-less Inv-loop μ-loop
-loop-less c = search needs
+loop-less c = omega (arith, slave-in (turn (known (c .before))))
 
 loop-again : tie.Need-loop-again Inv-loop μ-loop
-loop-again c = (omega arith, every-next _ _ (c .before .before .before .before .before .before .before .before .before .before .before .loop .inv .1) (sym (tested (c .before)) ∙ not-false _ (c .if2 .left)))
+loop-again c =
+    let mine = turn (known (c .before)) in (
+      omega (arith, slave-in mine),
+      every-next _ _ (mine .before .loop .inv .1) (sym (tested (c .before)) ∙ not-false _ (c .if2 .left)),
+    )
 
 returns-3 : tie.Need-returns-3 Inv-loop μ-loop
-returns-3 c = let e : c .before .loop .s ≡ c .before .before .args .t1 .«slave_count» = omega arith in sym (rw e at (c .before .loop .inv .1))
+returns-3 c =
+    let n = c .before .before .slave-count .ensures in
+    let b = board (c .before .before .before .before) in
+    let e : c .before .loop .s ≡ b .«slave_count» = omega (arith, n, c .loop-test .left) in
+    sym (rw e at (c .before .loop .inv .1))
 
 pub slots-sound-spec : {M : Type 1} → statement M
 slots-sound-spec =
@@ -122,24 +147,19 @@ slots-sound-spec =
     (tie.spec
     Inv-loop
     μ-loop
+    master-count-requires
+    slave-count-requires
     loop-holds
-    cast-slot
-    mul-slot
-    element-copy-out-slot
+    cast-i
+    slot-at-requires
     returns
     cast-owner
-    mul-share
-    cast-share
-    add-share
-    element-copy-out-share
-    mul-ma
-    element-copy-out-ma
-    cast-sl
-    mul-sl
-    element-copy-out-sl
-    mul-t
-    element-copy-out-t
-    array-read-slot-sound
+    share-at-requires
+    master-at-requires
+    slave-at-requires
+    transfer-at-requires
+    mul-slot-sound
+    element-copy-out-slot-sound
     slot-sound-requires
     returns-2
     add-s

@@ -1,72 +1,63 @@
--- `state_check::transfers_sound` meets its contract. The loop's invariant: no transfer before m breaks a rule.
+-- `state_check::transfers_sound` meets its contract. The loop's invariant: no transfer before m breaks a rule, and the slaves of
+-- those are in their places.
 -- Assumes nothing.
-use mathlib.Core.Path.{_≡_, refl, sym, ap, _∙_}
-use mathlib.Core.List.{List}
-use mathlib.Core.Bool.{true}
-use Prim.Native.Nat.{ℕ, _≤_, _-_}
+use mathlib.Core.Bool.{true, true≢false}
+use mathlib.Core.Path.{_≡_, refl, sym, _∙_}
+use Prim.Native.Nat.{_≤_, _-_}
 use native.Mathlib.Omega.{arith}
 use lib.ListN.{getD}
-use borrow.Author.Tests.{ltb-true, not-true, not-false}
+use borrow.Author.Tests.{not-true, not-false}
 use borrow.Author.Needs.{needs}
 use Rattle.laws.specs.Lists.{every}
-use Rattle.board.proofs.Accepted.{accepted-legal}
+use Rattle.laws.proofs.FillLaws.{filled, filled-none}
+use Rattle.board_layout.specs.Layout.{boardIn}
 use Rattle.state.specs.Soundness.{soundTransfer}
-use Rattle.state_check.proofs.CheckLaws.{every-next, every-not, transfer-parts}
+use Rattle.state_layout.specs.Layout.{stateIn}
+use Rattle.transfers.specs.Targets.{targetIn}
+use Rattle.state_check.proofs.CheckLaws.{every-next, every-not, read-sound, targets-next, targets-all}
 use Rattle.state_check.proofs.transfers_sound.Statement.{statement}
 use Rattle.state_check.proofs.transfers_sound.Tie as tie
 
 abbrev Inv-loop : tie.InvT-loop
-Inv-loop b st targets m₀ m = (m ≤ 8) × (every (soundTransfer b st) m ≡ true)
+Inv-loop board st targets₀ m₀ targets m = let b = boardIn board in
+    (m ≤ 8)
+    × (every (soundTransfer b (stateIn st)) m ≡ true)
+    × (targets ≡ filled (targetIn b (stateIn st .transfers)) (λ k. getD targets₀ k 0) 8 m)
 
 abbrev μ-loop : tie.MeasureT-loop
-μ-loop b st targets m₀ m = 8 - m
+μ-loop board st targets₀ m₀ targets m = 8 - m
+
+-- the turn of a master, and the function's start
+abbrev turn : tie.After-held-at Inv-loop μ-loop → tie.In-loop Inv-loop μ-loop
+turn c = c .before .before .before
+
+abbrev starting : tie.In-loop Inv-loop μ-loop → tie.Start Inv-loop μ-loop
+starting c = c .before .before .before .before .before
+
+-- what the code tests is the transfer's rule
+tested : (c : tie.After-held-at Inv-loop μ-loop) → let a = starting (turn c) .args in
+    c .held-at .result ≡ soundTransfer (boardIn (a .board .now)) (stateIn (a .st .now)) (turn c .before .loop .m)
+tested c = c .held-at .ensures .sound ∙ read-sound _ _ _ (c .before .before .transfer-at .ensures)
+
+count-requires : tie.Need-count-requires Inv-loop μ-loop
+count-requires c κs = search needs
 
 loop-holds : tie.Need-loop-holds Inv-loop μ-loop
 unfolding every
-loop-holds c = (omega arith, refl)
+loop-holds c = (omega arith, refl, filled-none _ _ 8 0 _ (search needs) (λ k h. refl))
 
-mul-t : tie.Need-mul-t Inv-loop μ-loop
-mul-t c = search needs
+transfer-at-requires : tie.Need-transfer-at-requires Inv-loop μ-loop
+transfer-at-requires c κs = search needs
 
-element-copy-out-t : tie.Need-element-copy-out-t Inv-loop μ-loop
-element-copy-out-t c = search needs
-
-mul-ma : tie.Need-mul-ma Inv-loop μ-loop
-mul-ma c = search needs
-
-element-copy-out-ma : tie.Need-element-copy-out-ma Inv-loop μ-loop
-element-copy-out-ma c = search needs
-
-array-read-target : tie.Need-array-read-target Inv-loop μ-loop
-array-read-target c = search needs
-
-cast-sl : tie.Need-cast-sl Inv-loop μ-loop
-cast-sl c = search needs
-
-mul-sl : tie.Need-mul-sl Inv-loop μ-loop
-mul-sl c = search needs
-
-element-copy-out-sl : tie.Need-element-copy-out-sl Inv-loop μ-loop
-element-copy-out-sl c = search needs
-
-cast-ours : tie.Need-cast-ours Inv-loop μ-loop
-cast-ours c = search needs
-
-held-sound-requires : tie.Need-held-sound-requires Inv-loop μ-loop
-held-sound-requires c κs = λ e. accepted-legal _ (c .before .before .before .before .before .pre .0) .master _ (ltb-true _ _ e) .width
-
--- what the code tests is the transfer's rule
-tested : (c : tie.After-held-sound Inv-loop μ-loop) → let a = c .before .before .before .before .before .before .args in
-    c .held-sound .result ≡ soundTransfer (a .t1) (a .t2) (c .before .before .before .before .before .loop .m)
-tested c =
-    let start = c .before .before .before .before .before .before in
-    let m = c .before .before .before .before .before .loop .m in
-    c .held-sound .ensures
-    ∙ transfer-parts (start .args .t1) (start .pre .0) (start .args .t2) m _ (c .before .before .before .before .loop-test .taken)
-    (ap (λ (l : List ℕ). getD l m 0) (start .pre .1))
+held-at-requires : tie.Need-held-at-requires Inv-loop μ-loop
+held-at-requires c κs = search needs
 
 returns : tie.Need-returns Inv-loop μ-loop
-returns c = sym (every-not _ 8 _ (c .before .before .before .before .before .loop-test .taken) (sym (tested (c .before)) ∙ not-true _ (c .if1 .taken)))
+returns c =
+    let broken = sym (tested (c .before)) ∙ not-true _ (c .if1 .taken) in record {
+      sound = sym (every-not _ 8 _ (turn (c .before) .loop-test .taken) broken);
+      targets = λ q. absurd (true≢false (sym q));
+    }
 
 add-m : tie.Need-add-m Inv-loop μ-loop
 add-m c = search needs
@@ -75,10 +66,23 @@ loop-less : tie.Need-loop-less Inv-loop μ-loop
 loop-less c = search needs
 
 loop-again : tie.Need-loop-again Inv-loop μ-loop
-loop-again c = (omega arith, every-next _ _ (c .before .before .before .before .before .before .loop .inv .1) (sym (tested (c .before)) ∙ not-false _ (c .if1 .left)))
+loop-again c =
+    let l = turn (c .before) .before .loop in
+    let passed : c .before .held-at .result ≡ true = not-false _ (c .if1 .left) in
+    let st = stateIn (starting (turn (c .before)) .args .st .now) in
+    let read = c .before .before .before .transfer-at .ensures in (
+      omega arith,
+      every-next _ _ (l .inv .1) (sym (tested (c .before)) ∙ passed),
+      targets-next _ st _ read _ (c .before .held-at .ensures) passed (l .inv .2),
+    )
 
 returns-2 : tie.Need-returns-2 Inv-loop μ-loop
-returns-2 c = let e : c .before .loop .m ≡ 8 = omega arith in sym (rw e at (c .before .loop .inv .1))
+returns-2 c =
+    let l = c .before .loop in
+    let e : l .m ≡ 8 = omega arith in record {
+      sound = sym (rw e at (l .inv .1));
+      targets = λ q. targets-all _ _ _ _ (omega arith) (l .inv .2);
+    }
 
 pub transfers-sound-spec : {M : Type 1} → statement M
 transfers-sound-spec =
@@ -86,17 +90,10 @@ transfers-sound-spec =
     (tie.spec
     Inv-loop
     μ-loop
+    count-requires
     loop-holds
-    mul-t
-    element-copy-out-t
-    mul-ma
-    element-copy-out-ma
-    array-read-target
-    cast-sl
-    mul-sl
-    element-copy-out-sl
-    cast-ours
-    held-sound-requires
+    transfer-at-requires
+    held-at-requires
     returns
     add-m
     loop-less

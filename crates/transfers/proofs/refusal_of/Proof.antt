@@ -4,44 +4,45 @@ use mathlib.Core.Path.{_∙_}
 use native.Mathlib.Omega.{arith}
 use borrow.Author.Needs.{needs}
 use Rattle.board.proofs.Accepted.{accepted-legal}
+use Rattle.transfers.proofs.TargetLaws.{decodes}
 use Rattle.transfers.proofs.RefusalLaws.{refusal-parts}
-use Rattle.transfers.proofs.TargetLaws.{decodes, target-parts}
 use Rattle.transfers.proofs.refusal_of.Statement.{statement}
 use Rattle.transfers.proofs.refusal_of.Tie as tie
 
 target-requires : tie.Need-target-requires
-target-requires c κs = (decodes _ (c .before .before .before .pre .0), omega (arith, accepted-legal _ (c .before .before .before .pre .0) .fewMasters))
+target-requires c κs = (decodes _ (c .pre .0), omega (arith, accepted-legal _ (c .pre .0) .fewMasters))
 
-cast-sl : tie.Need-cast-sl
-cast-sl c = search needs
+cast-slave-at : tie.Need-cast-slave-at
+cast-slave-at c = search needs
 
-mul-sl : tie.Need-mul-sl
-mul-sl c = search needs
+slave-at-requires : tie.Need-slave-at-requires
+slave-at-requires c κs = search needs
 
-array-copy-out-sl : tie.Need-array-copy-out-sl
-array-copy-out-sl c = search needs
+master-at-requires : tie.Need-master-at-requires
+master-at-requires c κs = let start = c .before .before in omega (arith, accepted-legal _ (start .pre .0) .fewMasters)
 
-mul-ma : tie.Need-mul-ma
-mul-ma c = search needs
-
-element-copy-out-ma : tie.Need-element-copy-out-ma
-element-copy-out-ma c = omega (arith, accepted-legal _ (c .before .before .before .before .before .pre .0) .fewMasters)
+slave-count-requires : tie.Need-slave-count-requires
+slave-count-requires c κs = search needs
 
 transfer-refusal-requires : tie.Need-transfer-refusal-requires
-transfer-refusal-requires c κs = accepted-legal _ (c .before .before .before .before .before .before .pre .0) .master _ (c .before .before .before .before .before .before .pre .1) .width
+transfer-refusal-requires c κs = let start = c .before .before .before .before in
+    rw (c .before .master-at .ensures) (accepted-legal _ (start .pre .0) .master _ (start .pre .1) .width)
 
 returns : tie.Need-returns
-returns c = c .transfer-refusal .ensures ∙ refusal-parts (c .before .before .before .before .before .before .before .args .t1) (c .before .before .before .before .before .before .before .pre .0) (c .before .before .before .before .before .before .before .args .m) (c .before .before .before .before .before .before .before .args .t) _ (c .before .before .before .target .ensures ∙ target-parts _ _ _)
+returns c =
+    let at = c .before .before .before .before in
+    c .transfer-refusal .ensures
+    ∙ refusal-parts _ (at .before .pre .0) _ _ _ (at .target .ensures) (c .before .before .master-at .ensures)
+    (c .before .before .before .slave-at .ensures) (c .before .slave-count .ensures)
 
 pub refusal-of-spec : {M : Type 1} → statement M
 refusal-of-spec =
     tie.close
     (tie.spec
     target-requires
-    cast-sl
-    mul-sl
-    array-copy-out-sl
-    mul-ma
-    element-copy-out-ma
+    cast-slave-at
+    slave-at-requires
+    master-at-requires
+    slave-count-requires
     transfer-refusal-requires
     returns)

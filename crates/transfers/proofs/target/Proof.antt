@@ -1,81 +1,102 @@
 -- `transfers::target` meets its contract. The loop's invariant: the target is the first slave selected from s on.
 -- Assumes nothing.
+use mathlib.Core.Bool.{false}
+use mathlib.Core.Logic.{⊎-elim}
 use mathlib.Core.Path.{_≡_, sym, _∙_}
-use mathlib.Core.Bool.{_&&_}
-use Prim.Native.Nat.{_+_, _*_, _≤_, _-_}
-use native.Mathlib.Nat.{sub-zero}
+use Prim.Native.Nat.{_≤_, _<_, _-_}
 use native.Mathlib.Omega.{arith}
-use lib.Dec.{ltb}
-use lib.ListN.{getD}
+use native.Mathlib.Nat.{sub-zero}
 use borrow.Author.Needs.{needs}
 use Rattle.laws.specs.Lists.{first, firstFrom}
+use Rattle.board.specs.declared.Board.{Board}
+use Rattle.board_layout.specs.Layout.{boardIn}
 use Rattle.geometry.specs.Decoding.{selects, targetOf}
-use Rattle.transfers.specs.Decoded.{boardOf}
-use Rattle.transfers.proofs.TargetLaws.{first-here, first-later, first-none, selects-below}
+use Rattle.transfers.proofs.TargetLaws.{
+  first-here,
+  first-later,
+  first-none,
+  selects-here,
+  selects-elsewhere,
+  selects-unconnected,
+}
 use Rattle.transfers.proofs.target.Statement.{statement}
 use Rattle.transfers.proofs.target.Tie as tie
 
 abbrev Inv-loop : tie.InvT-loop
-Inv-loop shares count m address slaves s₀ s = let b = boardOf slaves shares count in
-    (s ≤ count) × (targetOf b m address ≡ firstFrom (selects b m address) s (count - s))
+Inv-loop board m address count s₀ s = let b = boardIn board in
+    (s ≤ b .«slave_count») × (targetOf b m address ≡ firstFrom (selects b m address) s (b .«slave_count» - s))
 
 abbrev μ-loop : tie.MeasureT-loop
-μ-loop shares count m address slaves s₀ s = count - s
+μ-loop board m address count s₀ s = boardIn board .«slave_count» - s
+
+abbrev board : tie.Start Inv-loop μ-loop → Board
+board c = boardIn (c .args .board .now)
+
+-- the slave of a turn is one of the board, and has a place
+slave-in : (c : tie.In-loop Inv-loop μ-loop) → c .before .loop .s < board (c .before .before .before) .«slave_count»
+slave-in c = omega (arith, c .loop-test .taken, c .before .before .slave-count .ensures)
+
+place-in : (c : tie.In-loop Inv-loop μ-loop) → c .before .loop .s < 16
+place-in c = omega (arith, slave-in c, c .before .before .before .pre .0 .few)
+
+slave-count-requires : tie.Need-slave-count-requires Inv-loop μ-loop
+slave-count-requires c κs = search needs
 
 loop-holds : tie.Need-loop-holds Inv-loop μ-loop
 unfolding targetOf first
-loop-holds c = (search needs, rw sub-zero)
+loop-holds c = (omega arith, rw sub-zero)
 
-cast-sl : tie.Need-cast-sl Inv-loop μ-loop
-cast-sl c = search needs
+cast-i : tie.Need-cast-i Inv-loop μ-loop
+cast-i c = search needs
 
-mul-sl : tie.Need-mul-sl Inv-loop μ-loop
-mul-sl c = search needs
-
-array-copy-out-sl : tie.Need-array-copy-out-sl Inv-loop μ-loop
-array-copy-out-sl c = search needs
-
-mul-connected : tie.Need-mul-connected Inv-loop μ-loop
-mul-connected c = search needs
-
-cast-connected : tie.Need-cast-connected Inv-loop μ-loop
-cast-connected c = search needs
-
-add-connected : tie.Need-add-connected Inv-loop μ-loop
-add-connected c = search needs
-
-element-copy-out-connected : tie.Need-element-copy-out-connected Inv-loop μ-loop
-element-copy-out-connected c = search needs
+slave-at-requires : tie.Need-slave-at-requires Inv-loop μ-loop
+slave-at-requires c κs = place-in c
 
 address-agrees-requires : tie.Need-address-agrees-requires Inv-loop μ-loop
-address-agrees-requires c κs = c .before .before .before .before .pre .0 .span _ (c .before .before .loop-test .taken)
+address-agrees-requires c κs =
+    let start = c .before .before .before .before in
+    rw (c .slave-at .ensures) (start .pre .0 .span _ (slave-in (c .before)))
 
--- the test that the code makes is the slave's
-tested : (c : tie.After-address-agrees Inv-loop μ-loop) → let a = c .before .before .before .before .before .args in
-    let s = c .before .before .before .before .loop .s in
-    selects (boardOf (a .t1) (a .shares .now) (a .count)) (a .m) (a .address) s
-    ≡ (ltb 0 (getD (a .shares .now) (16 * a .m + s) 0) && c .address-agrees .result)
-tested c =
-    let a = c .before .before .before .before .before .args in
-    selects-below (boardOf (a .t1) (a .shares .now) (a .count)) (a .m) (a .address) _ (c .before .before .before .loop-test .taken)
-    ∙ rw (c .address-agrees .ensures)
+abbrev turn : tie.After-address-agrees Inv-loop μ-loop → tie.In-loop Inv-loop μ-loop
+turn c = c .before .before
+
+share-at-requires : tie.Need-share-at-requires Inv-loop μ-loop
+share-at-requires c κs = (turn (c .before) .before .before .before .pre .1, place-in (turn (c .before)))
 
 returns : tie.Need-returns Inv-loop μ-loop
-returns c = let l = c .before .before .before .before .before .loop in sym (l .inv .1 ∙ first-here _ _ _ (c .before .before .before .before .loop-test .taken) (tested (c .before) ∙ c .if1 .taken))
+returns c =
+    let agreed = c .before .before .before in
+    let in-turn = slave-in (turn agreed) in
+    let here =
+    selects-here _ _ _ _ in-turn (agreed .before .slave-at .ensures) (agreed .address-agrees .ensures)
+    (c .before .share-at .ensures) (c .before .before .if1 .taken) (c .if2 .taken) in
+    sym (turn agreed .before .loop .inv .1 ∙ first-here _ _ _ in-turn here)
+
+-- the slave of a turn that goes on is not selected
+passed : (c : tie.Joined1 Inv-loop μ-loop) → let start = turn (c .before) .before .before .before in
+    selects (board start) (start .args .m) (start .args .address) (turn (c .before) .before .loop .s) ≡ false
+passed c =
+    ⊎-elim
+    (λ w. selects-unconnected _ _ _ _ (w .1 .ensures) (w .2 .left))
+    (λ w. selects-elsewhere _ _ _ _ (c .before .before .slave-at .ensures) (c .before .address-agrees .ensures) (w .left))
+    (c .if1 .came)
 
 add-s : tie.Need-add-s Inv-loop μ-loop
-add-s c = search needs
+add-s c = omega (arith, place-in (turn (c .before)))
 
 loop-less : tie.Need-loop-less Inv-loop μ-loop
-loop-less c = search needs
+loop-less c = omega (arith, slave-in (turn (c .before)))
 
 loop-again : tie.Need-loop-again Inv-loop μ-loop
-loop-again c = let l = c .before .before .before .before .before .loop in (search needs, l .inv .1 ∙ first-later _ _ _ (c .before .before .before .before .loop-test .taken) (tested (c .before) ∙ c .if1 .left))
+loop-again c =
+    let mine = turn (c .before) in
+    (omega (arith, slave-in mine), mine .before .loop .inv .1 ∙ first-later _ _ _ (slave-in mine) (passed c))
 
 returns-2 : tie.Need-returns-2 Inv-loop μ-loop
 returns-2 c = let l = c .before .loop in
-    let e : l .s ≡ c .before .before .args .count = omega arith in
-    sym e ∙ sym (l .inv .1 ∙ first-none _ _ _ (c .loop-test .left))
+    let n = c .before .before .slave-count .ensures in
+    let e : l .s ≡ board (c .before .before .before) .«slave_count» = omega (arith, n, c .loop-test .left) in
+    n ∙ sym e ∙ sym (l .inv .1 ∙ first-none _ _ _ (omega (arith, e)))
 
 pub target-spec : {M : Type 1} → statement M
 target-spec =
@@ -83,15 +104,12 @@ target-spec =
     (tie.spec
     Inv-loop
     μ-loop
+    slave-count-requires
     loop-holds
-    cast-sl
-    mul-sl
-    array-copy-out-sl
-    mul-connected
-    cast-connected
-    add-connected
-    element-copy-out-connected
+    cast-i
+    slave-at-requires
     address-agrees-requires
+    share-at-requires
     returns
     add-s
     loop-less

@@ -2,16 +2,14 @@
 -- Assumes nothing.
 use mathlib.Core.Path.{_≡_, sym, _∙_}
 use mathlib.Core.Bool.{cond}
-use Prim.Native.Nat.{_%_, _<_}
+use Prim.Native.Nat.{_%_}
 use native.Mathlib.Omega.{arith}
 use lib.Dec.{eqb}
 use borrow.Author.Tests.{eq-eqb, ne-eqb, lt-ltb, le-ltb}
 use borrow.Author.Needs.{needs}
-use Rattle.laws.proofs.TableLaws.{member-each}
-use Rattle.laws.proofs.Arithmetic.{product-le}
-use Rattle.board.specs.Rules.{widths}
 use Rattle.state.specs.Posting.{wrongBeats, unaligned, wrongLanes, unmapped, passesEnd, refusalAt}
-use Rattle.transfers.proofs.RefusalLaws.{over-width}
+use Rattle.geometry.proofs.PowerLaws.{over-width}
+use Rattle.transfers.proofs.RefusalLaws.{width-some, width-most, bytes-most}
 use Rattle.transfers.proofs.transfer_refusal.Statement.{statement}
 use Rattle.transfers.proofs.transfer_refusal.Tie as tie
 
@@ -19,11 +17,8 @@ returns : tie.Need-returns
 unfolding refusalAt wrongBeats
 returns c = rw (c .if1 .taken)
 
-cast-if2 : tie.Need-cast-if2
-cast-if2 c = search needs
-
 sub-if2 : tie.Need-sub-if2
-sub-if2 c = member-each (λ w. 0 < w) (c .before .before .before .before .before .args .ma .width) widths (omega arith) (c .before .before .before .before .before .pre)
+sub-if2 c = width-some _ (c .before .before .before .before .before .pre)
 
 -- what is left of the definition behind the beats, the address, the lanes and the slave
 some-beats : (c : tie.Else1) → let a = c .before .before .before .before .args in
@@ -38,8 +33,9 @@ aligned : (c : tie.Else2) → let a = c .before .before .before .before .before 
     ≡ cond (wrongLanes (a .ma) (a .t)) 15 (cond (eqb (a .target) (a .count)) 16 (cond (passesEnd (a .ma) (a .sl) (a .t)) 17 0))
 unfolding unaligned
 aligned c =
-    let a = c .before .before .before .before .before .before .before .args in
-    let e = sym (over-width (a .t .address) (a .ma .width) (c .before .before .before .before .before .before .before .pre)) ∙ c .if2 .left in
+    let start = c .before .before .before .before .before .before .before in
+    let a = start .args in
+    let e = sym (over-width (a .t .address) (a .ma .width) (start .pre)) ∙ c .if2 .left in
     rw (some-beats (c .before .before .before), eq-eqb (a .t .address % a .ma .width) 0 e)
 
 lanes : (c : tie.Else3) → let a = c .before .before .before .before .before .before .before .before .before .args in
@@ -54,10 +50,12 @@ mapped c = rw (lanes (c .before), ne-eqb _ _ (c .if4 .left))
 
 returns-2 : tie.Need-returns-2
 unfolding unaligned
-returns-2 c = rw (some-beats (c .before .before .before), ne-eqb _ _ (λ e. c .if2 .taken (over-width _ _ (c .before .before .before .before .before .before .before .pre) ∙ e)))
+returns-2 c =
+    let start = c .before .before .before .before .before .before .before in
+    rw (some-beats (c .before .before .before), ne-eqb _ _ (λ e. c .if2 .taken (over-width _ _ (start .pre) ∙ e)))
 
 lanes-postable-requires : tie.Need-lanes-postable-requires
-lanes-postable-requires c κs = search needs
+lanes-postable-requires c κs = width-most _ (c .before .before .before .before .before .before .before .pre)
 
 returns-3 : tie.Need-returns-3
 unfolding wrongLanes
@@ -72,8 +70,13 @@ cast-bytes c = search needs
 cast-bytes-2 : tie.Need-cast-bytes-2
 cast-bytes-2 c = search needs
 
+abbrev starting : tie.After-struct-known7 → tie.Start
+starting c = c .before .before .before .before .before .before .before .before .before .before .before .before
+
 mul-bytes : tie.Need-mul-bytes
-mul-bytes c = omega (arith, product-le (c .before .before .before .before .before .before .before .before .before .before .before .before .args .t .beats) (c .before .before .before .before .before .before .before .before .before .before .before .before .args .ma .width) 255 255 (omega arith) (omega arith))
+mul-bytes c =
+    let start = starting c in
+    omega (arith, bytes-most (start .args .t .beats) (start .args .ma .width) (omega arith) (start .pre))
 
 cast-if5 : tie.Need-cast-if5
 cast-if5 c = search needs
@@ -88,7 +91,9 @@ cast-if5-3 : tie.Need-cast-if5-3
 cast-if5-3 c = search needs
 
 add-if5-2 : tie.Need-add-if5-2
-add-if5-2 c = omega (arith, product-le (c .before .before .before .before .before .before .before .before .before .before .before .before .before .before .before .args .t .beats) (c .before .before .before .before .before .before .before .before .before .before .before .before .before .before .before .args .ma .width) 255 255 (omega arith) (omega arith))
+add-if5-2 c =
+    let start = starting (c .before .before .before) in
+    omega (arith, bytes-most (start .args .t .beats) (start .args .ma .width) (omega arith) (start .pre))
 
 returns-5 : tie.Need-returns-5
 unfolding passesEnd
@@ -103,7 +108,6 @@ transfer-refusal-spec =
     tie.close
     (tie.spec
     returns
-    cast-if2
     sub-if2
     returns-2
     lanes-postable-requires
