@@ -1,1 +1,3 @@
+pub mod TurnLaws
 pub mod PassLaws
+pub mod AgainLaws

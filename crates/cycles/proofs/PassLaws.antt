@@ -1,64 +1,101 @@
--- The turns of the loop over the slaves that makes one clock, and of the loop that makes the mask of its finished masters.
+-- The pass over the slaves that makes one clock: why the state may be changed in place, and the turns of the loop.
 -- Assumes nothing.
-use mathlib.Core.Path.{_≡_, refl, sym, ap, _∙_}
+use mathlib.Core.Path.{_≡_, refl, sym, ap, _∙_, fun-ext}
 use mathlib.Core.Bool.{Bool, true, false, cond, _&&_, _||_}
 use mathlib.Core.List.{List}
-use Prim.Native.Nat.{ℕ, _+_, _*_, _^_, _≤_, _<_}
+use Prim.Native.Nat.{ℕ, zero, suc, _+_, _^_, _≤_, _<_}
 use native.Mathlib.Decide.{ℕ-discrete}
 use native.Mathlib.Numerals.{add-one}
 use native.Mathlib.Omega.{arith}
 use lib.Dec.{ltb, eqb}
-use lib.ListN.{length, getD, set, replicate, length-replicate, List·getD-eq-default}
-use lib.Pow.{pow-mono}
-use borrow.Author.Tests.{eq-eqb, ne-eqb, ltb-true, ltb-false}
+use lib.ListN.{length, getD, set}
+use lib.Seq.{set-getD}
+use borrow.Author.Tests.{le-ltb, eqb-true, eq-eqb, ne-eqb}
+use Rattle.laws.specs.Bits.{bit}
 use Rattle.laws.specs.Lists.{table, sum, some}
-use Rattle.laws.proofs.TableLaws.{getD-table, getD-table-past, getD-replicate-all, mask, mask-lt}
-use Rattle.laws.proofs.FillLaws.{sum-same, table-is, set-table, filled, filled-none}
+use Rattle.laws.proofs.Tests.{both}
+use Rattle.laws.proofs.TableLaws.{getD-table, some-at, mask, mask-lt}
+use Rattle.laws.proofs.FillLaws.{sum-same, table-is, set-table, filled, filled-none, filled-next}
 use Rattle.laws.proofs.FrontLaws.{table-same}
+use Rattle.board.specs.declared.Slave.{Slave}
 use Rattle.board.specs.declared.Board.{Board}
-use Rattle.board.specs.Records.{masterAt, slaveAt, sharesAt, startOf, memoryLength}
+use Rattle.board.specs.Records.{masterAt, slaveAt, sharesAt, totalSpan, startOf, memoryLength}
 use Rattle.board.specs.Legal.{Legal}
 use Rattle.board.proofs.Accepted.{accepted-legal}
+use Rattle.board.proofs.StartLaws.{end-inside}
 use Rattle.geometry.specs.declared.Transfer.{Transfer}
 use Rattle.geometry.specs.Accesses.{noTransfer}
+use Rattle.arbiter.proofs.OrderLaws.{granted-agree}
 use Rattle.moves.specs.Bytes.{Store, bufferLength}
-use Rattle.moves.specs.Reaching.{Reached}
 use Rattle.state.specs.declared.Slot.{Slot}
 use Rattle.state.specs.declared.State.{State}
 use Rattle.state.specs.declared.Line.{Line}
 use Rattle.state.specs.declared.Step.{Step}
-use Rattle.state.specs.Records.{noLine, noSlot, transferAt, slotAt}
-use Rattle.transfers.specs.Targets.{targetsIn, requestMask}
-use Rattle.state.specs.Control.{slotAfterGrant, stepOf, lineAfter, slotAfter, finishes, finished, maskOf}
+use Rattle.state.specs.Records.{noLine, noSlot, transferAt, slotAt, recordOf}
+use Rattle.state.specs.Soundness.{requests}
+use Rattle.state.specs.Posting.{stateWith}
+use Rattle.state.specs.Control.{grantAt, slotAfterGrant, stepOf, lineAfter, slotAfter, finishes, finished, maskOf}
 use Rattle.state.specs.Control.{transferAfter, stateAfter, linesOf}
-use Rattle.state.specs.Clocking.{clockedOf}
-use Rattle.state.specs.Carrying.{carriedBy, storeAfter}
-use Rattle.steps.specs.Serving.{Placed, slotAsked, stepFrom, carriedFrom}
+use Rattle.state.specs.Carrying.{carried, carriedBy, storeAfter}
 use Rattle.state.proofs.Sound.{Sound}
-use Rattle.state.proofs.SoundLaws.{sound-facts, grant-sound}
+use Rattle.state.proofs.SoundLaws.{sound-facts, requester, grant-sound, finished-asks}
 use Rattle.state.proofs.StepLaws.{line-owner, finished-serving}
+use Rattle.state.proofs.DecodeLaws.{requests-one}
+use Rattle.state_layout.specs.Layout.{withSlot, firstLines}
+use Rattle.state_layout.proofs.StateLaws.{first-put}
+use Rattle.transfers.specs.Targets.{targetsIn, requestMask}
 use Rattle.transfers.proofs.TargetLaws.{mask-requests}
-use Rattle.steps.proofs.ServeLaws.{asked-is, step-is, carried-is}
-use Rattle.board.proofs.StartLaws.{end-inside}
-use Rattle.steps.proofs.PlaceLaws.{grant-placed, grant-reached}
-use Rattle.state.specs.declared.Clocked.{Clocked}
-use Rattle.cycles.specs.Cycles.{Runs}
+use Rattle.steps.specs.Serving.{stepFrom, carriedFrom}
+use Rattle.steps.proofs.ServeLaws.{from-resting, carried-resting, step-is, carried-is}
+use Rattle.steps.proofs.PlaceLaws.{start-next, grant-placed, grant-reached}
+use Rattle.cycles.specs.Cycles.{Runs, Clocks}
+use Rattle.cycles.specs.Turns.{slotAsked, stepAt, carriedAt, ended, stateTurned, Serving, Ready, Turned}
 
--- ---- a mask as a sum
+-- ---- a mask with one number more, and a list with one place more
 
-module _ (test : ℕ → Bool) where
-  pub mask-next : (m : ℕ) {x w : ℕ} → x ≡ mask test m → w ≡ cond (test m) (2 ^ m) 0 → x + w ≡ mask test (m + 1)
+-- a number that passes now, and did not before
+module _ (test now : ℕ → Bool) (o : ℕ) (fresh : test o ≡ false) (more : (m : ℕ) → now m ≡ (test m || eqb o m)) where
+  others : (m : ℕ) → (m ≡ o → ⊥) → now m ≡ test m
+  others m p = more m ∙ rw (ne-eqb o m (λ q. p (sym q))) (go (test m))
+    where
+      go : (c : Bool) → (c || false) ≡ c
+      go true = refl
+      go false = refl
+
+  below : (n : ℕ) → n ≤ o → mask now n ≡ mask test n
+  below n h = sum-same _ _ n (λ m k. ap (λ (c : Bool). cond c (2 ^ m) 0) (others m (λ q. omega arith)))
+
+  one-more : (n : ℕ) → o < n → mask test n + 2 ^ o ≡ mask now n
   unfolding sum
-  mask-next m e f = rw (e, f, add-one m)
+  one-more zero h = absurd (omega arith)
+  one-more (suc n) h = go (ℕ-discrete n o) (λ l. one-more n l)
+    where
+      go : Dec (n ≡ o) → (o < n → mask test n + 2 ^ o ≡ mask now n) → mask test (suc n) + 2 ^ o ≡ mask now (suc n)
+      go (yes p) f =
+          let here : now n ≡ true = more n ∙ rw (p, fresh, eq-eqb o o refl) in
+          let before : test n ≡ false = rw p fresh in
+          rw (here, before, below n (omega arith), p) (omega arith)
+      go (no p) f =
+          let rest = f (omega arith) in
+          rw (others n p, ← rest) (omega arith)
 
-  pub mask-fits : (m : ℕ) {x w : ℕ} → m < 8 → x ≡ mask test m → w ≡ cond (test m) (2 ^ m) 0 → x + w < 256
-  mask-fits m {x} {w} h e f =
-      let l : mask test (m + 1) < 2 ^ (m + 1) = mask-lt test (m + 1) in
-      let q : m + 1 ≤ 8 = omega arith in
-      let p : 2 ^ (m + 1) ≤ 2 ^ 8 = pow-mono q in
-      omega (arith, mask-next m e f, l, p)
+-- or none that passes now
+module _ (test now : ℕ → Bool) (o n : ℕ) (on : Bool) (low : o < n) (fresh : on ≡ true → test o ≡ false)
+    (more : (m : ℕ) → now m ≡ (test m || (on && eqb o m))) where
+  pub mask-more : mask test n + cond on (2 ^ o) 0 ≡ mask now n
+  mask-more = go on fresh more
+    where
+      or-false : (c : Bool) → (c || false) ≡ c
+      or-false true = refl
+      or-false false = refl
 
--- ---- the transfers of finished masters
+      go : (c : Bool) → (c ≡ true → test o ≡ false) → ((m : ℕ) → now m ≡ (test m || (c && eqb o m)))
+          → mask test n + cond c (2 ^ o) 0 ≡ mask now n
+      go true f g = one-more test now o (f refl) g n low
+      go false f g =
+          let same = sum-same (λ m. cond (now m) (2 ^ m) 0) (λ m. cond (test m) (2 ^ m) 0) n
+          (λ m k. ap (λ (c : Bool). cond c (2 ^ m) 0) (g m ∙ or-false (test m))) in
+          omega (arith, same)
 
 -- a transfer ended before now, or now
 ended-now : {X : Type 0} (before on : Bool) (d x : X) → cond on d (cond before d x) ≡ cond (before || (on && true)) d x
@@ -75,7 +112,7 @@ kept-now false false d x = refl
 
 -- of n places those are d for which some number below i passes: the number i passes at most the test of place o
 module _ {X : Type 0} (test : ℕ → ℕ → Bool) (d : X) (f : ℕ → X) (n i o : ℕ) (on : Bool) where
-  pub ended-next : {l : List X} {v : X} → o < n → l ≡ table (λ m. cond (some (test m) i) d (f m)) n
+  ended-next : {l : List X} {v : X} → o < n → l ≡ table (λ m. cond (some (test m) i) d (f m)) n
       → ((m : ℕ) → test m i ≡ (on && eqb o m)) → v ≡ cond on d (getD l o d)
       → set l o v ≡ table (λ m. cond (some (test m) (i + 1)) d (f m)) n
   unfolding some
@@ -91,153 +128,260 @@ module _ {X : Type 0} (test : ℕ → ℕ → Bool) (d : X) (f : ℕ → X) (n i
       go m (yes p) = rw (p, t o, eq-eqb o o refl) (here ∙ ended-now (some (test o) i) on d (f o))
       go m (no p) = rw (t m, ne-eqb m o p, ne-eqb o m (λ w. p (sym w))) (kept-now (some (test m) i) on d (f m))
 
--- ---- every slave's clock, and its bytes
+-- ---- the state in the midst of the pass
 
-module _ (b : Board) (st : State) where
-  pub lines-begin : {x : Line} → x ≡ noLine → replicate 16 x ≡ filled (λ i. stepOf b st i .line) (λ i. noLine) 16 0
-  lines-begin e =
-      rw e
-      (filled-none (λ i. stepOf b st i .line) (λ i. noLine) 16 noLine (replicate 16 noLine) (length-replicate 16 noLine)
-      (λ i h. getD-replicate-all 16 i noLine))
+-- the first s slaves have had their turns: v was u, shown was lines, and the bytes e were d
+pub record Pass (b : Board) (u v : State) (s start : ℕ) (lines shown : List Line) (done : ℕ) (d e : Store) : Type 0 where
+  pub within : s ≤ b .«slave_count»
+  pub slots : v .slots ≡ filled (λ i. stepOf b u i .slot) (slotAt u) 16 s
+  pub transfers : v .transfers ≡ table (λ m. cond (some (finishes b u m) s) noTransfer (transferAt u m)) 8
+  pub shows : shown ≡ filled (λ i. stepOf b u i .line) (λ i. getD lines i noLine) 16 s
+  pub finished : done ≡ mask (λ m. some (finishes b u m) s) 8
+  pub begins : start ≡ startOf b s
+  pub memory : length (e .memory) ≡ length (d .memory)
+  pub buffer : length (e .buffer) ≡ length (d .buffer)
+  pub bytes : e ≡ carriedBy b u s d
 
-  pub slots-begin : length (st .slots) ≡ 16 → st .slots ≡ filled (λ i. stepOf b st i .slot) (slotAt st) 16 0
-  slots-begin k = filled-none (λ i. stepOf b st i .slot) (slotAt st) 16 noSlot (st .slots) k (λ i h. refl)
+-- what a turn changes of the state
+module _ (b : Board) (v : State) (s : ℕ) (x : Slot) where
+  turned-slots : stateTurned b v s x .slots ≡ set (v .slots) s (stepAt b v s x .slot)
+  unfolding stateTurned ended stateWith withSlot
+  turned-slots = go (stepAt b v s x .finished)
+    where
+      go : (c : Bool) → ended (withSlot v s (stepAt b v s x .slot)) (x .owner) c .slots ≡ set (v .slots) s (stepAt b v s x .slot)
+      go true = refl
+      go false = refl
 
-  pub finished-begin : replicate 8 false ≡ table (λ m. some (finishes b st m) 0) 8
-  unfolding some
-  finished-begin =
-      table-is (λ m. some (finishes b st m) 0) 8 false (replicate 8 false) (length-replicate 8 false)
-      (λ m h. getD-replicate-all 8 m false)
+  turned-transfers : stateTurned b v s x .transfers
+      ≡ set (v .transfers) (x .owner) (cond (stepAt b v s x .finished) noTransfer (getD (v .transfers) (x .owner) noTransfer))
+  unfolding stateTurned ended stateWith withSlot
+  turned-transfers = go (stepAt b v s x .finished)
+    where
+      go : (c : Bool) → ended (withSlot v s (stepAt b v s x .slot)) (x .owner) c .transfers
+          ≡ set (v .transfers) (x .owner) (cond c noTransfer (getD (v .transfers) (x .owner) noTransfer))
+      go true = refl
+      go false = sym (set-getD (v .transfers) (x .owner) noTransfer)
 
-  pub transfers-begin : length (st .transfers) ≡ 8
-      → st .transfers ≡ table (λ m. cond (some (finishes b st m) 0) noTransfer (transferAt st m)) 8
-  unfolding some
-  transfers-begin l =
-      table-is (λ m. cond (some (finishes b st m) 0) noTransfer (transferAt st m)) 8 noTransfer (st .transfers) l (λ m h. refl)
-
-  -- the step that the code makes
-  pub step-at : (s : ℕ) {x : Slot} {y : Step} → x ≡ slotAfterGrant b st s
-      → y ≡ stepFrom (masterAt b (x .owner)) (slaveAt b s) (transferAt st (x .owner)) x → y ≡ stepOf b st s
-  step-at s e q = q ∙ step-is b st s e
-
-  pub lines-end : (s : ℕ) {lines : List Line} → s ≡ b .«slave_count»
-      → lines ≡ filled (λ i. stepOf b st i .line) (λ i. noLine) 16 s → lines ≡ linesOf b st
-  unfolding filled linesOf lineAfter
-  lines-end s e q = q ∙ rw e
-
-  pub slots-end : (s : ℕ) {slots : List Slot} → s ≡ b .«slave_count»
-      → slots ≡ filled (λ i. stepOf b st i .slot) (slotAt st) 16 s → slots ≡ stateAfter b st .slots
-  unfolding filled stateAfter slotAfter
-  slots-end s e q = q ∙ rw e
-
-  pub finished-end : (s : ℕ) {done : List Bool} → s ≡ b .«slave_count» → done ≡ table (λ m. some (finishes b st m) s) 8
-      → done ≡ table (finished b st) 8
-  unfolding finished
-  finished-end s e q = q ∙ rw e
-
-  pub transfers-end : (s : ℕ) {left : List Transfer} → s ≡ b .«slave_count»
-      → left ≡ table (λ m. cond (some (finishes b st m) s) noTransfer (transferAt st m)) 8 → left ≡ stateAfter b st .transfers
-  unfolding stateAfter transferAfter finished
-  transfers-end s e q = q ∙ rw e
-
-  pub bytes-begin : (d : Store) → d ≡ carriedBy b st 0 d
-  unfolding carriedBy
-  bytes-begin d = refl
-
-  pub bytes-next : (s start : ℕ) (d : Store) {before after : Store} {x : Slot} → before ≡ carriedBy b st s d → start ≡ startOf b s
-      → x ≡ slotAfterGrant b st s
-      → after ≡ carriedFrom (masterAt b (x .owner)) (slaveAt b s) (transferAt st (x .owner)) x start before
-      → after ≡ carriedBy b st (s + 1) d
-  unfolding carriedBy
-  bytes-next s start d {before} {after} {x} e f g q =
-      q ∙ rw (f, add-one s) (carried-is b st s g before ∙ rw e)
-
-  pub bytes-end : (s : ℕ) (d : Store) {after : Store} → s ≡ b .«slave_count» → after ≡ carriedBy b st s d
-      → after ≡ storeAfter b st d
-  unfolding storeAfter
-  bytes-end s d e q = q ∙ rw e
-
-  -- the mask by who is finished
-  pub mask-end : {done : List Bool} {x : ℕ} → done ≡ table (finished b st) 8
-      → x ≡ sum (λ m. cond (getD done m false) (2 ^ m) 0) 8 → x ≡ maskOf b st
-  unfolding maskOf
-  mask-end e q =
-      q ∙ rw e (sum-same _ _ 8 (λ m h. rw (getD-table (finished b st) 8 false m h)))
-
-  -- the answer by its parts
-  pub answer-of : {after : State} {x : ℕ} {lines : List Line} → after .transfers ≡ stateAfter b st .transfers
-      → after .slots ≡ stateAfter b st .slots → x ≡ maskOf b st → lines ≡ linesOf b st
-      → _≡_ {A = Clocked} (record { number = 0; state = after; mask = x; lines = lines })
-      (clockedOf b st)
-  answer-of {after} e f g h =
-      let same : _≡_ {A = State} (record { transfers = after .transfers; slots = after .slots }) (stateAfter b st) = rw (e, f) in
-      rw (same, g, h)
-
--- ---- what a call that is not refused tells
-
-module _ (b : Board) (st : State) (l : length (st .transfers) ≡ 8) (k : length (st .slots) ≡ 16) (r : Runs b st) where
+-- what the call is handed, for a state of 8 transfers and 16 slots
+module _ (b : Board) (u : State) (l : length (u .transfers) ≡ 8) (k : length (u .slots) ≡ 16) (r : Runs b u) where
   pub runs-legal : Legal b
   runs-legal = accepted-legal b (r .board)
 
-  pub runs-sound : Sound b st
-  runs-sound = sound-facts b st l k (runs-legal .fewSlaves) (r .state)
+  pub runs-sound : Sound b u
+  runs-sound = sound-facts b u l k (runs-legal .fewSlaves) (r .state)
 
-  -- where the span of the next slave starts
-  pub start-room : (s : ℕ) → s < b .«slave_count» → startOf b s + slaveAt b s .span ≤ 65536
-  start-room s h = omega (arith, end-inside b s h, runs-legal .total)
-
-  shares-agree : length (b .shares) ≡ 128 → (s m : ℕ) → getD (table (λ i. sharesAt b i s) 8) m 0 ≡ sharesAt b m s
-  shares-agree n s m = go (ltb m 8) refl
-    where
-      go : (c : Bool) → ltb m 8 ≡ c → getD (table (λ i. sharesAt b i s) 8) m 0 ≡ sharesAt b m s
-      go true q = getD-table (λ i. sharesAt b i s) 8 0 m (ltb-true m 8 q)
-      go false q =
-          let far = ltb-false m 8 q in
-          getD-table-past (λ i. sharesAt b i s) 8 0 m far
-          ∙ sym (List·getD-eq-default (b .shares) 0 {n = 16 * m + s} (rw n (omega arith)))
-
-  beats-agree : (m : ℕ) → getD (table (λ i. transferAt st i .beats) 8) m 0 ≡ transferAt st m .beats
-  beats-agree m = go (ltb m 8) refl
-    where
-      go : (c : Bool) → ltb m 8 ≡ c → getD (table (λ i. transferAt st i .beats) 8) m 0 ≡ transferAt st m .beats
-      go true q = getD-table (λ i. transferAt st i .beats) 8 0 m (ltb-true m 8 q)
-      go false q =
-          let far = ltb-false m 8 q in
-          getD-table-past (λ i. transferAt st i .beats) 8 0 m far
-          ∙ ap (λ (t : Transfer). t .beats) (sym (List·getD-eq-default (st .transfers) noTransfer {n = m} (rw l far)))
-
-  -- the slot that the code grants is the one after rule 1
-  pub grant-is : {targets beats : List ℕ} {x : Slot} → length (b .shares) ≡ 128 → targets ≡ targetsIn b (st .transfers)
-      → beats ≡ table (λ m. transferAt st m .beats) 8 → (s : ℕ) → s < b .«slave_count»
-      → x ≡ slotAsked (b .«master_count») (requestMask targets s) (table (λ m. sharesAt b m s) 8) beats (slotAt st s)
-      → x ≡ slotAfterGrant b st s
-  grant-is n e f s h q =
-      q
-      ∙ rw (e, f)
-      (asked-is b st s (requestMask (targetsIn b (st .transfers)) s) (table (λ m. sharesAt b m s) 8)
-      (table (λ m. transferAt st m .beats) 8) (mask-requests b (r .board) st l s h) (shares-agree n s) beats-agree)
-
-  -- the slot of a slave of the board between the rules
+  -- the slave s, whose turn it is
   module _ (s : ℕ) (h : s < b .«slave_count») where
-    module _ {x : Slot} (e : x ≡ slotAfterGrant b st s) where
-      pub owner-known : x .owner < 8
-      owner-known = rw e (omega (arith, grant-sound b st runs-legal runs-sound s h .owner, runs-legal .fewMasters))
+    -- who requests it is finished by no other slave
+    not-ended : (m : ℕ) → requests b u s m ≡ true → some (finishes b u m) s ≡ false
+    unfolding finishes
+    not-ended m mine = go (some (finishes b u m) s) refl
+      where
+        go : (c : Bool) → some (finishes b u m) s ≡ c → some (finishes b u m) s ≡ false
+        go false e = e
+        go true e =
+            let f = some-at (finishes b u m) s e in
+            let t = both (stepOf b u (f .0) .finished) (eqb (stepOf b u (f .0) .line .owner) m) (f .2) in
+            let same = eqb-true (stepOf b u (f .0) .line .owner) m (t .1) in
+            let low : f .0 < b .«slave_count» = omega (arith, f .1) in
+            let theirs = rw same at (finished-asks b u runs-legal runs-sound (f .0) low (t .0)) in
+            let one = requests-one b u m (f .0) s runs-legal theirs mine in
+            absurd (omega (arith, f .1))
 
-      pub between-placed : x .serving ≡ true
-          → Placed (masterAt b (x .owner)) (slaveAt b s) (transferAt st (x .owner)) (x .done)
-      between-placed on = rw e (grant-placed b st runs-legal runs-sound s h (rw e at on))
+    owner-low : slotAfterGrant b u s .owner < 8
+    owner-low = omega (arith, grant-sound b u runs-legal runs-sound s h .owner, runs-legal .fewMasters)
 
-      pub between-reached : {start : ℕ} → start ≡ startOf b s → (d : Store) → length (d .memory) ≡ memoryLength b
-          → length (d .buffer) ≡ bufferLength → x .serving ≡ true
-          → Reached (masterAt b (x .owner)) (slaveAt b s) (transferAt st (x .owner)) (x .owner) start (x .done) d
-      between-reached f d p q on = rw (f, e) (grant-reached b st runs-legal runs-sound s h (rw e at on) d p q)
+    place-low : s < 16
+    place-low = omega (arith, runs-legal .fewSlaves)
 
-      -- only its owner can be finished
-      pub finishes-owner : (m : ℕ) → finishes b st m s ≡ (stepOf b st s .finished && eqb (x .owner) m)
-      unfolding finishes
-      finishes-owner m = go (stepOf b st s .finished) refl
-        where
-          go : (c : Bool) → stepOf b st s .finished ≡ c
-              → (c && eqb (stepOf b st s .line .owner) m) ≡ (c && eqb (x .owner) m)
-          go true f = rw (line-owner b st s (finished-serving b st s f), e)
-          go false f = refl
+    -- only its owner can be finished, and was not before
+    finishes-owner : (m : ℕ) → finishes b u m s ≡ (stepOf b u s .finished && eqb (slotAfterGrant b u s .owner) m)
+    unfolding finishes
+    finishes-owner m = go (stepOf b u s .finished) refl
+      where
+        go : (c : Bool) → stepOf b u s .finished ≡ c
+            → (c && eqb (stepOf b u s .line .owner) m) ≡ (c && eqb (slotAfterGrant b u s .owner) m)
+        go true f = rw (line-owner b u s (finished-serving b u s f))
+        go false f = refl
+
+    not-finished : stepOf b u s .finished ≡ true → some (finishes b u (slotAfterGrant b u s .owner)) s ≡ false
+    not-finished f =
+        not-ended _ (grant-sound b u runs-legal runs-sound s h .serving (finished-serving b u s f) .asks)
+
+    -- what the slave reads in the state v, which is being changed, stood in u
+    module _ (v : State) (slots : v .slots ≡ filled (λ i. stepOf b u i .slot) (slotAt u) 16 s)
+        (transfers : v .transfers ≡ table (λ m. cond (some (finishes b u m) s) noTransfer (transferAt u m)) 8) where
+      slot-same : slotAt v s ≡ slotAt u s
+      unfolding filled
+      slot-same =
+          rw slots
+          (getD-table (λ i. cond (ltb i s) (stepOf b u i .slot) (slotAt u i)) 16 noSlot s place-low
+          ∙ rw (le-ltb s s (omega arith)))
+
+      transfer-same : (m : ℕ) → requests b u s m ≡ true → transferAt v m ≡ transferAt u m
+      transfer-same m mine =
+          let low : m < 8 = omega (arith, requester b u runs-legal runs-sound s m mine .0, runs-legal .fewMasters) in
+          rw transfers
+          (getD-table (λ i. cond (some (finishes b u i) s) noTransfer (transferAt u i)) 8 noTransfer m low
+          ∙ rw (not-ended m mine))
+
+      owner-same : slotAfterGrant b u s .serving ≡ true
+          → transferAt v (slotAfterGrant b u s .owner) ≡ transferAt u (slotAfterGrant b u s .owner)
+      owner-same on = transfer-same _ (grant-sound b u runs-legal runs-sound s h .serving on .asks)
+
+      -- rule 1, by the mask of who requests it in u
+      module _ (mask : ℕ) (e : mask ≡ requestMask (targetsIn b (u .transfers)) s) where
+        asked-same : slotAsked b v s mask ≡ slotAfterGrant b u s
+        unfolding slotAsked slotAfterGrant grantAt
+        asked-same =
+            let f : bit mask ≡ requests b u s = rw e (fun-ext (mask-requests b (r .board) u l s h)) in
+            let g = granted-agree (b .«master_count») (requests b u s) (λ m. sharesAt b m s) (λ m. transferAt v m .beats)
+            (λ m. transferAt u m .beats) (recordOf (slotAt u s))
+            (λ m q. ap (λ (t : Transfer). t .beats) (transfer-same m q)) in
+            rw (slot-same, f, g)
+
+        mask-small : mask < 256
+        unfolding requestMask
+        mask-small = rw e (mask-lt (λ m. eqb (getD (targetsIn b (u .transfers)) m 0) s) 8)
+
+        serving-there : {start : ℕ} → start ≡ startOf b s → (d : Store) → length (d .memory) ≡ memoryLength b
+            → length (d .buffer) ≡ bufferLength → slotAfterGrant b u s .serving ≡ true
+            → Serving b v s (slotAfterGrant b u s) start d
+        serving-there f d p q on = record {
+          slave = place-low;
+          owner = owner-low;
+          serves = record {
+            serving = on;
+            placed = rw (owner-same on) (grant-placed b u runs-legal runs-sound s h on);
+            reached = rw (f, owner-same on) (grant-reached b u runs-legal runs-sound s h on d p q);
+          };
+        }
+
+        pub ready : {start : ℕ} → start ≡ startOf b s → (d : Store) → length (d .memory) ≡ memoryLength b
+            → length (d .buffer) ≡ bufferLength → Ready b v s mask start d
+        ready f d p q = record {
+          slave = place-low;
+          small = mask-small;
+          serves = λ on. rw asked-same (serving-there f d p q (rw asked-same at on));
+        }
+
+        -- rules 2 and 3, and the bytes
+        step-same : stepAt b v s (slotAsked b v s mask) ≡ stepOf b u s
+        unfolding stepAt
+        step-same = rw asked-same (go (slotAfterGrant b u s .serving) refl ∙ step-is b u s refl)
+          where
+            go : (c : Bool) → slotAfterGrant b u s .serving ≡ c
+                → stepFrom (masterAt b (slotAfterGrant b u s .owner)) (slaveAt b s) (transferAt v (slotAfterGrant b u s .owner))
+                (slotAfterGrant b u s)
+                ≡ stepFrom (masterAt b (slotAfterGrant b u s .owner)) (slaveAt b s) (transferAt u (slotAfterGrant b u s .owner))
+                (slotAfterGrant b u s)
+            go true on = rw (owner-same on)
+            go false off = sym (from-resting _ _ _ _ off) ∙ from-resting _ _ _ _ off
+
+        bytes-same : {start : ℕ} → start ≡ startOf b s → (d : Store)
+            → carriedAt b v s (slotAsked b v s mask) start d ≡ carried b u s d
+        unfolding carriedAt
+        bytes-same f d = rw (f, asked-same) (go (slotAfterGrant b u s .serving) refl ∙ carried-is b u s refl d)
+          where
+            go : (c : Bool) → slotAfterGrant b u s .serving ≡ c
+                → carriedFrom (masterAt b (slotAfterGrant b u s .owner)) (slaveAt b s)
+                (transferAt v (slotAfterGrant b u s .owner)) (slotAfterGrant b u s) (startOf b s) d
+                ≡ carriedFrom (masterAt b (slotAfterGrant b u s .owner)) (slaveAt b s)
+                (transferAt u (slotAfterGrant b u s .owner)) (slotAfterGrant b u s) (startOf b s) d
+            go true on = rw (owner-same on)
+            go false off =
+                sym (carried-resting _ _ _ (slotAfterGrant b u s) (startOf b s) d off)
+                ∙ carried-resting _ _ _ (slotAfterGrant b u s) (startOf b s) d off
+
+    -- a turn of the loop
+    module _ {v : State} {start : ℕ} {lines shown : List Line} {done : ℕ} (d c : Store)
+        (p : Pass b u v s start lines shown done d c) (mask : ℕ) (e : mask ≡ requestMask (targetsIn b (u .transfers)) s) where
+      pub pass-ready : length (d .memory) ≡ memoryLength b → length (d .buffer) ≡ bufferLength → Ready b v s mask start c
+      pass-ready m q =
+          ready v (p .slots) (p .transfers) mask e (p .begins) c (p .memory ∙ m) (p .buffer ∙ q)
+
+      module _ {w : State} {after : List Line} {weight : ℕ} (f : Store)
+          (t : Turned b v w s (slotAsked b v s mask) start shown after weight c f) where
+        asked : slotAsked b v s mask ≡ slotAfterGrant b u s
+        asked = asked-same v (p .slots) (p .transfers) mask e
+
+        stepped : stepAt b v s (slotAsked b v s mask) ≡ stepOf b u s
+        stepped = step-same v (p .slots) (p .transfers) mask e
+
+        slots-next : w .slots ≡ filled (λ i. stepOf b u i .slot) (slotAt u) 16 (s + 1)
+        slots-next =
+            ap (λ (x : State). x .slots) (t .state) ∙ turned-slots b v s (slotAsked b v s mask)
+            ∙ filled-next (λ i. stepOf b u i .slot) (slotAt u) 16 s (p .slots) (ap (λ (y : Step). y .slot) stepped)
+
+        transfers-next : w .transfers ≡ table (λ m. cond (some (finishes b u m) (s + 1)) noTransfer (transferAt u m)) 8
+        transfers-next =
+            ap (λ (x : State). x .transfers) (t .state) ∙ turned-transfers b v s (slotAsked b v s mask)
+            ∙ rw (stepped, asked)
+            (ended-next (finishes b u) noTransfer (transferAt u) 8 s (slotAfterGrant b u s .owner) (stepOf b u s .finished)
+            owner-low (p .transfers) finishes-owner refl)
+
+        finished-next : done + weight ≡ sum (λ m. cond (some (finishes b u m) (s + 1)) (2 ^ m) 0) 8
+        unfolding some
+        finished-next =
+            rw (p .finished, t .weight, stepped, asked, add-one s)
+            (mask-more (λ m. some (finishes b u m) s) (λ m. some (finishes b u m) s || finishes b u m s)
+            (slotAfterGrant b u s .owner) 8 (stepOf b u s .finished) owner-low not-finished
+            (λ m. ap (λ (y : Bool). some (finishes b u m) s || y) (finishes-owner m)))
+
+        pub pass-fits : done + weight < 256
+        pass-fits = rw finished-next (mask-lt (λ m. some (finishes b u m) (s + 1)) 8)
+
+        pub pass-next : {sl : Slave} → sl ≡ slaveAt b s → length (f .memory) ≡ length (c .memory)
+            → length (f .buffer) ≡ length (c .buffer)
+            → Pass b u w (s + 1) (start + sl .span) lines after (done + weight) d f
+        unfolding carriedBy
+        pass-next q m n = record {
+          within = omega arith;
+          slots = slots-next;
+          transfers = transfers-next;
+          shows = t .shows
+              ∙ filled-next (λ i. stepOf b u i .line) (λ i. getD lines i noLine) 16 s (p .shows)
+              (ap (λ (y : Step). y .line) stepped);
+          finished = finished-next;
+          begins = rw (p .begins, q) (sym (start-next b s));
+          memory = m ∙ p .memory;
+          buffer = n ∙ p .buffer;
+          bytes = t .store ∙ bytes-same v (p .slots) (p .transfers) mask e (p .begins) c
+              ∙ rw (p .bytes, add-one s);
+        }
+
+      pub start-fits : {sl : Slave} → sl ≡ slaveAt b s → start + sl .span ≤ 65536
+      start-fits q = rw (p .begins, q) (omega (arith, end-inside b s h, runs-legal .total))
+
+-- ---- the pass from its beginning to its end
+
+pub pass-begin : (b : Board) (u : State) (lines : List Line) (d : Store) → length (u .transfers) ≡ 8 → length (u .slots) ≡ 16
+    → length lines ≡ 16 → Pass b u u 0 0 lines lines 0 d d
+unfolding some sum startOf totalSpan carriedBy
+pass-begin b u lines d l k n = record {
+  within = omega arith;
+  slots = filled-none (λ i. stepOf b u i .slot) (slotAt u) 16 noSlot (u .slots) k (λ i h. refl);
+  transfers =
+      table-is (λ m. cond (some (finishes b u m) 0) noTransfer (transferAt u m)) 8 noTransfer (u .transfers) l (λ m h. refl);
+  shows = filled-none (λ i. stepOf b u i .line) (λ i. getD lines i noLine) 16 noLine lines n (λ i h. refl);
+  finished = refl;
+  begins = refl;
+  memory = refl;
+  buffer = refl;
+  bytes = refl;
+}
+
+pub pass-end : (b : Board) (u v : State) (s start : ℕ) (lines shown : List Line) (done : ℕ) (d e : Store) {n : ℕ}
+    {after : List Line} → Pass b u v s start lines shown done d e → s ≡ b .«slave_count» → n ≡ b .«slave_count»
+    → after ≡ firstLines n shown → Clocks b u v after done d e
+unfolding stateAfter slotAfter transferAfter finished linesOf lineAfter maskOf storeAfter filled
+pass-end b u v s start lines shown done d e {n} {after} p f g q = record {
+  state =
+      let a : v .transfers ≡ stateAfter b u .transfers = rw f at (p .transfers) in
+      let c : v .slots ≡ stateAfter b u .slots = rw f at (p .slots) in
+      rw (a, c) refl;
+  lines =
+      first-put (λ i. stepOf b u i .line) (λ i. getD lines i noLine) (b .«slave_count») (rw f at (p .shows)) (rw g at q);
+  mask = rw f at (p .finished);
+  store = rw f at (p .bytes);
+}

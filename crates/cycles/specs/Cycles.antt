@@ -1,22 +1,26 @@
--- What a clock that is not refused is handed, answers and leaves.
+-- What a clock that is not refused is handed, and what it leaves in the lent arrays.
 -- Assumes nothing.
 use mathlib.Core.Path.{_≡_}
 use mathlib.Core.Bool.{true}
+use mathlib.Core.List.{List}
+use Prim.Native.Nat.{ℕ}
 use Rattle.board.specs.declared.Board.{Board}
 use Rattle.board.specs.Items.{checkBoard}
 use Rattle.moves.specs.Bytes.{Store}
 use Rattle.state.specs.declared.State.{State}
+use Rattle.state.specs.declared.Line.{Line}
 use Rattle.state.specs.Soundness.{sound}
-use Rattle.state.specs.Clocking.{clockedOf}
+use Rattle.state.specs.Control.{stateAfter, linesOf, maskOf}
 use Rattle.state.specs.Carrying.{storeAfter}
-use Rattle.state.specs.declared.Clocked.{Clocked}
 
 -- the board is accepted, and the state breaks no rule
 pub record Runs (b : Board) (st : State) : Type 0 where
   pub board : checkBoard b ≡ 0
   pub state : sound b st ≡ true
 
--- a clock that is not refused: its answer, and the lent bytes e that it leaves of d
-pub record Cycled (b : Board) (st : State) (d e : Store) (r : Clocked) : Type 0 where
-  pub answer : r ≡ clockedOf b st
-  pub store : e ≡ storeAfter b st d
+-- the state left, the lines left, the mask answered and the bytes e left of d are the clock's
+pub record Clocks (b : Board) (before after : State) (shown : List Line) (r : ℕ) (d e : Store) : Type 0 where
+  pub state : after ≡ stateAfter b before
+  pub lines : shown ≡ linesOf b before
+  pub mask : r ≡ maskOf b before
+  pub store : e ≡ storeAfter b before d

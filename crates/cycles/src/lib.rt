@@ -1,162 +1,163 @@
-// One clock of an accepted board in a state that breaks no rule, slave by slave: the three rules and the bytes.
-use arbiter::Grant;
-use board::Board;
+// One clock of an accepted board in a state that breaks no rule, slave by slave: the three rules and the bytes. The state is
+// changed in place.
+use arbiter::Winner;
 use geometry::Transfer;
-use state::Clocked;
+use state::Line;
 use state::Slot;
-use state::State;
 ghost use mathlib.Core.Path.{_≡_};
-ghost use mathlib.Core.Bool.{false, cond};
-ghost use Prim.Native.Nat.{_+_, _*_, _^_, _<_};
-ghost use lib.ListN.{getD, length};
-ghost use Rattle.laws.specs.Lists.{table, sum};
+ghost use mathlib.Core.Bool.{false};
+ghost use Prim.Native.Nat.{_<_};
+ghost use lib.ListN.{length};
+ghost use Rattle.laws.specs.Lists.{table};
 ghost use Rattle.board.specs.Records.{memoryLength};
-ghost use Rattle.geometry.specs.Accesses.{noTransfer};
 ghost use Rattle.moves.specs.Bytes.{bufferLength};
+ghost use Rattle.board_layout.specs.Layout.{boardIn};
+ghost use Rattle.state_layout.specs.Layout.{stateIn, linesIn};
 ghost use Rattle.transfers.specs.Targets.{targetsIn, requestMask};
-ghost use Rattle.steps.specs.Serving.{slotAsked};
-ghost use Rattle.state.specs.Clocking.{refusedClock};
-ghost use Rattle.cycles.specs.Cycles.{Runs, Cycled};
+ghost use Rattle.cycles.specs.Cycles.{Runs, Clocks};
+ghost use Rattle.cycles.specs.Turns.{slotAsked, ended, Ready, Serving, Turned};
 
-// The shares of each master at slave s.
-fn shares_at(shares: &[u8; 128], s: usize) -> [u8; 8]
-    requires { ⌜ s < 16 ⌝ }
-    ensures { λ r. ⌜ r ≡ table (λ m. getD (now (shares .entry)) (16 * m + s) 0) 8 ⌝ }
+// Rule 1 at slave s, by a mask of who requests it: shares and beats are read once it is known whose.
+fn grant_at(board: &[u32; 242], st: &[u32; 120], s: usize, mask: u32) -> Slot
+    requires { ⌜ (s < 16) × (mask < 256) ⌝ }
+    ensures { λ r. ⌜ r ≡ slotAsked (boardIn (now (board .entry))) (stateIn (now (st .entry))) s mask ⌝ }
 {
-    let mut out: [u8; 8] = [0; 8];
-    let mut m = 0;
-    while m < 8 {
-        out[m] = shares[16 * m + s];
-        m += 1;
-    }
-    out
-}
-
-// The beats of each master's transfer.
-fn beats_of(transfers: [Transfer; 8]) -> [u8; 8]
-    ensures { λ r. ⌜ r ≡ table (λ m. getD transfers m noTransfer .beats) 8 ⌝ }
-{
-    let mut out: [u8; 8] = [0; 8];
-    let mut m = 0;
-    while m < 8 {
-        let t = transfers[m];
-        out[m] = t.beats;
-        m += 1;
-    }
-    out
-}
-
-// Rule 1 at slave s. Its shares are read only where somebody requests.
-fn grant_at(slot: Slot, n: u8, targets: [u8; 8], shares: &[u8; 128], beats: [u8; 8], s: u8) -> Slot
-    requires { ⌜ s < 16 ⌝ }
-    ensures { λ r. ⌜ r
-        ≡ slotAsked n (requestMask targets s) (table (λ m. getD (now (shares .entry)) (16 * m + s) 0) 8) beats slot ⌝ }
-{
+    let slot = state_layout::slot_at(st, s);
     if slot.serving {
         return slot;
     }
-    let requests = transfers::request_mask(targets, s);
-    if requests == 0 {
-        let nobody = Grant::Silent;
-        return steps::slot_granted(slot, nobody);
+    let last = steps::record_of(slot);
+    let w = arbiter::choose(board_layout::master_count(board), mask, last);
+    match w {
+        Winner::Again => steps::slot_ruled(
+            slot,
+            w,
+            0,
+            state_layout::beats_at(st, last.owner as usize),
+        ),
+        Winner::First(m) => steps::slot_ruled(
+            slot,
+            w,
+            board_layout::share_at(board, m as usize, s),
+            state_layout::beats_at(st, m as usize),
+        ),
+        Winner::NoOne => steps::slot_ruled(slot, w, 0, 0),
     }
-    let here = shares_at(shares, s as usize);
-    steps::slot_asked(slot, n, requests, here, beats)
 }
 
-// The bit of master m, where it is finished.
-fn weight_of(finished: bool, m: u8) -> u8
+// The transfer of a finished master ends.
+fn end_transfer(st: &mut [u32; 120], m: usize, finished: bool)
     requires { ⌜ m < 8 ⌝ }
-    ensures { λ r. ⌜ r ≡ cond finished (2 ^ m) 0 ⌝ }
-{
-    if finished { 1 << m } else { 0 }
-}
-
-// The mask of masters finished.
-fn mask_of(finished: [bool; 8]) -> u8
-    ensures { λ r. ⌜ r ≡ sum (λ m. cond (getD finished m false) (2 ^ m) 0) 8 ⌝ }
-{
-    let mut mask: u8 = 0;
-    let mut m: u8 = 0;
-    while m < 8 {
-        mask += weight_of(finished[m as usize], m);
-        m += 1;
-    }
-    mask
-}
-
-// The transfer of a master after the clock.
-fn transfer_after(t: Transfer, finished: bool) -> Transfer
-    ensures { λ r. ⌜ r ≡ cond finished noTransfer t ⌝ }
+    ensures { λ _. ⌜ stateIn (now (st .exit)) ≡ ended (stateIn (now (st .entry))) m finished ⌝ }
 {
     if finished {
-        return Transfer {
+        let idle = Transfer {
             held: false,
             write: false,
             address: 0,
             lanes: 0,
             beats: 0,
         };
-    }
-    t
-}
-
-// A refusal: its number, the state as it is, and nothing else.
-pub fn refuse(number: u8, state: State) -> Clocked
-    ensures { λ r. ⌜ r ≡ refusedClock number state ⌝ }
-{
-    let lines = [steps::no_line(); 16];
-    Clocked {
-        number: number,
-        state: state,
-        mask: 0,
-        lines: lines,
+        state_layout::put_transfer(st, m, idle);
     }
 }
 
-// A clock that is not refused, in one pass over the slaves. Every rule reads the state before the clock, so that no slave
-// sees what another has changed in it. A slave's span begins at `start` in the memory.
-pub fn run(
-    board: Board,
-    state: State,
-    targets: [u8; 8],
+// Rules 2 and 3 at slave s, which serves: `slot` is its slot after rule 1. Answers the bit of its owner, where it is finished.
+fn serve_at(
+    board: &[u32; 242],
+    st: &mut [u32; 120],
+    s: usize,
+    slot: Slot,
+    start: usize,
+    lines: &mut [u32; 96],
     memory: &mut [u8],
     buffer: &mut [u8],
-) -> Clocked
-    requires { ⌜ Runs board state × (targets ≡ targetsIn board (state .transfers))
-        × (length (now memory) ≡ memoryLength board) × (length (now buffer) ≡ bufferLength) ⌝ }
-    ensures { λ r. ⌜ Cycled board state (record { memory = now (memory .entry); buffer = now (buffer .entry) })
-        (record { memory = now (memory .exit); buffer = now (buffer .exit) }) r ⌝ }
+) -> u32
+    requires { ⌜ Serving (boardIn (now board)) (stateIn (now st)) s slot start
+        (record { memory = now memory; buffer = now buffer }) ⌝ }
+    ensures { λ r. ⌜ Turned (boardIn (now (board .entry))) (stateIn (now (st .entry))) (stateIn (now (st .exit))) s slot start
+        (linesIn (now (lines .entry))) (linesIn (now (lines .exit))) r
+        (record { memory = now (memory .entry); buffer = now (buffer .entry) })
+        (record { memory = now (memory .exit); buffer = now (buffer .exit) }) ⌝ }
 {
-    let n = board.master_count;
-    let beats = beats_of(state.transfers);
-    let mut lines = [steps::no_line(); 16];
-    let mut after = state;
-    let mut finished = [false; 8];
+    let o = slot.owner as usize;
+    let ma = board_layout::master_at(board, o);
+    let sl = board_layout::slave_at(board, s);
+    let t = state_layout::transfer_at(st, o);
+    let step = steps::serve(ma, sl, t, slot, start, memory, buffer);
+    let next = step.slot;
+    let line = step.line;
+    state_layout::put_slot(st, s, next);
+    state_layout::put_line(lines, s, line);
+    end_transfer(st, o, step.finished);
+    transfers::weight_of(step.finished, slot.owner)
+}
+
+// Slave s in one clock; its span starts at `start`. Answers the bit of the master that it finishes. A slave that does not
+// serve shows nothing.
+fn turn(
+    board: &[u32; 242],
+    st: &mut [u32; 120],
+    s: usize,
+    mask: u32,
+    start: usize,
+    lines: &mut [u32; 96],
+    memory: &mut [u8],
+    buffer: &mut [u8],
+) -> u32
+    requires { ⌜ Ready (boardIn (now board)) (stateIn (now st)) s mask start
+        (record { memory = now memory; buffer = now buffer }) ⌝ }
+    ensures { λ r. ⌜ Turned (boardIn (now (board .entry))) (stateIn (now (st .entry))) (stateIn (now (st .exit))) s
+        (slotAsked (boardIn (now (board .entry))) (stateIn (now (st .entry))) s mask) start
+        (linesIn (now (lines .entry))) (linesIn (now (lines .exit))) r
+        (record { memory = now (memory .entry); buffer = now (buffer .entry) })
+        (record { memory = now (memory .exit); buffer = now (buffer .exit) }) ⌝ }
+{
+    let slot = grant_at(board, st, s, mask);
+    if slot.serving {
+        return serve_at(board, st, s, slot, start, lines, memory, buffer);
+    }
+    let idle = Line {
+        phase: 0,
+        owner: 0,
+        offset: 0,
+        lanes: 0,
+        run: 0,
+        place: 0,
+    };
+    state_layout::put_slot(st, s, slot);
+    state_layout::put_line(lines, s, idle);
+    0
+}
+
+// A clock that is not refused, in one pass over the slaves; `requests` are the masks of who requests each of them before the
+// clock. A slave's slot is read at its own turn only, and a transfer that a slave is to serve is for that slave alone: so what
+// a slave reads in the state that is being changed stood there before the clock. Answers the mask of masters finished.
+pub fn cycle(
+    board: &[u32; 242],
+    st: &mut [u32; 120],
+    requests: &[u32; 16],
+    lines: &mut [u32; 96],
+    memory: &mut [u8],
+    buffer: &mut [u8],
+) -> u32
+    requires { ⌜ Runs (boardIn (now board)) (stateIn (now st))
+        × (now requests ≡ table (requestMask (targetsIn (boardIn (now board)) (stateIn (now st) .transfers))) 16)
+        × (length (now memory) ≡ memoryLength (boardIn (now board))) × (length (now buffer) ≡ bufferLength) ⌝ }
+    ensures { λ r. ⌜ Clocks (boardIn (now (board .entry))) (stateIn (now (st .entry))) (stateIn (now (st .exit)))
+        (linesIn (now (lines .exit))) r (record { memory = now (memory .entry); buffer = now (buffer .entry) })
+        (record { memory = now (memory .exit); buffer = now (buffer .exit) }) ⌝ }
+{
+    let count = board_layout::slave_count(board) as usize;
+    let mut finished: u32 = 0;
     let mut start: usize = 0;
-    let mut s: u8 = 0;
-    while s < board.slave_count {
-        let i = s as usize;
-        let sl = board.slaves[i];
-        let slot = grant_at(state.slots[i], n, targets, &board.shares, beats, s);
-        let o = slot.owner as usize;
-        let ma = board.masters[o];
-        let t = state.transfers[o];
-        steps::carry_slot(ma, sl, t, slot, start, memory, buffer);
-        let step = steps::step_from(ma, sl, t, slot);
-        let line = step.line;
-        let next = step.slot;
-        lines[i] = line;
-        after.slots[i] = next;
-        after.transfers[o] = transfer_after(after.transfers[o], step.finished);
-        finished[o] = finished[o] | step.finished;
+    let mut s: usize = 0;
+    while s < count {
+        finished += turn(board, st, s, requests[s], start, lines, memory, buffer);
+        let sl = board_layout::slave_at(board, s);
         start += sl.span as usize;
         s += 1;
     }
-    Clocked {
-        number: 0,
-        state: after,
-        mask: mask_of(finished),
-        lines: lines,
-    }
+    state_layout::clear_lines(lines, count);
+    finished
 }
