@@ -1,10 +1,11 @@
--- A clock's refusals in their order, and what it answers and leaves then.
+-- A clock's refusals in their order.
 -- Assumes nothing.
-use mathlib.Core.Path.{_≡_, sym, _∙_}
-use mathlib.Core.Bool.{true, false, not, _||_}
+use mathlib.Core.Path.{_≡_, refl, _∙_}
+use mathlib.Core.Bool.{Bool, true, false, cond, not, _||_}
+use mathlib.Core.List.{List}
 use Prim.Native.Nat.{ℕ}
 use lib.Dec.{eqb}
-use lib.ListN.{length}
+use lib.ListN.{length, replicate}
 use borrow.Author.Tests.{eq-eqb, ne-eqb, eqb-true, not-false}
 use Rattle.laws.proofs.Tests.{neither, passed}
 use Rattle.board.specs.declared.Board.{Board}
@@ -12,49 +13,66 @@ use Rattle.board.specs.Records.{memoryLength}
 use Rattle.board.specs.Items.{checkBoard}
 use Rattle.moves.specs.Bytes.{Store, bufferLength}
 use Rattle.state.specs.declared.State.{State}
+use Rattle.state.specs.Records.{noLine}
 use Rattle.state.specs.Soundness.{sound}
-use Rattle.state.specs.declared.Clocked.{Clocked}
+use Rattle.state_layout.specs.Layout.{stateIn, linesIn}
+use Rattle.cycles.specs.Cycles.{Clocks as Cycled}
 use Rattle.fabric.specs.Calls.{clockRefusal, clock, storeAfterClock}
-use Rattle.state.specs.Clocking.{refusedClock}
-use Rattle.cycles.specs.Cycles.{Cycled}
+use Rattle.fabric.specs.Requests.{clockRefusalBy}
+use Rattle.fabric.specs.Lent.{Clocks}
 use Rattle.fabric.proofs.PostLaws.{passed-number}
 
+-- the refusal by its parts, in their order
+module _ (room memory buffer : ℕ) (sound : Bool) where
+  pub by-board : {n : ℕ} → (n ≡ 0 → ⊥) → clockRefusalBy n room sound memory buffer ≡ n
+  unfolding clockRefusalBy
+  by-board {n} h = rw (ne-eqb n 0 h)
+
+  pub by-memory : {n : ℕ} → n ≡ 0 → (memory ≡ room → ⊥) → clockRefusalBy n room sound memory buffer ≡ 8
+  unfolding clockRefusalBy
+  by-memory {n} z h = rw (z, ne-eqb memory room h)
+
+  pub by-buffer : {n : ℕ} → n ≡ 0 → memory ≡ room → (buffer ≡ bufferLength → ⊥) → clockRefusalBy n room sound memory buffer ≡ 8
+  unfolding clockRefusalBy
+  by-buffer {n} z e h = rw (z, eq-eqb memory room e, ne-eqb buffer bufferLength h)
+
+  pub by-state : {n : ℕ} → n ≡ 0 → memory ≡ room → buffer ≡ bufferLength
+      → clockRefusalBy n room sound memory buffer ≡ cond {A = ℕ} sound 0 9
+  unfolding clockRefusalBy
+  by-state {n} z e f = rw (z, eq-eqb memory room e, eq-eqb buffer bufferLength f) (go sound)
+    where
+      go : (c : Bool) → cond {A = ℕ} (not c) 9 0 ≡ cond {A = ℕ} c 0 9
+      go true = refl
+      go false = refl
+
 module _ (b : Board) (st : State) (d : Store) where
-  pub refused-board : {n : ℕ} → n ≡ checkBoard b → (n ≡ 0 → ⊥) → clockRefusal b st d ≡ n
+  -- what the check of board and state found says all of it: a state is looked at on an accepted board only
+  pub refusal-found : (number : ℕ) (keeps : Bool) → number ≡ checkBoard b → (checkBoard b ≡ 0 → keeps ≡ sound b st)
+      → clockRefusalBy number (memoryLength b) keeps (length (d .memory)) (length (d .buffer)) ≡ clockRefusal b st d
+  unfolding clockRefusal clockRefusalBy
+  refusal-found number keeps e f = rw e (go (eqb (checkBoard b) 0) refl)
+    where
+      rest : Bool → ℕ
+      rest c =
+          cond (not (eqb (length (d .memory)) (memoryLength b)) || not (eqb (length (d .buffer)) bufferLength)) 8
+          (cond (not c) 9 0)
+
+      go : (c : Bool) → eqb (checkBoard b) 0 ≡ c
+          → cond (not (eqb (checkBoard b) 0)) (checkBoard b) (rest keeps)
+          ≡ cond (not (eqb (checkBoard b) 0)) (checkBoard b) (rest (sound b st))
+      go true z = rw (f (eqb-true (checkBoard b) 0 z))
+      go false z = rw z
+
+  pub not-refused : checkBoard b ≡ 0 → length (d .memory) ≡ memoryLength b → length (d .buffer) ≡ bufferLength
+      → sound b st ≡ true → clockRefusal b st d ≡ 0
   unfolding clockRefusal
-  refused-board {n} e h = rw (ne-eqb (checkBoard b) 0 (λ z. h (e ∙ z))) (sym e)
-
-  module _ (ok : checkBoard b ≡ 0) where
-    pub refused-memory : (length (d .memory) ≡ memoryLength b → ⊥) → clockRefusal b st d ≡ 8
-    unfolding clockRefusal
-    refused-memory h = rw (eq-eqb (checkBoard b) 0 ok, ne-eqb (length (d .memory)) (memoryLength b) h)
-
-    module _ (m : length (d .memory) ≡ memoryLength b) where
-      pub refused-buffer : (length (d .buffer) ≡ bufferLength → ⊥) → clockRefusal b st d ≡ 8
-      unfolding clockRefusal
-      refused-buffer h =
-          rw (eq-eqb (checkBoard b) 0 ok, eq-eqb (length (d .memory)) (memoryLength b) m, ne-eqb (length (d .buffer)) bufferLength h)
-
-      module _ (f : length (d .buffer) ≡ bufferLength) where
-        pub refused-state : sound b st ≡ false → clockRefusal b st d ≡ 9
-        unfolding clockRefusal
-        refused-state h =
-            rw (
-              eq-eqb (checkBoard b) 0 ok,
-              eq-eqb (length (d .memory)) (memoryLength b) m,
-              eq-eqb (length (d .buffer)) bufferLength f,
-              h,
-            )
-
-        pub not-refused : sound b st ≡ true → clockRefusal b st d ≡ 0
-        unfolding clockRefusal
-        not-refused h =
-            rw (
-              eq-eqb (checkBoard b) 0 ok,
-              eq-eqb (length (d .memory)) (memoryLength b) m,
-              eq-eqb (length (d .buffer)) bufferLength f,
-              h,
-            )
+  not-refused ok m f h =
+      rw (
+        eq-eqb (checkBoard b) 0 ok,
+        eq-eqb (length (d .memory)) (memoryLength b) m,
+        eq-eqb (length (d .buffer)) bufferLength f,
+        h,
+      )
 
   -- a clock that is not refused was lent the exact lengths
   pub exact-lengths : clockRefusal b st d ≡ 0 → (length (d .memory) ≡ memoryLength b) × (length (d .buffer) ≡ bufferLength)
@@ -69,20 +87,21 @@ module _ (b : Board) (st : State) (d : Store) where
         eqb-true (length (d .buffer)) bufferLength (not-false buffer (r .1)),
       )
 
-  -- the answer and the bytes of a refusal
-  pub answer-refused : {n : ℕ} {r : Clocked} → clockRefusal b st d ≡ n → (n ≡ 0 → ⊥) → r ≡ refusedClock n st → r ≡ clock b st d
-  unfolding clock
-  answer-refused {n} e h q = q ∙ rw (e, ne-eqb n 0 h)
+-- what a clock answers and leaves, refused and not
+module _ (b : Board) (before lines : List ℕ) (d : Store) where
+  pub clock-refused : {n : ℕ} → n ≡ clockRefusal b (stateIn before) d → (n ≡ 0 → ⊥) → linesIn lines ≡ replicate 16 noLine
+      → Clocks b before before lines d d (record { number = n; mask = 0 })
+  unfolding clock storeAfterClock
+  clock-refused {n} e h q =
+      let no = ne-eqb (clockRefusal b (stateIn before) d) 0 (λ z. h (e ∙ z)) in
+      record { answer = rw (no, e, q); stored = rw no; kept = λ _. refl }
 
-  pub store-refused : {n : ℕ} → clockRefusal b st d ≡ n → (n ≡ 0 → ⊥) → d ≡ storeAfterClock b st d
-  unfolding storeAfterClock
-  store-refused {n} e h = rw (e, ne-eqb n 0 h)
-
-  -- and of a clock that is not refused
-  pub answer-taken : {e : Store} {r : Clocked} → clockRefusal b st d ≡ 0 → Cycled b st d e r → r ≡ clock b st d
-  unfolding clock
-  answer-taken z t = t .answer ∙ rw z
-
-  pub store-taken : {e : Store} {r : Clocked} → clockRefusal b st d ≡ 0 → Cycled b st d e r → e ≡ storeAfterClock b st d
-  unfolding storeAfterClock
-  store-taken z t = t .store ∙ rw z
+  pub clock-taken : {after : List ℕ} {left : Store} {mask : ℕ} → clockRefusal b (stateIn before) d ≡ 0
+      → Cycled b (stateIn before) (stateIn after) (linesIn lines) mask d left
+      → Clocks b before after lines d left (record { number = 0; mask = mask })
+  unfolding clock storeAfterClock
+  clock-taken z c = record {
+    answer = rw (z, c .state, c .lines, c .mask);
+    stored = rw z (c .store);
+    kept = λ h. absurd (h refl);
+  }

@@ -1,6 +1,6 @@
 -- The refusal of a post: what is true where there is none, when there is none, and what the post answers. No other file opens it.
 -- Assumes nothing.
-use mathlib.Core.Path.{_≡_, refl, sym, ap, _∙_}
+use mathlib.Core.Path.{_≡_, refl, sym, _∙_}
 use mathlib.Core.Bool.{Bool, true, false, cond, not}
 use mathlib.Core.List.{List}
 use mathlib.Core.Logic.{_⊎_, inl, inr}
@@ -11,6 +11,7 @@ use borrow.Author.Tests.{leb-false, lt-leb, eq-eqb, ne-eqb, eqb-true, eqb-false,
 use Rattle.laws.proofs.Arithmetic.{product-le}
 use Rattle.laws.proofs.ListLaws.{member-within}
 use Rattle.laws.proofs.Tests.{passed}
+use Rattle.board.specs.declared.Master.{Master}
 use Rattle.board.specs.declared.Board.{Board}
 use Rattle.board.specs.Records.{masterAt, slaveAt}
 use Rattle.board.specs.Rules.{widths, bursts}
@@ -24,7 +25,8 @@ use Rattle.state.specs.Records.{transferAt}
 use Rattle.state.specs.Posting.{Request, transferOf, wrongBeats, unaligned, wrongLanes, unmapped, passesEnd, refusalAt, transferRefusal, stateWith}
 use Rattle.state.specs.Soundness.{sound}
 use Rattle.state.proofs.DecodeLaws.{accepted}
-use Rattle.fabric.specs.declared.Posted.{Posted}
+use Rattle.state_layout.specs.Layout.{stateIn}
+use Rattle.fabric.specs.Lent.{Posts}
 use Rattle.fabric.specs.Calls.{wrongWords, requestRefusal, refusalBy, postRefusal, post, bufferAfterPost}
 
 -- a refusal's number that stands where it is not 0
@@ -60,6 +62,17 @@ module _ (b : Board) (m : ℕ) (t : Transfer) where
       (late (wrongLanes (masterAt b m) t) 15 _ (inr (omega arith))
       (late (unmapped s (b .«slave_count»)) 16 _ (inr (omega arith))
       (late (passesEnd (masterAt b m) (slaveAt b s) t) 17 0 (inr (omega arith)) (inl refl)))))
+
+  -- the transfer passes: its words decide, by the master that was read
+  module _ (passes : transferRefusal b m t ≡ 0) {ma : Master} (own : ma ≡ masterAt b m) {right : ℕ}
+      (e : right ≡ cond (t .write) (t .beats * ma .width) 0) (bytes : ℕ) where
+    pub words-wrong : (bytes ≡ right → ⊥) → requestRefusal b m t bytes ≡ 18
+    unfolding requestRefusal wrongWords
+    words-wrong h = rw (passes, ← own, ← e, ne-eqb bytes right h)
+
+    pub words-right : bytes ≡ right → requestRefusal b m t bytes ≡ 0
+    unfolding requestRefusal wrongWords
+    words-right h = rw (passes, ← own, ← e, eq-eqb bytes right h)
 
   module _ (st : State) (room bytes : ℕ) where
     pub taken : refusalBy b st room m t bytes ≡ 0
@@ -125,17 +138,17 @@ module _ (b : Board) (m : ℕ) (t : Transfer) where
             omega (arith, product-le (t .beats) (masterAt b m .width) 64 8 beats width)
         go false f = omega arith
 
-module _ (b : Board) (st : State) (buffer : List ℕ) (q : Request) where
-  -- what a post answers and leaves in the buffer: "the state stay[s] unchanged" on a refusal, "every lent byte" too
-  pub post-refused : (n : ℕ) → n ≡ postRefusal b st buffer q → (n ≡ 0 → ⊥)
-      → (_≡_ {A = Posted} (record { number = n; state = st }) (post b st buffer q)) × (buffer ≡ bufferAfterPost b st buffer q)
+-- what a post answers and leaves: "the state stay[s] unchanged" on a refusal, "every lent byte" too
+module _ (b : Board) (before buffer : List ℕ) (q : Request) {n : ℕ} (e : n ≡ postRefusal b (stateIn before) buffer q) where
+  pub post-refused : (n ≡ 0 → ⊥) → Posts b q before before buffer buffer n
   unfolding post bufferAfterPost
-  post-refused n e z =
-      let no = ne-eqb (postRefusal b st buffer q) 0 (λ f. z (e ∙ f)) in
-      (rw no (ap (λ (x : ℕ). record { number = x; state = st }) e), rw no)
+  post-refused z =
+      let no = ne-eqb (postRefusal b (stateIn before) buffer q) 0 (λ f. z (e ∙ f)) in
+      record { answer = rw (no, e); stored = rw no; kept = λ _. refl }
 
-  pub post-taken : (n : ℕ) → n ≡ postRefusal b st buffer q → n ≡ 0
-      → (_≡_ {A = Posted} (record { number = n; state = stateWith st (q .master) (transferOf q) }) (post b st buffer q))
-      × (posted (q .master) (q .words) buffer ≡ bufferAfterPost b st buffer q)
+  pub post-taken : n ≡ 0 → {after left : List ℕ} → stateIn after ≡ stateWith (stateIn before) (q .master) (transferOf q)
+      → left ≡ posted (q .master) (q .words) buffer → Posts b q before after buffer left 0
   unfolding post bufferAfterPost
-  post-taken n e z = let f = sym e ∙ z in (rw (f, z), rw f)
+  post-taken z f g =
+      let yes = sym e ∙ z in
+      record { answer = rw (yes, f); stored = rw yes g; kept = λ h. absurd (h refl) }

@@ -1,9 +1,19 @@
--- A post's arguments as one request.
+-- A post's arguments as one request, and a clock's refusal by what was found of board, state and bytes.
 -- Assumes nothing.
-use mathlib.Core.Bool.{Bool}
+use mathlib.Core.Bool.{Bool, cond, not, _||_}
 use mathlib.Core.List.{List}
 use Prim.Native.Nat.{ℕ}
+use lib.Dec.{eqb}
+use Rattle.moves.specs.Bytes.{bufferLength}
 use Rattle.state.specs.Posting.{Request}
 
 abbrev pub request : ℕ → Bool → ℕ → ℕ → ℕ → List ℕ → Request
 request m w a l n bytes = record { master = m; write = w; address = a; lanes = l; beats = n; words = bytes }
+
+-- `clockRefusal` of the board's number, the bytes its spans take together, whether the state breaks no rule, and both lengths
+unfoldable pub clockRefusalBy : ℕ → ℕ → Bool → ℕ → ℕ → ℕ
+clockRefusalBy number room sound memory buffer =
+    cond (not (eqb number 0)) number
+    (cond (not (eqb memory room) || not (eqb buffer bufferLength)) 8
+    (cond (not sound) 9
+    0))

@@ -1,130 +1,96 @@
-// The public calls on a board's fabric: reset, post and clock.
-use board::Board;
+// The public calls on a board's fabric: reset, post, clock and run, on lent arrays of numbers.
 use board::Master;
 use geometry::Transfer;
-use state::Clocked;
-use state::Slot;
 use state::State;
 ghost use mathlib.Core.Path.{_≡_};
 ghost use mathlib.Core.Bool.{cond};
 ghost use Prim.Native.Nat.{_*_, _≤_, _<_};
+ghost use lib.ListN.{length};
 ghost use Rattle.board.specs.Items.{checkBoard};
-ghost use Rattle.state.specs.Records.{noState};
-ghost use Rattle.state.specs.Resetting.{ownedBy};
-ghost use Rattle.fabric.specs.Calls.{requestRefusal, refusalBy, bufferAfterPost, storeAfterClock};
-ghost use Rattle.fabric.specs.Requests.{request};
-ghost use Rattle.fabric.specs.Calls as calls;
+ghost use Rattle.board.specs.Records.{memoryLength};
+ghost use Rattle.board_layout.specs.Layout.{boardIn};
+ghost use Rattle.state_layout.specs.Layout.{stateIn};
+ghost use Rattle.fabric.specs.Calls.{requestRefusal, refusalBy};
+ghost use Rattle.fabric.specs.Requests.{request, clockRefusalBy};
+ghost use Rattle.fabric.specs.Lent.{Resets, Posts, Clocks, Runs};
 
-// The answer of reset.
+// What the definitions of reset and post answer. The calls are lent the state, and answer the number alone.
 pub struct Started {
-    pub number: u8,
+    pub number: u32,
     pub state: State,
 }
 
-// The answer of post.
 pub struct Posted {
-    pub number: u8,
+    pub number: u32,
     pub state: State,
 }
 
-// No transfers, and every slot 0.
-fn no_state() -> State
-    ensures { λ r. ⌜ r ≡ noState ⌝ }
-{
-    let idle = Transfer {
-        held: false,
-        write: false,
-        address: 0,
-        lanes: 0,
-        beats: 0,
-    };
-    let still = Slot {
-        owner: 0,
-        remaining: 0,
-        serving: false,
-        done: 0,
-        waited: 0,
-    };
-    let transfers = [idle; 8];
-    let slots = [still; 16];
-    State {
-        transfers: transfers,
-        slots: slots,
-    }
+// The answer of clock beside its lines: a refusal's number and 0, or 0 and the mask of masters finished.
+pub struct Answer {
+    pub number: u32,
+    pub mask: u32,
 }
 
-// The state whose first count slots were last owned by the owner, all else 0.
-fn state_at_reset(owner: u8, count: u8) -> State
-    requires { ⌜ count ≤ 16 ⌝ }
-    ensures { λ r. ⌜ r ≡ ownedBy owner count ⌝ }
-{
-    let mut st = no_state();
-    let mut s: u8 = 0;
-    while s < count {
-        st.slots[s as usize] = Slot {
-            owner: owner,
-            remaining: 0,
-            serving: false,
-            done: 0,
-            waited: 0,
-        };
-        s += 1;
-    }
-    st
+// The answer of run beside its lines: a refusal's number and zeros, or 0, the clocks passed and the last one's mask.
+pub struct Ran {
+    pub number: u32,
+    pub clocks: u32,
+    pub mask: u32,
 }
 
-// Reset: the board's own state, every slave last owned by the highest master, or zeros where the board is refused. Both are
-// built in one way: where a state made of constants met another, the compiler would hold every field of it in a value of its
-// own, here and in the callers that it inlines this into, and put the state together again at each call.
-pub fn reset(board: Board) -> Started
-    ensures { λ r. ⌜ r ≡ calls.reset board ⌝ }
+// Reset: the board's own state, every slave last owned by the highest master.
+pub fn reset(board: &[u32; 242], state: &mut [u32; 120]) -> u32
+    ensures { λ r. ⌜ Resets (boardIn (now (board .entry))) (now (state .entry)) (now (state .exit)) r ⌝ }
 {
-    // not refusal: a reset need not be fast, and refusal with its one caller is inlined there
-    let number = board_check::check(board);
-    let mut owner = 0;
-    let mut count = 0;
-    if number == 0 {
-        owner = board.master_count - 1;
-        count = board.slave_count;
+    let number = board_check::refusal(board);
+    if number != 0 {
+        return number;
     }
-    let st = state_at_reset(owner, count);
-    Started {
-        number: number,
-        state: st,
-    }
+    let owner = board_layout::master_count(board) - 1;
+    let count = board_layout::slave_count(board);
+    state_layout::reset_state(state, owner, count);
+    0
 }
 
-// The bytes that a post hands in with a transfer: none for a read.
-fn words_length(ma: Master, t: Transfer) -> usize
+// The bytes that a post hands in with a transfer: none for a read. In 64 bits no product of two numbers wraps.
+fn words_length(ma: Master, t: Transfer) -> u64
     ensures { λ r. ⌜ r ≡ cond (t .write) (t .beats * ma .width) 0 ⌝ }
 {
     if t.write {
-        return t.beats as usize * ma.width as usize;
+        return t.beats as u64 * ma.width as u64;
     }
     0
 }
 
 // What the transfer t of master m, with `length` bytes of words, is refused for, or 0: whoever holds what.
-fn request_refusal(board: Board, m: usize, t: Transfer, length: usize) -> u8
-    requires { ⌜ (checkBoard board ≡ 0) × (m < board .«master_count») ⌝ }
-    ensures { λ r. ⌜ r ≡ requestRefusal board m t length ⌝ }
+fn request_refusal(board: &[u32; 242], m: usize, t: Transfer, length: usize) -> u32
+    requires { ⌜ (checkBoard (boardIn (now board)) ≡ 0) × (m < boardIn (now board) .«master_count») ⌝ }
+    ensures { λ r. ⌜ r ≡ requestRefusal (boardIn (now (board .entry))) m t length ⌝ }
 {
     let number = transfers::refusal_of(board, m, t);
     if number != 0 {
         return number;
     }
-    let ma = board.masters[m];
-    if length != words_length(ma, t) {
+    let ma = board_layout::master_at(board, m);
+    if length as u64 != words_length(ma, t) {
         return 18;
     }
     0
 }
 
 // What a post is refused for, or 0: of the transfer t by master m, with a buffer of `room` bytes and `length` bytes of words.
-fn post_refusal(board: Board, state: State, room: usize, m: u32, t: Transfer, length: usize) -> u8
-    ensures { λ r. ⌜ r ≡ refusalBy board state room m t length ⌝ }
+fn post_refusal(
+    board: &[u32; 242],
+    state: &[u32; 120],
+    room: usize,
+    m: u32,
+    t: Transfer,
+    length: usize,
+) -> u32
+    ensures { λ r. ⌜ r ≡ refusalBy (boardIn (now (board .entry))) (stateIn (now (state .entry))) room m t length ⌝ }
 {
-    let checked = state_check::ready(board, state);
+    let mut targets = [0u32; 8];
+    let checked = state_check::ready(board, state, &mut targets);
     if checked.number != 0 {
         return checked.number;
     }
@@ -134,11 +100,10 @@ fn post_refusal(board: Board, state: State, room: usize, m: u32, t: Transfer, le
     if !checked.sound {
         return 9;
     }
-    if board.master_count as u32 <= m {
+    if board_layout::master_count(board) <= m {
         return 11;
     }
-    let transfers = state.transfers;
-    let before = transfers[m as usize];
+    let before = state_layout::transfer_at(state, m as usize);
     if before.held {
         return 12;
     }
@@ -147,20 +112,18 @@ fn post_refusal(board: Board, state: State, room: usize, m: u32, t: Transfer, le
 
 // Post: a master hands in one transfer. A write's words are copied to the front of the master's part of the buffer.
 pub fn post(
-    board: Board,
-    state: State,
+    board: &[u32; 242],
+    state: &mut [u32; 120],
     buffer: &mut [u8],
     master: u32,
     write: bool,
     address: u32,
-    lanes: u8,
-    beats: u8,
+    lanes: u32,
+    beats: u32,
     words: &[u8],
-) -> Posted
-    ensures answer { λ r. ⌜ r
-        ≡ calls.post board state (now (buffer .entry)) (request master write address lanes beats (now (words .entry))) ⌝ }
-    ensures stored { λ r. ⌜ now (buffer .exit)
-        ≡ bufferAfterPost board state (now (buffer .entry)) (request master write address lanes beats (now (words .entry))) ⌝ }
+) -> u32
+    ensures { λ r. ⌜ Posts (boardIn (now (board .entry))) (request master write address lanes beats (now (words .entry)))
+        (now (state .entry)) (now (state .exit)) (now (buffer .entry)) (now (buffer .exit)) r ⌝ }
 {
     let t = Transfer {
         held: true,
@@ -170,40 +133,117 @@ pub fn post(
         beats: beats,
     };
     let number = post_refusal(board, state, buffer.len(), master, t, words.len());
-    let mut after = state;
-    if number == 0 {
-        let m = master as usize;
-        moves::post_words(buffer, m, words);
-        after.transfers[m] = t;
+    if number != 0 {
+        return number;
     }
-    Posted {
-        number: number,
-        state: after,
+    let m = master as usize;
+    moves::post_words(buffer, m, words);
+    state_layout::put_transfer(state, m, t);
+    0
+}
+
+// What a clock is refused for, or 0: by the board's number, whether the state breaks no rule, and the bytes lent.
+fn clock_refusal(board: &[u32; 242], number: u32, sound: bool, memory: usize, buffer: usize) -> u32
+    requires { ⌜ (number ≡ 0 → boardIn (now board) .«slave_count» ≤ 16) ⌝ }
+    ensures { λ r. ⌜ r ≡ clockRefusalBy number (memoryLength (boardIn (now (board .entry)))) sound memory buffer ⌝ }
+{
+    if number != 0 {
+        return number;
     }
+    let count = board_layout::slave_count(board) as usize;
+    let room = rules::span_total(board, count, 0);
+    if memory as u64 != room {
+        return 8;
+    }
+    if buffer != 4096 {
+        return 8;
+    }
+    if sound { 0 } else { 9 }
 }
 
 // Clock: one cycle of the whole fabric. What is refused is checked in rising order; where nothing is, each slave acts.
-pub fn clock(board: Board, state: State, memory: &mut [u8], buffer: &mut [u8]) -> Clocked
-    ensures answer { λ r. ⌜ r
-        ≡ calls.clock board state (record { memory = now (memory .entry); buffer = now (buffer .entry) }) ⌝ }
-    ensures stored { λ r. ⌜ record { memory = now (memory .exit); buffer = now (buffer .exit) }
-        ≡ storeAfterClock board state (record { memory = now (memory .entry); buffer = now (buffer .entry) }) ⌝ }
+pub fn clock(
+    board: &[u32; 242],
+    state: &mut [u32; 120],
+    memory: &mut [u8],
+    buffer: &mut [u8],
+    lines: &mut [u32; 96],
+) -> Answer
+    ensures { λ r. ⌜ Clocks (boardIn (now (board .entry))) (now (state .entry)) (now (state .exit)) (now (lines .exit))
+        (record { memory = now (memory .entry); buffer = now (buffer .entry) })
+        (record { memory = now (memory .exit); buffer = now (buffer .exit) }) r ⌝ }
 {
-    let checked = state_check::ready(board, state);
-    if checked.number != 0 {
-        return cycles::refuse(checked.number, state);
+    let mut targets = [0u32; 8];
+    let checked = state_check::ready(board, state, &mut targets);
+    let number = clock_refusal(
+        board,
+        checked.number,
+        checked.sound,
+        memory.len(),
+        buffer.len(),
+    );
+    if number != 0 {
+        state_layout::clear_lines(lines, 0);
+        return Answer {
+            number: number,
+            mask: 0,
+        };
     }
-    let slaves = board.slaves;
-    let room = rules::span_total(slaves, board.slave_count as usize, 0);
-    if memory.len() as u64 != room {
-        return cycles::refuse(8, state);
+    let mut requests = [0u32; 16];
+    transfers::request_masks(&targets, &mut requests);
+    let mask = cycles::cycle(board, state, &requests, lines, memory, buffer);
+    Answer {
+        number: 0,
+        mask: mask,
     }
-    if buffer.len() != 4096 {
-        return cycles::refuse(8, state);
+}
+
+fn run_answer(n: u32, passed: u32, finished: u32) -> Ran
+    ensures { λ r. ⌜ r ≡ record { number = n; clocks = passed; mask = finished } ⌝ }
+{
+    Ran {
+        number: n,
+        clocks: passed,
+        mask: finished,
     }
-    if checked.sound {
-        let targets = checked.targets;
-        return cycles::run(board, state, targets, memory, buffer);
+}
+
+// Run: clocks until a master finishes or `most` of them have passed. Board and state are checked once: a clock leaves a state
+// that breaks no rule, and as long as no master finishes every transfer is for the slave that it was for.
+pub fn run(
+    board: &[u32; 242],
+    state: &mut [u32; 120],
+    memory: &mut [u8],
+    buffer: &mut [u8],
+    lines: &mut [u32; 96],
+    most: u32,
+) -> Ran
+    ensures { λ r. ⌜ Runs (boardIn (now (board .entry))) most (now (state .entry)) (now (state .exit)) (now (lines .exit))
+        (record { memory = now (memory .entry); buffer = now (buffer .entry) })
+        (record { memory = now (memory .exit); buffer = now (buffer .exit) }) r ⌝ }
+{
+    let mut targets = [0u32; 8];
+    let checked = state_check::ready(board, state, &mut targets);
+    let number = clock_refusal(
+        board,
+        checked.number,
+        checked.sound,
+        memory.len(),
+        buffer.len(),
+    );
+    state_layout::clear_lines(lines, 0);
+    if number != 0 {
+        return run_answer(number, 0, 0);
     }
-    cycles::refuse(9, state)
+    let mut requests = [0u32; 16];
+    transfers::request_masks(&targets, &mut requests);
+    let mut left = most;
+    while 0 < left {
+        let mask = cycles::cycle(board, state, &requests, lines, memory, buffer);
+        left -= 1;
+        if mask != 0 {
+            return run_answer(0, most - left, mask);
+        }
+    }
+    run_answer(0, most, 0)
 }

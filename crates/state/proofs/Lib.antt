@@ -5,3 +5,4 @@ pub mod StepLaws
 pub mod SoundLaws
 pub mod CycleLaws
 pub mod ArbiterRecords
+pub mod StoreLengths

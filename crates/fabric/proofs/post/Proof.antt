@@ -5,8 +5,9 @@ use mathlib.Core.Bool.{true}
 use lib.ListN.{length}
 use borrow.Author.Needs.{needs}
 use Rattle.board.specs.Items.{checkBoard}
+use Rattle.board_layout.specs.Layout.{boardIn}
 use Rattle.moves.specs.Bytes.{bufferLength}
-use Rattle.state.specs.Posting.{stateWith}
+use Rattle.state_layout.specs.Layout.{stateIn}
 use Rattle.fabric.specs.Calls.{postRefusal}
 use Rattle.fabric.proofs.PostLaws.{Taken, taken, some-part, words-fit, post-refused, post-taken}
 use Rattle.fabric.proofs.post.Statement.{statement}
@@ -15,41 +16,40 @@ use Rattle.fabric.proofs.post.Tie as tie
 post-refusal-requires : tie.Need-post-refusal-requires
 post-refusal-requires c κs = search needs
 
-fits : (c : tie.Then1) → let a = c .before .before .before .before .args in
-    (checkBoard (a .board) ≡ 0) × (length (a .buffer .now) ≡ bufferLength)
-    × Taken (a .board) (a .state) (a .master)
+returns : tie.Need-returns
+unfolding postRefusal
+returns c = post-refused _ _ _ _ (c .before .post-refusal .ensures) (c .if1 .taken)
+
+fits : (c : tie.Else1) → let a = c .before .before .before .before .before .args in
+    (checkBoard (boardIn (a .board .now)) ≡ 0) × (length (a .buffer .now) ≡ bufferLength)
+    × Taken (boardIn (a .board .now)) (stateIn (a .state .now)) (a .master)
     (record { held = true; write = a .write; address = a .address; lanes = a .lanes; beats = a .beats }) (length (a .words .now))
-fits c = taken _ _ _ _ _ _ (sym (c .before .post-refusal .ensures) ∙ c .if1 .taken)
+fits c = taken _ _ _ _ _ _ (sym (c .before .post-refusal .ensures) ∙ c .if1 .left)
 
 post-words-requires : tie.Need-post-words-requires
 post-words-requires c κs = let f = fits (c .before) in (f .1, some-part _ _ _ (f .0) (f .2), words-fit _ _ _ (f .0) (f .2))
 
-mul-t : tie.Need-mul-t
-mul-t c = search needs
-
-element-set-from-t : tie.Need-element-set-from-t
-element-set-from-t c = let f = fits (c .before .before .before .before) in some-part _ _ _ (f .0) (f .2)
+put-transfer-requires : tie.Need-put-transfer-requires
+put-transfer-requires c κs =
+    let f = fits (c .before .before .before .before .before) in some-part _ _ _ (f .0) (f .2)
 
 same-length : tie.Need-same-length
 same-length c = search needs
 
-returns : tie.Need-returns
-unfolding stateWith postRefusal
-returns c = let p = post-taken _ _ _ _ _ (c .before .before .before .before .before .post-refusal .ensures) (c .before .before .before .before .if1 .taken) in
-    (p .0, c .before .before .post-words .ensures ∙ p .1)
-
 returns-2 : tie.Need-returns-2
 unfolding postRefusal
-returns-2 c = post-refused _ _ _ _ _ (c .before .post-refusal .ensures) (c .if1 .left)
+returns-2 c =
+    let w = c .before .before .before .before in
+    let e = w .before .before in
+    post-taken _ _ _ _ (e .before .post-refusal .ensures) (e .if1 .left) (c .put-transfer .ensures) (w .post-words .ensures)
 
 pub post-spec : {M : Type 1} → statement M
 post-spec =
     tie.close
     (tie.spec
     post-refusal-requires
-    post-words-requires
-    mul-t
-    element-set-from-t
-    same-length
     returns
+    post-words-requires
+    put-transfer-requires
+    same-length
     returns-2)

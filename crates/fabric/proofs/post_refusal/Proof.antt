@@ -1,19 +1,26 @@
 -- `fabric::post_refusal` meets its contract. Each way out answers the definition's tests in their order.
 -- Assumes nothing.
-use mathlib.Core.Path.{_≡_, sym, _∙_}
-use mathlib.Core.Bool.{cond}
+use mathlib.Core.Path.{_≡_, sym, ap, _∙_}
+use mathlib.Core.Bool.{false, cond}
+use Prim.Native.Nat.{_≤_, _<_}
 use native.Mathlib.Omega.{arith}
 use lib.Dec.{leb}
 use borrow.Author.Tests.{eq-eqb, ne-eqb, le-leb, lt-leb, not-true, not-false}
 use borrow.Author.Needs.{needs}
 use Rattle.board.specs.Items.{checkBoard}
 use Rattle.board.proofs.Accepted.{accepted-legal}
+use Rattle.board_layout.specs.Layout.{boardIn}
+use Rattle.geometry.specs.declared.Transfer.{Transfer}
 use Rattle.state.specs.Records.{transferAt}
 use Rattle.state.specs.Soundness.{sound}
+use Rattle.state_layout.specs.Layout.{stateIn}
 use Rattle.fabric.specs.Calls.{requestRefusal, refusalBy}
 use Rattle.fabric.proofs.PostLaws.{refusal-asked}
 use Rattle.fabric.proofs.post_refusal.Statement.{statement}
 use Rattle.fabric.proofs.post_refusal.Tie as tie
+
+abbrev start : tie.After-ready → tie.Start
+start c = c .before .before
 
 ready-requires : tie.Need-ready-requires
 ready-requires c κs = search needs
@@ -22,7 +29,7 @@ returns : tie.Need-returns
 unfolding refusalBy
 returns c = rw (← c .before .before .ready .ensures .number, ne-eqb _ _ (c .if1 .taken))
 
-accepted : (c : tie.Else1) → checkBoard (c .before .before .before .args .board) ≡ 0
+accepted : (c : tie.Else1) → checkBoard (boardIn (start (c .before .before) .args .board .now)) ≡ 0
 accepted c = sym (c .before .before .ready .ensures .number) ∙ c .if1 .left
 
 returns-2 : tie.Need-returns-2
@@ -30,8 +37,9 @@ unfolding refusalBy
 returns-2 c = rw (accepted (c .before), ne-eqb _ _ (c .if2 .taken))
 
 -- what the state's check says
-checked : (c : tie.Else2) → let r = c .before .before .before in
-    r .ready .result .sound ≡ sound (r .before .args .board) (r .before .args .state)
+checked : (c : tie.Else2)
+    → let r = c .before .before .before in
+    let a = start r .args in r .ready .result .sound ≡ sound (boardIn (a .board .now)) (stateIn (a .state .now))
 checked c = c .before .before .before .ready .ensures .sound (accepted (c .before))
 
 returns-3 : tie.Need-returns-3
@@ -42,33 +50,58 @@ returns-3 c = let e = c .before .before in rw (
   sym (checked e) ∙ not-true _ (c .if3 .taken),
 )
 
-cast-if4 : tie.Need-cast-if4
-cast-if4 c = search needs
+master-count-requires : tie.Need-master-count-requires
+master-count-requires c κs = search needs
 
-asked : (c : tie.Else3) → let a = c .before .before .before .before .before .before .args in
-    refusalBy (a .board) (a .state) (a .room) (a .m) (a .t) (a .length)
-    ≡ cond (leb (a .board .«master_count») (a .m)) 11
-    (cond (transferAt (a .state) (a .m) .held) 12 (requestRefusal (a .board) (a .m) (a .t) (a .length)))
+asked : (c : tie.Else3)
+    → let a = start (c .before .before .before .before .before) .args in
+    let b = boardIn (a .board .now) in
+    let st = stateIn (a .state .now) in
+    refusalBy b st (a .room) (a .m) (a .t) (a .length)
+    ≡ cond (leb (b .«master_count») (a .m)) 11
+    (cond (transferAt st (a .m) .held) 12 (requestRefusal b (a .m) (a .t) (a .length)))
 asked c = let e = c .before .before in
     refusal-asked _ _ _ _ _ _ (accepted (e .before)) (e .if2 .left) (sym (checked e) ∙ not-false _ (c .if3 .left))
 
+-- the master is one of the board
+below : (c : tie.Else4)
+    → let a = start (c .before .before .before .before .before .before .before) .args in
+    leb (boardIn (a .board .now) .«master_count») (a .m) ≡ false
+below c =
+    let a = start (c .before .before .before .before .before .before .before) .args in
+    let under : a .m < boardIn (a .board .now) .«master_count» = omega (arith, c .before .master-count .ensures, c .if4 .left) in
+    lt-leb _ _ under
+
 returns-4 : tie.Need-returns-4
-returns-4 c = rw (asked (c .before .before), le-leb _ _ (c .if4 .taken))
+returns-4 c =
+    let e = c .before .before in
+    let a = start (e .before .before .before .before .before) .args in
+    let above : boardIn (a .board .now) .«master_count» ≤ a .m = omega (arith, c .before .master-count .ensures, c .if4 .taken) in
+    rw (asked e, le-leb _ _ above)
 
-mul-before : tie.Need-mul-before
-mul-before c = search needs
-
-array-copy-out-before : tie.Need-array-copy-out-before
-array-copy-out-before c = omega (arith, accepted-legal _ (accepted (c .before .before .before .before .before .before)) .fewMasters)
+transfer-at-requires : tie.Need-transfer-at-requires
+transfer-at-requires c κs =
+    let e = c .before .before .before .before .before in
+    omega (arith, c .before .master-count .ensures, c .if4 .left, accepted-legal _ (accepted e) .fewMasters)
 
 returns-5 : tie.Need-returns-5
-returns-5 c = let e = c .before .before .before in rw (asked (e .before .before), lt-leb _ _ (e .if4 .left), c .if5 .taken)
+returns-5 c =
+    let e = c .before .before in
+    let held = sym (ap (λ (x : Transfer). x .held) (c .before .transfer-at .ensures)) ∙ c .if5 .taken in
+    rw (asked (e .before .before), below e, held)
 
 request-refusal-requires : tie.Need-request-refusal-requires
-request-refusal-requires c κs = search needs
+request-refusal-requires c κs =
+    let f = c .before .before in
+    let e = f .before .before .before .before .before in
+    (accepted e, omega (arith, f .before .master-count .ensures, f .if4 .left))
 
 returns-6 : tie.Need-returns-6
-returns-6 c = let e = c .before .before .before .before in rw (asked (e .before .before), lt-leb _ _ (e .if4 .left), c .before .if5 .left, c .request-refusal .ensures)
+returns-6 c =
+    let t = c .before .before in
+    let e = t .before in
+    let free = sym (ap (λ (x : Transfer). x .held) (t .transfer-at .ensures)) ∙ c .before .if5 .left in
+    rw (asked (e .before .before), below e, free) (c .request-refusal .ensures)
 
 pub post-refusal-spec : {M : Type 1} → statement M
 post-refusal-spec =
@@ -78,10 +111,9 @@ post-refusal-spec =
     returns
     returns-2
     returns-3
-    cast-if4
+    master-count-requires
     returns-4
-    mul-before
-    array-copy-out-before
+    transfer-at-requires
     returns-5
     request-refusal-requires
     returns-6)

@@ -1,11 +1,14 @@
 -- `fabric::request_refusal` meets its contract.
 -- Assumes nothing.
-use mathlib.Core.Path.{sym, _∙_}
+use mathlib.Core.Path.{_≡_, sym, _∙_}
 use native.Mathlib.Omega.{arith}
-use borrow.Author.Tests.{eq-eqb, ne-eqb}
+use borrow.Author.Tests.{ne-eqb}
 use borrow.Author.Needs.{needs}
 use Rattle.board.proofs.Accepted.{accepted-legal}
-use Rattle.fabric.specs.Calls.{requestRefusal, wrongWords}
+use Rattle.board_layout.specs.Layout.{boardIn}
+use Rattle.state.specs.Posting.{transferRefusal}
+use Rattle.fabric.specs.Calls.{requestRefusal}
+use Rattle.fabric.proofs.PostLaws.{words-wrong, words-right}
 use Rattle.fabric.proofs.request_refusal.Statement.{statement}
 use Rattle.fabric.proofs.request_refusal.Tie as tie
 
@@ -16,30 +19,27 @@ returns : tie.Need-returns
 unfolding requestRefusal
 returns c = rw (← c .before .refusal-of .ensures, ne-eqb _ _ (c .if1 .taken))
 
-mul-ma : tie.Need-mul-ma
-mul-ma c = search needs
-
-element-copy-out-ma : tie.Need-element-copy-out-ma
-element-copy-out-ma c = let o = c .before .before in omega (arith, o .pre .1, accepted-legal _ (o .pre .0) .fewMasters)
+master-at-requires : tie.Need-master-at-requires
+master-at-requires c κs =
+    let o = c .before .before in omega (arith, o .pre .1, accepted-legal _ (o .pre .0) .fewMasters)
 
 words-length-requires : tie.Need-words-length-requires
 words-length-requires c κs = search needs
 
+passes : (c : tie.Else1) → let a = c .before .before .args in transferRefusal (boardIn (a .board .now)) (a .m) (a .t) ≡ 0
+passes c = sym (c .before .refusal-of .ensures) ∙ c .if1 .left
+
 returns-2 : tie.Need-returns-2
-unfolding requestRefusal wrongWords
-returns-2 c = let n = c .before .before .before in rw (
-  sym (n .before .refusal-of .ensures) ∙ n .if1 .left,
-  ← c .before .words-length .ensures,
-  ne-eqb _ _ (c .if2 .taken),
-)
+returns-2 c =
+    let w = c .before in
+    let m = w .before in
+    sym (words-wrong _ _ _ (passes (m .before)) (m .master-at .ensures) (w .words-length .ensures) _ (c .if2 .taken))
 
 returns-3 : tie.Need-returns-3
-unfolding requestRefusal wrongWords
-returns-3 c = let n = c .before .before .before in rw (
-  sym (n .before .refusal-of .ensures) ∙ n .if1 .left,
-  ← c .before .words-length .ensures,
-  eq-eqb _ _ (c .if2 .left),
-)
+returns-3 c =
+    let w = c .before in
+    let m = w .before in
+    sym (words-right _ _ _ (passes (m .before)) (m .master-at .ensures) (w .words-length .ensures) _ (c .if2 .left))
 
 pub request-refusal-spec : {M : Type 1} → statement M
 request-refusal-spec =
@@ -47,8 +47,7 @@ request-refusal-spec =
     (tie.spec
     refusal-of-requires
     returns
-    mul-ma
-    element-copy-out-ma
+    master-at-requires
     words-length-requires
     returns-2
     returns-3)

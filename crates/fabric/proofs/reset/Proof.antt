@@ -1,32 +1,50 @@
--- `fabric::reset` meets its contract, on both ways to the state.
+-- `fabric::reset` meets its contract.
 -- Assumes nothing.
-use mathlib.Core.Path.{sym, ap₂, _∙_}
-use mathlib.Core.Logic.{⊎-elim}
+use mathlib.Core.Path.{_≡_, sym, _∙_}
 use native.Mathlib.Omega.{arith}
 use borrow.Author.Needs.{needs}
+use Rattle.board.specs.Items.{checkBoard}
 use Rattle.board.proofs.Accepted.{accepted-legal}
-use Rattle.state.specs.Resetting.{ownedBy}
+use Rattle.board_layout.specs.Layout.{boardIn}
 use Rattle.fabric.proofs.ResetLaws.{reset-taken, reset-refused}
 use Rattle.fabric.proofs.reset.Statement.{statement}
 use Rattle.fabric.proofs.reset.Tie as tie
 
-check-requires : tie.Need-check-requires
-check-requires c κs = search needs
-
-sub-owner : tie.Need-sub-owner
-sub-owner c = omega (arith, accepted-legal _ (sym (c .before .before .check .ensures) ∙ c .before .if1 .taken) .someMaster)
-
-state-at-reset-requires : tie.Need-state-at-reset-requires
-state-at-reset-requires c κs = let e = c .before .check .ensures in
-    ⊎-elim (λ w. omega (arith, w .3, accepted-legal _ (sym e ∙ w .0 .taken) .fewSlaves)) (λ w. omega arith) (c .if1 .came)
+refusal-requires : tie.Need-refusal-requires
+refusal-requires c κs = search needs
 
 returns : tie.Need-returns
-returns c = let e = c .before .before .check .ensures in
-    let f = c .state-at-reset .ensures in
-    ⊎-elim
-    (λ w. reset-taken _ _ _ e (w .0 .taken) (f ∙ ap₂ ownedBy (w .2) (w .3)))
-    (λ w. reset-refused _ _ _ e (w .0 .left) (f ∙ ap₂ ownedBy (w .1) (w .2)))
-    (c .before .if1 .came)
+returns c = reset-refused _ _ (c .before .refusal .ensures) (c .if1 .taken)
+
+master-count-requires : tie.Need-master-count-requires
+master-count-requires c κs = search needs
+
+accepted : (c : tie.Else1) → checkBoard (boardIn (c .before .before .args .board .now)) ≡ 0
+accepted c = sym (c .before .refusal .ensures) ∙ c .if1 .left
+
+sub-owner : tie.Need-sub-owner
+sub-owner c = omega (arith, c .master-count .ensures, accepted-legal _ (accepted (c .before)) .someMaster)
+
+slave-count-requires : tie.Need-slave-count-requires
+slave-count-requires c κs = search needs
+
+reset-state-requires : tie.Need-reset-state-requires
+reset-state-requires c κs = search needs
+
+returns-2 : tie.Need-returns-2
+returns-2 c =
+    let s = c .before .before in
+    let m = s .before in
+    reset-taken _ _ _ (accepted (m .before)) (m .master-count .ensures) (s .slave-count .ensures) (c .reset-state .ensures)
 
 pub reset-spec : {M : Type 1} → statement M
-reset-spec = tie.close (tie.spec check-requires sub-owner state-at-reset-requires returns)
+reset-spec =
+    tie.close
+    (tie.spec
+    refusal-requires
+    returns
+    master-count-requires
+    sub-owner
+    slave-count-requires
+    reset-state-requires
+    returns-2)

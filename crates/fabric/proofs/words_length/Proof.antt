@@ -1,4 +1,4 @@
--- `fabric::words_length` meets its contract.
+-- `fabric::words_length` meets its contract: a product of two numbers of 32 bits fits 64.
 -- Assumes nothing.
 use native.Mathlib.Omega.{arith}
 use borrow.Author.Needs.{needs}
@@ -13,7 +13,9 @@ cast-result-2 : tie.Need-cast-result-2
 cast-result-2 c = search needs
 
 mul-result : tie.Need-mul-result
-mul-result c = omega (arith, product-le (c .before .before .before .args .t .beats) (c .before .before .before .args .ma .width) 255 255 (omega arith) (omega arith))
+mul-result c =
+    let a = c .before .before .before .args in
+    omega (arith, product-le (a .t .beats) (a .ma .width) 4294967295 4294967295 (omega arith) (omega arith))
 
 returns : tie.Need-returns
 returns c = rw (c .before .before .if1 .taken)

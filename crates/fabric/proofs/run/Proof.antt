@@ -1,0 +1,185 @@
+-- `fabric::run` meets its contract. The loop's invariant: where the run stands between two clocks (`Passing`), and the lengths of
+-- the lent bytes. The measure is the count of clocks that are left.
+-- Assumes nothing.
+use mathlib.Core.Path.{_≡_, refl, sym, ap, _∙_}
+use mathlib.Core.List.{List}
+use Prim.Native.Nat.{ℕ}
+use native.Mathlib.Omega.{arith}
+use lib.ListN.{length}
+use borrow.Author.Needs.{needs}
+use Rattle.laws.specs.Lists.{table}
+use Rattle.board.specs.declared.Board.{Board}
+use Rattle.board.proofs.Accepted.{accepted-legal}
+use Rattle.board_layout.specs.Layout.{boardIn}
+use Rattle.moves.specs.Bytes.{Store}
+use Rattle.state_layout.specs.Layout.{stateIn}
+use Rattle.state_layout.proofs.StateLaws.{first-none}
+use Rattle.transfers.specs.Targets.{requestMask}
+use Rattle.fabric.specs.Calls.{clockRefusal}
+use Rattle.fabric.proofs.ClockLaws.{refusal-found}
+use Rattle.fabric.proofs.RunLaws.{accepted-board, keeps-rules}
+use Rattle.fabric.proofs.PassingLaws.{run-refused, Passing, passing-begin, passing-accepts, passing-lengths}
+use Rattle.fabric.proofs.PassingLaws.{passing-spent, passing-next, passing-finished}
+use Rattle.fabric.proofs.run.Statement.{statement}
+use Rattle.fabric.proofs.run.Tie as tie
+
+abbrev Inv-loop : tie.InvT-loop
+Inv-loop board state₀ memory₀ buffer₀ lines₀ most number requests left₀ state memory buffer lines left =
+    (clockRefusal (boardIn board) (stateIn state₀) (record { memory = memory₀; buffer = buffer₀ }) ≡ 0)
+    × (Passing (boardIn board) most state₀ (record { memory = memory₀; buffer = buffer₀ }) requests state lines
+    (record { memory = memory; buffer = buffer }) left)
+    × (length memory ≡ length memory₀)
+    × (length buffer ≡ length buffer₀)
+
+abbrev μ-loop : tie.MeasureT-loop
+μ-loop board state₀ memory₀ buffer₀ lines₀ most number requests left₀ state memory buffer lines left = left
+
+abbrev start : tie.After-ready Inv-loop μ-loop → tie.Start Inv-loop μ-loop
+start c = c .before .before .before .before .before
+
+abbrev board : tie.Start Inv-loop μ-loop → Board
+board c = boardIn (c .args .board .now)
+
+abbrev before : tie.Start Inv-loop μ-loop → List ℕ
+before c = c .args .state .now
+
+abbrev bytes : tie.Start Inv-loop μ-loop → Store
+bytes c = record { memory = c .args .memory .now; buffer = c .args .buffer .now }
+
+ready-requires : tie.Need-ready-requires Inv-loop μ-loop
+ready-requires c κs = search needs
+
+clock-refusal-requires : tie.Need-clock-refusal-requires Inv-loop μ-loop
+clock-refusal-requires c κs = λ z. accepted-legal _ (sym (c .ready .ensures .number) ∙ z) .fewSlaves
+
+found : (c : tie.After-clock-refusal Inv-loop μ-loop)
+    → let s = start (c .before) in c .clock-refusal .result ≡ clockRefusal (board s) (stateIn (before s)) (bytes s)
+found c =
+    let s = start (c .before) in
+    c .clock-refusal .ensures
+    ∙ refusal-found (board s) (stateIn (before s)) (bytes s) _ _ (c .before .ready .ensures .number)
+    (c .before .ready .ensures .sound)
+
+clear-lines-requires : tie.Need-clear-lines-requires Inv-loop μ-loop
+clear-lines-requires c κs = search needs
+
+run-answer-requires : tie.Need-run-answer-requires Inv-loop μ-loop
+run-answer-requires c κs = search needs
+
+returns : tie.Need-returns Inv-loop μ-loop
+returns c =
+    let t = c .before in
+    let l = t .before in
+    rw (c .run-answer .ensures)
+    (run-refused _ _ _ _ _ (found (l .before .before)) (t .if1 .taken) (l .clear-lines .ensures ∙ first-none _))
+
+-- nothing is refused
+taken : (c : tie.Else1 Inv-loop μ-loop)
+    → let s = start (c .before .before .before .before) in clockRefusal (board s) (stateIn (before s)) (bytes s) ≡ 0
+taken c = sym (found (c .before .before .before)) ∙ c .if1 .left
+
+request-masks-requires : tie.Need-request-masks-requires Inv-loop μ-loop
+request-masks-requires c κs = search needs
+
+loop-holds : tie.Need-loop-holds Inv-loop μ-loop
+loop-holds c =
+    let e = c .before .before .before in
+    let l = e .before in
+    let r = l .before .before .before in
+    let s = start r in
+    let z = taken e in
+    let ok = accepted-board (board s) (stateIn (before s)) (bytes s) z in
+    let keeps = keeps-rules (board s) (stateIn (before s)) (bytes s) z in
+    let asked =
+    c .request-masks .ensures ∙ ap (λ (ts : List ℕ). table (requestMask ts) 16) (r .ready .ensures .targets ok keeps) in (
+      z,
+      passing-begin _ _ _ _ z _ _ asked (l .clear-lines .ensures ∙ first-none _),
+      refl,
+      refl,
+    )
+
+cycle-requires : tie.Need-cycle-requires Inv-loop μ-loop
+cycle-requires c κs =
+    let i = c .before .before .before .before .before .before .loop .inv in
+    let n = passing-lengths _ _ _ _ (i .0) (i .1) in
+    (passing-accepts _ _ _ _ (i .0) (i .1), i .1 .asked, n .0, n .1)
+
+sub-left : tie.Need-sub-left Inv-loop μ-loop
+sub-left c = search needs
+
+sub-run-answer : tie.Need-sub-run-answer Inv-loop μ-loop
+sub-run-answer c = search needs
+
+run-answer-requires-2 : tie.Need-run-answer-requires-2 Inv-loop μ-loop
+run-answer-requires-2 c κs = search needs
+
+same-length : tie.Need-same-length Inv-loop μ-loop
+same-length c = search needs
+
+same-length-2 : tie.Need-same-length-2 Inv-loop μ-loop
+same-length-2 c = search needs
+
+returns-2 : tie.Need-returns-2 Inv-loop μ-loop
+returns-2 c =
+    let e = c .before in
+    let k = e .before .before .before .before .before in
+    let t = k .before .before .before .before .before .before in
+    let i = t .before .loop .inv in
+    rw (c .run-answer2 .ensures)
+    (passing-finished _ _ _ _ (i .0) (i .1) (t .loop-test .taken) _ _ (k .cycle .ensures) (e .if2 .taken))
+
+loop-less : tie.Need-loop-less Inv-loop μ-loop
+loop-less c = search needs
+
+loop-again : tie.Need-loop-again Inv-loop μ-loop
+loop-again c =
+    let k = c .before .before .before .before .before in
+    let t = k .before .before .before .before .before .before in
+    let i = t .before .loop .inv in (
+      i .0,
+      passing-next _ _ _ _ (i .0) (i .1) (t .loop-test .taken) _ _ (k .cycle .ensures) (c .if2 .left),
+      search needs,
+      search needs,
+    )
+
+run-answer-requires-3 : tie.Need-run-answer-requires-3 Inv-loop μ-loop
+run-answer-requires-3 c κs = search needs
+
+same-length-3 : tie.Need-same-length-3 Inv-loop μ-loop
+same-length-3 c = search needs
+
+same-length-4 : tie.Need-same-length-4 Inv-loop μ-loop
+same-length-4 c = search needs
+
+returns-3 : tie.Need-returns-3 Inv-loop μ-loop
+returns-3 c =
+    let e = c .before in
+    let i = e .before .loop .inv in
+    rw (c .run-answer3 .ensures) (passing-spent _ _ _ _ (i .0) (i .1) (omega (arith, e .loop-test .left)))
+
+pub run-spec : {M : Type 1} → statement M
+run-spec =
+    tie.close
+    (tie.spec
+    Inv-loop
+    μ-loop
+    ready-requires
+    clock-refusal-requires
+    clear-lines-requires
+    run-answer-requires
+    returns
+    request-masks-requires
+    loop-holds
+    cycle-requires
+    sub-left
+    sub-run-answer
+    run-answer-requires-2
+    same-length
+    same-length-2
+    returns-2
+    loop-less
+    loop-again
+    run-answer-requires-3
+    same-length-3
+    same-length-4
+    returns-3)
