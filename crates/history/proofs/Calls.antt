@@ -21,6 +21,7 @@ use Rattle.state.specs.Clocking.{clockedOf, refusedClock}
 use Rattle.state.specs.Carrying.{storeAfter}
 use Rattle.state.specs.Posting.{stateWith}
 use Rattle.fabric.specs.Calls.{World, postRefusal, post, bufferAfterPost, clockRefusal, clock, storeAfterClock}
+use Rattle.fabric.proofs.RunLaws.{clock-is}
 use Rattle.history.specs.Claim.{Call, posts, clocks, numberAnswered, Handed, leaves, next, answers, names, Reference, Order, seenAll, fedPost, fed}
 
 -- what a post that is taken leaves
@@ -46,15 +47,6 @@ pub clock-leaves : (b : Board) (w : World) → clockRefusal b (w .state) (w .sto
     → leaves w (clocks b (w .state) (w .store)) ≡ withClock b w
 unfolding leaves clock storeAfterClock
 clock-leaves b w e = rw (eq-eqb (clockRefusal b (w .state) (w .store)) 0 e)
-
-pub clock-stored : (b : Board) (w : World) → clockRefusal b (w .state) (w .store) ≡ 0
-    → storeAfterClock b (w .state) (w .store) ≡ storeAfter b (w .state) (w .store)
-unfolding storeAfterClock
-clock-stored b w e = rw (eq-eqb (clockRefusal b (w .state) (w .store)) 0 e)
-
-pub clock-answers : (b : Board) (w : World) → clockRefusal b (w .state) (w .store) ≡ 0 → clock b (w .state) (w .store) ≡ answerOf b w
-unfolding clock
-clock-answers b w e = rw (eq-eqb (clockRefusal b (w .state) (w .store)) 0 e)
 
 pub clock-number : (b : Board) (st : State) (d : Store) → clock b st d .number ≡ clockRefusal b st d
 unfolding clock
@@ -114,7 +106,7 @@ clock-came : (b : Board) (w : World) → numberAnswered (clocks b (w .state) (w 
 unfolding numberAnswered answers fed
 clock-came b w e =
     let z = sym (clock-number b (w .state) (w .store)) ∙ e in
-    let a = clock-answers b w z in
+    let a = clock-is b (w .state) (w .store) z in
     clockTaken z (taken-next w (clocks b (w .state) (w .store)) e ∙ clock-leaves b w z)
     (λ cs. rw a) (λ orders r cs. rw a)
 

@@ -16,7 +16,8 @@ use Rattle.fabric.specs.Calls.{World, postRefusal, post, clock}
 use Rattle.fabric.proofs.PostLaws.{not-refused}
 use Rattle.state.proofs.SoundLaws.{sound-test}
 use Rattle.history.specs.Claim.{Call, posts, clocks, numberAnswered, Handed, next, after, History, answers, shows, any}
-use Rattle.history.proofs.Calls.{withPost, withClock, answerOf, post-leaves, clock-leaves, clock-answers}
+use Rattle.fabric.proofs.RunLaws.{clock-is}
+use Rattle.history.proofs.Calls.{withPost, withClock, answerOf, post-leaves, clock-leaves}
 use Rattle.history.proofs.Calls.{clock-number}
 use Rattle.history.proofs.Standing.{Standing, Taken, clock-free}
 
@@ -44,7 +45,7 @@ module _ (b : Board) (legal : Legal b) (ok : checkBoard b ≡ 0) where
   clock-answered : (w : World) → Standing b legal w → (cs : List Call)
       → answers (clocks b (w .state) (w .store) ∷ cs) ≡ answerOf b w ∷ answers cs
   unfolding answers
-  clock-answered w x cs = rw (clock-answers b w (clock-free b legal ok w x))
+  clock-answered w x cs = rw (clock-is b (w .state) (w .store) (clock-free b legal ok w x))
 
   -- ---- calls that lead to a world of which P holds
 

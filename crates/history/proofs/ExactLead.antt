@@ -13,13 +13,13 @@ use Rattle.board.specs.Items.{checkBoard}
 use Rattle.board.specs.Legal.{Legal}
 use Rattle.geometry.specs.declared.Transfer.{Transfer}
 use Rattle.arbiter.specs.declared.Grant.the-variants.{Silent}
-use Rattle.arbiter.specs.Granting.{grantTo, granted}
+use Rattle.arbiter.specs.Granting.{grantTo, granted, arbiterAfter}
 use Rattle.state.specs.declared.Slot.{Slot}
 use Rattle.state.specs.declared.State.{State}
 use Rattle.state.specs.declared.Step.{Step}
 use Rattle.state.specs.Records.{transferAt, slotAt}
 use Rattle.state.specs.Soundness.{requests}
-use Rattle.state.specs.Control.{grantAt, slotGranted, slotAfterGrant, stepOf, stateAfter}
+use Rattle.state.specs.Control.{grantAt, slotBy, slotGranted, slotAfterGrant, stepOf, stateAfter}
 use Rattle.state.specs.Posting.{stateWith}
 use Rattle.state.specs.Resetting.{stateAtReset}
 use Rattle.fabric.specs.Calls.{World}
@@ -94,7 +94,7 @@ module _ (b : Board) (legal : Legal b) (s : ℕ) (hs : s < b .«slave_count») (
     -- a clock in which nobody asks
     rested-after : ((j : ℕ) → transferAt (w .state) j .held ≡ false) → slotAt (w .state) s .serving ≡ false
         → slotAt (w .state) s .owner ≡ m → Rested (withClock b w)
-    unfolding slotGranted
+    unfolding slotGranted slotBy arbiterAfter
     rested-after free rest o = record {
       stands = clock-stands b legal w x;
       free = λ j. free-after b legal (w .state) (x .sound) j (free j);

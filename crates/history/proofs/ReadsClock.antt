@@ -20,6 +20,7 @@ use Rattle.geometry.specs.declared.Transfer.{Transfer}
 use Rattle.geometry.proofs.AccessLaws.{first-all}
 use Rattle.arbiter.specs.declared.Grant.{Grant}
 use Rattle.arbiter.specs.declared.Grant.the-variants.{Granted, Silent}
+use Rattle.arbiter.specs.Granting.{arbiterAfter}
 use Rattle.moves.specs.Bytes.{Store, partOf, memoryPlace}
 use Rattle.moves.proofs.MoveLaws.{less-or}
 use Rattle.moves.proofs.Ranges.{Agree}
@@ -28,7 +29,7 @@ use Rattle.state.specs.declared.State.{State}
 use Rattle.state.specs.declared.Line.{Line}
 use Rattle.state.specs.Records.{transferAt, slotAt, noLine}
 use Rattle.state.specs.Soundness.{requests}
-use Rattle.state.specs.Control.{grantAt, slotGranted, slotAfterGrant, lineOf, waits, slotWaiting, slotAccessed}
+use Rattle.state.specs.Control.{grantAt, slotBy, slotGranted, slotAfterGrant, lineOf, waits, slotWaiting, slotAccessed}
 use Rattle.state.specs.Control.{slotFinished, stepOf, finished, stateAfter, linesOf}
 use Rattle.state.specs.Carrying.{carriesOut, carried, carriedBy, storeAfter}
 use Rattle.state.proofs.Sound.{Sound}
@@ -128,7 +129,7 @@ module _ (b : Board) (legal : Legal b) (st : State) (sound : Sound b st) where
         go (ends e h l q) = rw q
 
     began : slotAt st k .serving ≡ false → slotAfterGrant b st k .serving ≡ true → slotAfterGrant b st k .done ≡ 0
-    unfolding slotGranted
+    unfolding slotGranted slotBy arbiterAfter
     began off on =
         rw (grant-given b st k off)
         (go (grantAt b st k) (rw (grant-given b st k off) at on))

@@ -36,7 +36,8 @@ use Rattle.state.proofs.StateLaws.{transfer-with, transfer-with-other, slot-wit
 use Rattle.state.proofs.SoundLaws.{post-sound}
 use Rattle.history.specs.Claim.{Call, next, after, History, Start, Lent}
 use Rattle.history.specs.Claim.{names, Reference, referenceAt, bytesIn, Order, seenAll, fedPost, fed}
-use Rattle.history.proofs.Calls.{withPost, withClock, Came, refused, postTaken, clockTaken, came, clock-stored, clock-answers, named-taken}
+use Rattle.fabric.proofs.RunLaws.{clock-is, store-is}
+use Rattle.history.proofs.Calls.{withPost, withClock, Came, refused, postTaken, clockTaken, came, named-taken}
 use Rattle.history.proofs.Lengths.{clock-lent, lent-before}
 use Rattle.history.proofs.Standing.{Standing, Taken, post-taken, start-state, start-stands, post-stands, clock-stands}
 use Rattle.history.proofs.ReadsServing.{bytesHeld, endOf, Asked, served-kept}
@@ -253,6 +254,6 @@ reads-right b legal w calls orders last m s h n =
     let free = named-taken b (u .state) (u .store) m n in
     let lent = lent-before b calls w h (clock-lent b u free) in
     let g = history-good b legal orders calls w (referenceAt (w .store .memory)) (start-good b legal w s lent) h in
-    let named-now : bit (maskOf b (u .state)) m ≡ true = rw (clock-answers b u free) at n in
-    rw (clock-answers b u free, clock-stored b u free)
+    let named-now : bit (maskOf b (u .state)) m ≡ true = rw (clock-is b (u .state) (u .store) free) at n in
+    rw (clock-is b (u .state) (u .store) free, store-is b (u .state) (u .store) free)
     (clock-read b legal (u .state) (g .stands .sound) last (u .store) f m (g .right) (named b (u .state) m named-now))

@@ -13,12 +13,13 @@ use Rattle.geometry.specs.declared.Transfer.{Transfer}
 use Rattle.geometry.specs.Accesses.{accesses, waitOf, ownLength}
 use Rattle.arbiter.specs.declared.Grant.{Grant}
 use Rattle.arbiter.specs.declared.Grant.the-variants.{Granted, Silent}
+use Rattle.arbiter.specs.Granting.{arbiterAfter}
 use Rattle.state.specs.declared.Slot.{Slot}
 use Rattle.state.specs.declared.State.{State}
 use Rattle.state.specs.declared.Step.{Step}
 use Rattle.state.specs.Records.{transferAt, slotAt}
 use Rattle.state.specs.Soundness.{requests}
-use Rattle.state.specs.Control.{grantAt, slotGranted, slotAfterGrant, served, stepOf, stateAfter}
+use Rattle.state.specs.Control.{grantAt, slotBy, slotGranted, slotAfterGrant, served, stepOf, stateAfter}
 use Rattle.state.proofs.Sound.{Sound}
 use Rattle.state.proofs.CycleLaws.{leftOf, left-resting, left-whole, Cycle, cycle}
 use Rattle.state.proofs.StepLaws.{grant-serving, grant-given, step-rests}
@@ -158,11 +159,11 @@ module _ (b : Board) (legal : Legal b) (st : State) (sound : Sound b st) (s : �
         go false q = q
 
     granted-serving : (slot : Slot) (j k : ℕ) → slotGranted slot (Granted j k) .serving ≡ true
-    unfolding slotGranted
+    unfolding slotGranted slotBy arbiterAfter
     granted-serving slot j k = refl
 
     silent-slot : (slot : Slot) → slotGranted slot Silent .remaining ≡ 0
-    unfolding slotGranted
+    unfolding slotGranted slotBy arbiterAfter
     silent-slot slot = refl
 
     no-remaining : now .serving ≡ false → now .remaining ≡ 0
@@ -190,7 +191,7 @@ module _ (b : Board) (legal : Legal b) (st : State) (sound : Sound b st) (s : �
     pub granted-now : slotAt st s .serving ≡ false → now .serving ≡ true
         → (j : ℕ) × (k : ℕ) × (grantAt b st s ≡ Granted j k)
         × (now ≡ record { owner = j; remaining = k; serving = true; done = 0; waited = 0 })
-    unfolding slotGranted
+    unfolding slotGranted slotBy arbiterAfter
     granted-now off on = go (grantAt b st s) refl
       where
         go : (g : Grant) → grantAt b st s ≡ g

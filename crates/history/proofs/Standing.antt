@@ -1,19 +1,19 @@
 -- What stands after every call of a history: a sound state, each slave within its owner's turn, memory and buffer of their lengths.
 -- Assumes nothing.
 use mathlib.Core.Path.{_≡_, refl, sym, ap, subst, subst₃, _∙_}
-use mathlib.Core.Bool.{Bool, true, false, cond, not, true≢false}
+use mathlib.Core.Bool.{Bool, true, false, not, true≢false}
 use mathlib.Core.List.{List, [], _∷_}
-use Prim.Native.Nat.{ℕ, zero, suc, _<_}
+use Prim.Native.Nat.{ℕ, _<_}
 use native.Mathlib.Omega.{arith}
 use lib.ListN.{length}
 use borrow.Author.Tests.{eq-eqb}
 use Rattle.board.specs.declared.Board.{Board}
-use Rattle.board.specs.Records.{masterAt, slaveAt, memoryLength, startOf}
+use Rattle.board.specs.Records.{masterAt, slaveAt, memoryLength}
 use Rattle.board.specs.Items.{checkBoard}
 use Rattle.board.specs.Legal.{Legal}
 use Rattle.geometry.specs.declared.Transfer.{Transfer}
-use Rattle.moves.specs.Bytes.{Store, bufferLength, accessed}
-use Rattle.moves.proofs.StoreLaws.{length-posted, length-memory, length-buffer}
+use Rattle.moves.specs.Bytes.{bufferLength}
+use Rattle.moves.proofs.StoreLaws.{length-posted}
 use Rattle.state.specs.declared.Slot.{Slot}
 use Rattle.state.specs.declared.State.{State}
 use Rattle.state.specs.declared.Step.{Step}
@@ -21,7 +21,6 @@ use Rattle.state.specs.Records.{transferAt, slotAt}
 use Rattle.state.specs.Posting.{Request, transferOf}
 use Rattle.state.specs.Soundness.{sound}
 use Rattle.state.specs.Control.{slotAfterGrant, stepOf, stateAfter}
-use Rattle.state.specs.Carrying.{carriesOut, carried, carriedBy, storeAfter}
 use Rattle.state.specs.Resetting.{stateAtReset}
 use Rattle.state.specs.Posting.{stateWith}
 use Rattle.fabric.specs.Calls.{World, reset, postRefusal, clockRefusal}
@@ -31,42 +30,13 @@ use Rattle.state.proofs.Sound.{Sound}
 use Rattle.state.proofs.CycleLaws.{leftOf, left-resting, cycle}
 use Rattle.state.proofs.StateLaws.{slot-with, transfer-with-other, slot-reset}
 use Rattle.state.proofs.DecodeLaws.{requests-held}
+use Rattle.state.proofs.StoreLengths.{store-length}
 use Rattle.state.proofs.SoundLaws.{sound-test, reset-sound, post-sound, clock-sound, grant-sound, served-kept}
 use Rattle.bounds.proofs.Credit.{credit-zero}
 use Rattle.history.specs.Claim.{Call, Start, Lent, History, next, after}
 use Rattle.history.proofs.Pairs.{singleOf, serveOf}
 use Rattle.history.proofs.SlaveClock.{leftAt, InTurn, Paced, Acting, step-serving, pace-after}
 use Rattle.history.proofs.Calls.{withPost, withClock, Came, refused, postTaken, clockTaken, came}
-
--- ---- lengths
-
-carried-one : (b : Board) (st : State) (s : ℕ) (d : Store)
-    → (length (carried b st s d .memory) ≡ length (d .memory)) × (length (carried b st s d .buffer) ≡ length (d .buffer))
-unfolding carried
-carried-one b st s d = go (carriesOut b st s (slotAfterGrant b st s))
-  where
-    slot : Slot
-    slot = slotAfterGrant b st s
-
-    -- the access of this clock, or none
-    then : Bool → Store
-    then c =
-        cond c
-        (accessed (masterAt b (slot .owner)) (slaveAt b s) (transferAt st (slot .owner)) (slot .owner) (startOf b s) (slot .done) d)
-        d
-
-    go : (c : Bool) → (length (then c .memory) ≡ length (d .memory)) × (length (then c .buffer) ≡ length (d .buffer))
-    go true = (length-memory _ _ _ _ _ _ d, length-buffer _ _ _ _ _ _ d)
-    go false = (refl, refl)
-
-carried-length : (b : Board) (st : State) (n : ℕ) (d : Store)
-    → (length (carriedBy b st n d .memory) ≡ length (d .memory)) × (length (carriedBy b st n d .buffer) ≡ length (d .buffer))
-unfolding carriedBy
-carried-length b st zero d = (refl, refl)
-carried-length b st (suc n) d =
-    let x = carried-one b st n (carriedBy b st n d) in
-    let y = carried-length b st n d in
-    (x .0 ∙ y .0, x .1 ∙ y .1)
 
 -- ---- what stands
 
@@ -144,14 +114,13 @@ module _ (b : Board) (legal : Legal b) where
       (ap (λ (z : Step). z .finished) y ∙ c .ends ∙ ap not (sym (ap (λ (z : Step). z .slot .serving) y) ∙ e))
 
   pub clock-stands : (w : World) → Standing b legal w → Standing b legal (withClock b w)
-  unfolding storeAfter
   clock-stands w x = record {
     sound = clock-sound b (w .state) legal (x .sound);
     paced = λ s hs.
         pace-after b legal (w .state) (x .sound) s hs (acting (w .state) (x .sound) s hs) (stays (w .state) (x .sound) s hs)
         (x .paced s hs);
-    memory = carried-length b (w .state) (b .«slave_count») (w .store) .0 ∙ x .memory;
-    buffer = carried-length b (w .state) (b .«slave_count») (w .store) .1 ∙ x .buffer;
+    memory = store-length b (w .state) (w .store) .0 ∙ x .memory;
+    buffer = store-length b (w .state) (w .store) .1 ∙ x .buffer;
   }
 
   -- ---- from the reset on
