@@ -5,11 +5,11 @@
 set -eu
 
 root=$(CDPATH= cd -- "$(dirname -- "$0")/.." && pwd)
-library=$root/target/staticlib/libquote.a
+library=$root/target/staticlib/libfabric_c.a
 work=$(mktemp -d)
 trap 'rm -rf "$work"' EXIT
 [ -f "$library" ] || {
-    echo "faults: no $library (rt staticlib quote)" >&2
+    echo "faults: no $library (rt staticlib fabric_c)" >&2
     exit 2
 }
 for program in table simulate texts; do

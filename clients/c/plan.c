@@ -16,6 +16,7 @@
 #include <unistd.h>
 
 #include "fabric.h"
+#include "number.h"
 
 /* One byte more than a description may have: a longer file is then refused as such. */
 #define TEXT_ROOM 8193
@@ -78,24 +79,6 @@ static ssize_t read_file(const char *name, uint8_t *text, size_t room)
     }
     close(file);
     return (ssize_t)length;
-}
-
-/* A decimal number of 32 bits; 0 where the word is none. */
-static int number_of(const char *word, uint32_t *number)
-{
-    uint64_t value = 0;
-
-    if (*word == '\0')
-        return 0;
-    for (; *word != '\0'; word++) {
-        if (*word < '0' || *word > '9')
-            return 0;
-        value = value * 10 + (uint64_t)(*word - '0');
-        if (value > UINT32_MAX)
-            return 0;
-    }
-    *number = (uint32_t)value;
-    return 1;
 }
 
 /* Eight bytes, the lowest first. */

@@ -1,21 +1,54 @@
 #!/bin/sh
-# Builds the planning tool against target/staticlib/libquote.a (rt staticlib quote), and tries it, also against the model.
+# Builds the C clients against target/staticlib/libfabric_c.a (rt staticlib fabric_c) and tries them: the planning tool, also
+# against the model; what the calls do to what they are lent; the clock beside a simulator of its own. What is lent is watched
+# by valgrind where the machine has it.
 set -eu
 here=$(cd "$(dirname "$0")" && pwd)
 root=$(cd "$here/../.." && pwd)
-library="$root/target/staticlib/libquote.a"
+library="$root/target/staticlib/libfabric_c.a"
 board="$root/boards/document01.txt"
 work=$(mktemp -d)
 trap 'rm -r "$work"' EXIT
 
 if [ ! -f "$library" ]; then
-    echo "test.sh: no $library: run rt staticlib quote" >&2
+    echo "test.sh: no $library: run rt staticlib fabric_c" >&2
     exit 2
 fi
 
-flags="-std=c11 -O2 -Wall -Wextra -Werror -I$root/include"
-gcc $flags -o "$work/plan" "$here/plan.c" "$library"
-gcc $flags -o "$work/slices" "$here/slices.c" "$library"
+flags="-O2 -g -Wall -Wextra -Werror -pedantic -I$root/include"
+
+# compile SUFFIX: builds the clients by gcc, with what further flags are given
+compile() {
+    suffix=$1
+    shift
+    gcc -std=c11 $flags "$@" -o "$work/plan$suffix" "$here/plan.c" "$library"
+    gcc -std=c11 $flags "$@" -o "$work/slices$suffix" "$here/slices.c" "$library"
+    gcc -std=c11 $flags "$@" -o "$work/calls$suffix" "$here/calls.c" "$library"
+    gcc -std=c11 $flags "$@" -o "$work/lockstep$suffix" "$here/lockstep.c" "$here/simulator.c" "$library"
+}
+compile ''
+
+# the header and the clients that compare serve C++ as well
+compile_cpp() {
+    g++ -std=c++11 $flags -o "$work/slices++" -x c++ "$here/slices.c" -x none "$library"
+    g++ -std=c++11 $flags -o "$work/calls++" -x c++ "$here/calls.c" -x none "$library"
+    g++ -std=c++11 $flags -o "$work/lockstep++" -x c++ "$here/lockstep.c" "$here/simulator.c" -x none "$library"
+}
+cpp=
+if command -v g++ >/dev/null; then
+    compile_cpp
+    cpp=++
+fi
+
+# what watches the memory that is lent: valgrind, else the compiler's own checks where they link, else nothing
+watch=
+watched=
+if command -v valgrind >/dev/null; then
+    watch="valgrind -q --error-exitcode=9"
+elif gcc -std=c11 $flags -fsanitize=address,undefined -o "$work/probe" "$here/slices.c" "$library" 2>/dev/null; then
+    watched=-watched
+    compile "$watched" -fsanitize=address,undefined -fno-sanitize-recover=all
+fi
 
 failed=0
 
@@ -41,6 +74,8 @@ expect 1 "refused,11" "$board" 2 0
 expect 1 "refused,16" "$board" 0 1
 printf 'master,4,8' >"$work/unended"
 expect 1 "refused,1" "$work/unended" 0 0
+printf 'master,4,8\nslave,4,8,4,8,0,0\n' >"$work/fourth"
+expect 1 "refused,4" "$work/fourth" 0 0
 : >"$work/empty"
 expect 1 "refused,2" "$work/empty" 0 0
 head -c 8193 /dev/zero >"$work/long"
@@ -118,13 +153,81 @@ says "plan: -x: No such file or directory"
 expect 2 "" "$work" 0 0
 says "plan: $work: Is a directory"
 
-"$work/slices" || failed=1
-# the header serves C++ as well
-if command -v g++ >/dev/null; then
-    g++ -std=c++11 -O2 -Wall -Wextra -Werror -I"$root/include" -o "$work/slices-c++" -x c++ "$here/slices.c" -x none "$library"
-    "$work/slices-c++" || failed=1
+for suffix in '' $cpp; do
+    "$work/slices$suffix" || failed=1
+    "$work/calls$suffix" || failed=1
+done
+for client in slices calls; do
+    $watch "$work/$client$watched" || { echo "$client, its memory watched, ended with status $?"; failed=1; }
+done
+
+# lockstep PROGRAM STATUS WORD..: what it prints is left in a file
+lockstep() {
+    program=$1
+    status=$2
+    shift 2
+    got=0
+    $program "$@" >"$work/printed" 2>"$work/errors" || got=$?
+    if [ "$got" != "$status" ]; then
+        echo "lockstep $*: status $got"
+        cat "$work/printed" "$work/errors"
+        failed=1
+    fi
+}
+
+# the clock beside the simulator: the boards of the repository, and generated ones as far as they are taken
+compared=0
+for described in "$root"/boards/*.txt "$work"/boards/[0-9]*.txt; do
+    if [ "$("$model" table <"$described" | cut -c 1-8)" = refused, ]; then
+        lockstep "$work/lockstep" 2 "$described" 10
+        continue
+    fi
+    for suffix in '' $cpp; do
+        lockstep "$work/lockstep$suffix" 0 "$described" 5000 "$compared"
+    done
+    compared=$((compared + 1))
+done
+[ "$compared" -gt 30 ] || { echo "only $compared boards were compared"; failed=1; }
+lockstep "$work/lockstep" 0 "$root/boards/largest.txt" 200000
+for described in "$root"/boards/*.txt; do
+    lockstep "$watch $work/lockstep$watched" 0 "$described" 500
+done
+
+# a difference is found: every mistake of the simulator, printed for both sides
+mistakes=0
+for mistake in $("$work/lockstep" --mistakes); do
+    for suffix in '' $cpp; do
+        lockstep "$work/lockstep$suffix" 1 --mistake "$mistake" "$root/boards/crane.txt" 20000
+        if [ "$(cut -c 1-17 "$work/printed")" != "library:   clock 
+simulator: clock " ]; then
+            echo "lockstep does not print both sides of $mistake but:"
+            cat "$work/printed"
+            failed=1
+        fi
+    done
+    mistakes=$((mistakes + 1))
+done
+[ "$mistakes" -gt 5 ] || { echo "only $mistakes mistakes were tried"; failed=1; }
+lockstep "$work/lockstep" 1 --mistake wait-per-beat "$board" 100
+printf '%s\n' 'library:   clock 3 slave 0 phase 1 owner 0 offset 3598 lanes 3 run 8 place 1' \
+    'simulator: clock 3 slave 0 phase 2 owner 0 offset 3598 lanes 3 run 8 place 1' >"$work/difference"
+cmp "$work/difference" "$work/printed" || failed=1
+
+# words that say nothing, boards that are none, output that is lost
+for words in '' "$board" "$board x" "$board 1 x" "$board 1 1 1" "--mistake none $board 1" "--mistake" "$work/absent 1" \
+    "$work/empty 1" "$work 1"; do
+    lockstep "$work/lockstep" 2 $words
+done
+lockstep "$work/lockstep" 2 "$work/fourth" 1
+if [ "$(cat "$work/errors")" != "lockstep: $work/fourth: line 2: refusal 4" ]; then
+    echo "lockstep does not name the line to blame but says:"
+    cat "$work/errors"
+    failed=1
 fi
+"$work/lockstep" "$board" 1 >/dev/full 2>"$work/errors" && { echo "lockstep loses its output"; failed=1; }
+
 if [ "$failed" = 0 ]; then
     echo "plan: ok, $pairs pairs as in the model's table"
+    echo "lockstep: ok, $compared boards, $mistakes mistakes found"
 fi
 exit "$failed"

@@ -1,0 +1,487 @@
+/*
+ * What the calls do to the numbers and bytes they are lent: which numbers are refused and with what, that a refusal leaves
+ * everything as it was, and that a run is as many clocks.
+ */
+#include <stdio.h>
+#include <stdlib.h>
+#include <string.h>
+
+#include "fabric.h"
+
+static const char description[] =
+    "master,4,8\n"
+    "master,2,1\n"
+    "slave,4096,4096,2,8,1,0\n"
+    "slave,0,64,4,1,0,3\n"
+    "share,0,0,2\n"
+    "share,1,0,3\n"
+    "share,0,1,1\n";
+
+#define MEMORY_BYTES (4096 + 64)
+
+/* Everything that is lent to a clock. */
+struct lent {
+    struct fabric_board board;
+    struct fabric_state state;
+    uint8_t memory[MEMORY_BYTES];
+    uint8_t buffer[FABRIC_BUFFER_BYTES];
+    struct fabric_lines lines;
+    uint32_t mask;
+    uint32_t clocks;
+};
+
+static struct lent fresh; /* the board after a reset, nothing posted */
+static struct lent tried;
+static struct lent other;
+static const uint8_t words[FABRIC_PART_BYTES] = {1, 2, 3, 4, 5, 6, 7, 8, 9};
+static int checks, failed;
+
+static void check(const char *name, int holds)
+{
+    checks++;
+    if (!holds) {
+        printf("calls: %s\n", name);
+        failed = 1;
+    }
+}
+
+static void check_number(const char *name, uint32_t got, uint32_t due)
+{
+    checks++;
+    if (got != due) {
+        printf("calls: %s: answered %lu, not %lu\n", name, (unsigned long)got, (unsigned long)due);
+        failed = 1;
+    }
+}
+
+static int all_zero(const void *bytes, size_t length)
+{
+    const uint8_t *b = (const uint8_t *)bytes;
+
+    while (length > 0 && b[length - 1] == 0)
+        length--;
+    return length == 0;
+}
+
+/* Whether two are the same in all that a refusal has to leave: board, state, memory and buffer. */
+static int same_lent(const struct lent *a, const struct lent *b)
+{
+    return memcmp(&a->board, &b->board, sizeof a->board) == 0 && memcmp(&a->state, &b->state, sizeof a->state) == 0
+           && memcmp(a->memory, b->memory, sizeof a->memory) == 0 && memcmp(a->buffer, b->buffer, sizeof a->buffer) == 0;
+}
+
+static int same_answer(const struct lent *a, const struct lent *b)
+{
+    return memcmp(&a->lines, &b->lines, sizeof a->lines) == 0 && a->mask == b->mask;
+}
+
+/* Each call is lent blocks of their own, as long as is said and no longer: a step beyond is seen by what checks memory. */
+static void *lend(const void *from, size_t length)
+{
+    void *block = malloc(length);
+
+    if (block == NULL) {
+        perror("calls");
+        exit(2);
+    }
+    memcpy(block, from, length);
+    return block;
+}
+
+static void take_back(void *to, void *block, size_t length)
+{
+    memcpy(to, block, length);
+    free(block);
+}
+
+static uint32_t read_text(const char *text, size_t length, struct fabric_board *board)
+{
+    uint8_t *lent_text = (uint8_t *)lend(text, length);
+    struct fabric_board *lent_board = (struct fabric_board *)lend(board, sizeof *board);
+    uint32_t number = fabric_read(lent_text, length, lent_board);
+
+    take_back(board, lent_board, sizeof *board);
+    free(lent_text);
+    return number;
+}
+
+static uint32_t refused_at(const char *text, size_t length, size_t *line)
+{
+    uint8_t *lent_text = (uint8_t *)lend(text, length);
+    size_t *lent_line = (size_t *)lend(line, sizeof *line);
+    uint32_t number = fabric_refused_at(lent_text, length, lent_line);
+
+    take_back(line, lent_line, sizeof *line);
+    free(lent_text);
+    return number;
+}
+
+static uint32_t reset(struct lent *l)
+{
+    struct fabric_board *board = (struct fabric_board *)lend(&l->board, sizeof l->board);
+    struct fabric_state *state = (struct fabric_state *)lend(&l->state, sizeof l->state);
+    uint32_t number = fabric_reset(board, state);
+
+    take_back(&l->board, board, sizeof l->board);
+    take_back(&l->state, state, sizeof l->state);
+    return number;
+}
+
+static uint32_t post_lent(struct lent *l, size_t buffer_length, uint32_t master, uint32_t write, uint32_t address,
+                          uint32_t lanes, uint32_t beats, size_t length)
+{
+    struct fabric_board *board = (struct fabric_board *)lend(&l->board, sizeof l->board);
+    struct fabric_state *state = (struct fabric_state *)lend(&l->state, sizeof l->state);
+    uint8_t *buffer = (uint8_t *)lend(l->buffer, buffer_length);
+    uint8_t *lent_words = (uint8_t *)lend(words, length);
+    uint32_t number = fabric_post(board, state, buffer, buffer_length, master, write, address, lanes, beats, lent_words, length);
+
+    take_back(&l->board, board, sizeof l->board);
+    take_back(&l->state, state, sizeof l->state);
+    take_back(l->buffer, buffer, buffer_length);
+    free(lent_words);
+    return number;
+}
+
+static uint32_t post(struct lent *l, uint32_t master, uint32_t write, uint32_t address, uint32_t lanes, uint32_t beats,
+                     size_t length)
+{
+    return post_lent(l, sizeof l->buffer, master, write, address, lanes, beats, length);
+}
+
+/* A clock, or a run of so many clocks at most. */
+#define ONE_CLOCK UINT64_MAX
+
+static uint32_t clock_lent(struct lent *l, size_t memory_length, size_t buffer_length, uint64_t most)
+{
+    struct fabric_board *board = (struct fabric_board *)lend(&l->board, sizeof l->board);
+    struct fabric_state *state = (struct fabric_state *)lend(&l->state, sizeof l->state);
+    uint8_t *memory = (uint8_t *)lend(l->memory, memory_length);
+    uint8_t *buffer = (uint8_t *)lend(l->buffer, buffer_length);
+    struct fabric_lines *lines = (struct fabric_lines *)lend(&l->lines, sizeof l->lines);
+    uint32_t *mask = (uint32_t *)lend(&l->mask, sizeof l->mask);
+    uint32_t *clocks = (uint32_t *)lend(&l->clocks, sizeof l->clocks);
+    uint32_t number;
+
+    if (most == ONE_CLOCK)
+        number = fabric_clock(board, state, memory, memory_length, buffer, buffer_length, lines, mask);
+    else
+        number = fabric_run(board, state, memory, memory_length, buffer, buffer_length, lines, (uint32_t)most, clocks, mask);
+    take_back(&l->board, board, sizeof l->board);
+    take_back(&l->state, state, sizeof l->state);
+    take_back(l->memory, memory, memory_length);
+    take_back(l->buffer, buffer, buffer_length);
+    take_back(&l->lines, lines, sizeof l->lines);
+    take_back(&l->mask, mask, sizeof l->mask);
+    take_back(&l->clocks, clocks, sizeof l->clocks);
+    return number;
+}
+
+static uint32_t clock_once(struct lent *l)
+{
+    return clock_lent(l, sizeof l->memory, sizeof l->buffer, ONE_CLOCK);
+}
+
+static uint32_t run(struct lent *l, uint32_t most)
+{
+    return clock_lent(l, sizeof l->memory, sizeof l->buffer, most);
+}
+
+/* A reading that is refused leaves the board, and the line to blame is named. */
+static void refuses_text(const char *name, const char *text, size_t length, uint32_t due, size_t line_due)
+{
+    struct fabric_board board, before;
+    size_t line = 77;
+
+    memset(&board, 0xa5, sizeof board);
+    before = board;
+    check_number(name, read_text(text, length, &board), due);
+    check(name, due == FABRIC_TAKEN || memcmp(&board, &before, sizeof board) == 0);
+    check_number(name, refused_at(text, length, &line), due);
+    check(name, line == line_due);
+}
+
+static void readings(void)
+{
+    static char longest[FABRIC_TEXT_BYTES + 1];
+
+    memset(longest, 'x', sizeof longest);
+    refuses_text("a text that is taken", description, strlen(description), FABRIC_TAKEN, 0);
+    refuses_text("an empty text", "", 0, FABRIC_BAD_ORDER, 0);
+    refuses_text("a text that is too long", longest, sizeof longest, FABRIC_BAD_TEXT, 0);
+    refuses_text("a text as long as may be", longest, FABRIC_TEXT_BYTES, FABRIC_BAD_TEXT, 1);
+    refuses_text("no final line feed", description, strlen(description) - 1, FABRIC_BAD_TEXT, 7);
+    refuses_text("a wait of 300 in a text", "master,4,8\nslave,0,8,4,8,300,0\n", 31, FABRIC_BAD_VALUE, 2);
+    refuses_text("a base of 4", "master,4,8\nslave,4,8,4,8,0,0\n", 29, FABRIC_BAD_BASE, 2);
+    refuses_text("no slave", "master,4,8\n", 11, FABRIC_BAD_ORDER, 0);
+}
+
+/* What is read: the numbers of the description, and 0 behind the counts. */
+static void board_read(void)
+{
+    static const uint32_t masters[2 * FABRIC_MASTERS] = {4, 8, 2, 1};
+    static const uint32_t slaves[6 * FABRIC_SLAVES] = {4096, 4096, 2, 8, 1, 0, 0, 64, 4, 1, 0, 3};
+    static const uint32_t shares[FABRIC_MASTERS * FABRIC_SLAVES] = {2, 1, 0, 0, 0, 0, 0, 0, 0, 0, 0, 0, 0, 0, 0, 0, 3};
+    struct fabric_board board;
+
+    memset(&board, 0xa5, sizeof board);
+    check_number("reading", read_text(description, strlen(description), &board), FABRIC_TAKEN);
+    check("the counts read", board.master_count == 2 && board.slave_count == 2);
+    check("the masters read", memcmp(board.master, masters, sizeof masters) == 0);
+    check("the slaves read", memcmp(board.slave, slaves, sizeof slaves) == 0);
+    check("the shares read", memcmp(board.shares, shares, sizeof shares) == 0);
+    memset(&fresh, 0, sizeof fresh);
+    fresh.board = board;
+    for (size_t i = 0; i < sizeof fresh.memory; i++)
+        fresh.memory[i] = (uint8_t)(i * 7);
+    memset(&fresh.state, 0xa5, sizeof fresh.state);
+    check_number("reset", reset(&fresh), FABRIC_TAKEN);
+    check("no transfers after a reset", all_zero(fresh.state.transfer, sizeof fresh.state.transfer));
+    check("the last owners after a reset", fresh.state.slot[0].owner == 1 && fresh.state.slot[1].owner == 1);
+    fresh.state.slot[0].owner = fresh.state.slot[1].owner = 0;
+    check("all else 0 after a reset", all_zero(&fresh.state, sizeof fresh.state));
+    fresh.state.slot[0].owner = fresh.state.slot[1].owner = 1;
+}
+
+/* A refused clock and a refused run: all lent is as it was, and lines, mask and clocks are 0. */
+static void refuses_clock(const char *name, uint32_t due)
+{
+    uint32_t most[3] = {0, 1, 5};
+
+    memset(&tried.lines, 0xa5, sizeof tried.lines);
+    tried.mask = 0xa5;
+    other = tried;
+    check_number(name, clock_once(&tried), due);
+    check(name, same_lent(&tried, &other) && all_zero(&tried.lines, sizeof tried.lines) && tried.mask == 0);
+    for (size_t i = 0; i < 3; i++) {
+        tried = other;
+        tried.clocks = 0xa5;
+        check_number(name, run(&tried, most[i]), due);
+        check(name, same_lent(&tried, &other) && all_zero(&tried.lines, sizeof tried.lines) && tried.mask == 0);
+        check(name, tried.clocks == 0);
+    }
+    tried = other;
+}
+
+static void refuses_post(const char *name, uint32_t due, uint32_t master, uint32_t write, uint32_t address, uint32_t lanes,
+                         uint32_t beats, size_t length)
+{
+    other = tried;
+    check_number(name, post(&tried, master, write, address, lanes, beats, length), due);
+    check(name, same_lent(&tried, &other));
+}
+
+/* One number of the board is another: no call takes the board, and each names the rule. */
+static void refuses_board(const char *name, uint32_t *number, uint32_t value, uint32_t due)
+{
+    uint32_t before = *number;
+
+    *number = value;
+    other = tried;
+    check_number(name, reset(&tried), due);
+    check(name, same_lent(&tried, &other));
+    refuses_post(name, due, 0, 0, 4096, 15, 1, 0);
+    refuses_clock(name, due);
+    *number = before;
+}
+
+static void boards(void)
+{
+    tried = fresh;
+    refuses_board("a read wait of 256", &tried.board.slave[0].read_wait, 256, FABRIC_BAD_VALUE);
+    refuses_board("a read wait of 300", &tried.board.slave[0].read_wait, 300, FABRIC_BAD_VALUE);
+    refuses_board("the largest write wait", &tried.board.slave[1].write_wait, UINT32_MAX, FABRIC_BAD_VALUE);
+    refuses_board("a master's width of 260", &tried.board.master[0].width, 260, FABRIC_BAD_VALUE);
+    refuses_board("a master's burst of 264", &tried.board.master[0].burst, 264, FABRIC_BAD_VALUE);
+    refuses_board("a slave's width of 258", &tried.board.slave[0].width, 258, FABRIC_BAD_VALUE);
+    refuses_board("a slave's burst of 65537", &tried.board.slave[1].burst, 65537, FABRIC_BAD_VALUE);
+    refuses_board("a span of 4", &tried.board.slave[1].span, 4, FABRIC_BAD_VALUE);
+    refuses_board("a span of 131072", &tried.board.slave[1].span, 131072, FABRIC_BAD_VALUE);
+    refuses_board("a base of 32", &tried.board.slave[1].base, 32, FABRIC_BAD_BASE);
+    refuses_board("a base in another slave", &tried.board.slave[1].base, 4160, FABRIC_OVERLAP);
+    refuses_board("a span of 65536 at a base of 4096", &tried.board.slave[0].span, 65536, FABRIC_BAD_BASE);
+    refuses_board("101 shares", &tried.board.shares[0][0], 101, FABRIC_BAD_VALUE);
+    refuses_board("258 shares", &tried.board.shares[0][0], 258, FABRIC_BAD_VALUE);
+    refuses_board("shares of no master", &tried.board.shares[2][0], 1, FABRIC_BAD_SHARE);
+    refuses_board("shares of no slave", &tried.board.shares[0][2], 1, FABRIC_BAD_SHARE);
+    refuses_board("no master", &tried.board.master_count, 0, FABRIC_BAD_ORDER);
+    refuses_board("no slave", &tried.board.slave_count, 0, FABRIC_BAD_ORDER);
+    refuses_board("258 masters, the third of width 0", &tried.board.master_count, 258, FABRIC_BAD_VALUE);
+    for (uint32_t m = 2; m < FABRIC_MASTERS; m++)
+        tried.board.master[m] = tried.board.master[0];
+    refuses_board("9 masters", &tried.board.master_count, 9, FABRIC_BAD_ORDER);
+    refuses_board("258 masters", &tried.board.master_count, 258, FABRIC_BAD_ORDER);
+    refuses_board("the largest count of masters", &tried.board.master_count, UINT32_MAX, FABRIC_BAD_ORDER);
+    for (uint32_t s = 2; s < FABRIC_SLAVES; s++) {
+        tried.board.slave[s] = tried.board.slave[1];
+        tried.board.slave[s].base = 64 * (s - 1);
+    }
+    refuses_board("17 slaves", &tried.board.slave_count, 17, FABRIC_BAD_ORDER);
+    refuses_board("the largest count of slaves", &tried.board.slave_count, UINT32_MAX, FABRIC_BAD_ORDER);
+    tried = fresh;
+    tried.board.slave[0].base = 65536;
+    tried.board.slave[0].span = 65536;
+    refuses_board("spans of 65600", &tried.board.slave[1].base, 0, FABRIC_SPAN_TOTAL);
+}
+
+/* One number of the state is another: neither a post nor a clock takes the state. */
+static void refuses_state(const char *name, uint32_t *number, uint32_t value)
+{
+    uint32_t before = *number;
+
+    *number = value;
+    refuses_post(name, FABRIC_BAD_STATE, 1, 0, 4096, 3, 1, 0);
+    refuses_clock(name, FABRIC_BAD_STATE);
+    *number = before;
+}
+
+static void states(void)
+{
+    struct fabric_transfer *t = &tried.state.transfer[0];
+    struct fabric_slot *x = &tried.state.slot[0];
+
+    tried = fresh;
+    refuses_state("an owner of 2", &x->owner, 2);
+    refuses_state("an owner of 256", &x->owner, 256);
+    refuses_state("an owner of 257", &x->owner, 257);
+    refuses_state("3 grants remaining of 3 shares", &x->remaining, 3);
+    refuses_state("256 grants remaining", &x->remaining, 256);
+    refuses_state("a grant remaining to a master not connected", &tried.state.slot[1].remaining, 1);
+    refuses_state("accesses done without serving", &x->done, 65536);
+    refuses_state("waits passed without serving", &x->waited, 256);
+    refuses_state("serving nobody", &x->serving, 1);
+    refuses_state("a transfer of no master", &tried.state.transfer[2].held, 256);
+    check_number("a read of two accesses", post(&tried, 0, 0, 4096, 15, 1, 0), FABRIC_TAKEN);
+    refuses_state("a held transfer with lanes of 256", &t->lanes, 256);
+    refuses_state("a held transfer with lanes of 271", &t->lanes, 271);
+    refuses_state("a held transfer of 9 beats", &t->beats, 9);
+    refuses_state("a held transfer of 257 beats", &t->beats, 257);
+    refuses_state("a held transfer for no slave", &t->address, 8192);
+    check_number("its first clock", clock_once(&tried), FABRIC_TAKEN);
+    check("it is served, and has waited once", x->serving != 0 && x->owner == 0 && x->done == 0 && x->waited == 1);
+    refuses_state("as many accesses done as there are", &x->done, 2);
+    refuses_state("65536 accesses done", &x->done, 65536);
+    refuses_state("more waits passed than the wait", &x->waited, 2);
+    refuses_state("257 waits passed", &x->waited, 257);
+    refuses_state("serving what is not held", &t->held, 0);
+    x->serving = 256;
+    t->held = UINT32_MAX;
+    check_number("any mark but 0 is yes", clock_once(&tried), FABRIC_TAKEN);
+    check("the access is carried out", tried.lines.line[0].phase == FABRIC_ACCESS && x->done == 1 && x->waited == 0);
+}
+
+static void posts(void)
+{
+    tried = fresh;
+    refuses_post("master 2", FABRIC_NO_MASTER, 2, 0, 4096, 15, 1, 0);
+    refuses_post("master 256", FABRIC_NO_MASTER, 256, 0, 4096, 15, 1, 0);
+    refuses_post("no beats", FABRIC_BAD_BEATS, 0, 0, 4096, 15, 0, 0);
+    refuses_post("9 beats", FABRIC_BAD_BEATS, 0, 0, 4096, 15, 9, 0);
+    refuses_post("257 beats", FABRIC_BAD_BEATS, 0, 0, 4096, 15, 257, 0);
+    refuses_post("an address of 4098", FABRIC_BAD_ADDRESS, 0, 0, 4098, 15, 1, 0);
+    refuses_post("lanes of 0", FABRIC_BAD_LANES, 0, 0, 4096, 0, 1, 0);
+    refuses_post("lanes of 6", FABRIC_BAD_LANES, 0, 0, 4096, 6, 1, 0);
+    refuses_post("lanes of 256", FABRIC_BAD_LANES, 0, 0, 4096, 256, 1, 0);
+    refuses_post("lanes of 271", FABRIC_BAD_LANES, 0, 0, 4096, 271, 1, 0);
+    refuses_post("the largest lanes", FABRIC_BAD_LANES, 0, 0, 4096, UINT32_MAX, 1, 0);
+    refuses_post("a burst with lanes of 3", FABRIC_BAD_LANES, 0, 0, 4096, 3, 2, 0);
+    refuses_post("an address of no slave", FABRIC_NOT_CONNECTED, 0, 0, 8192, 15, 1, 0);
+    refuses_post("a slave not connected", FABRIC_NOT_CONNECTED, 1, 0, 0, 3, 1, 0);
+    refuses_post("a burst past the end", FABRIC_PAST_END, 0, 0, 8188, 15, 2, 0);
+    refuses_post("a write without words", FABRIC_BAD_WORDS, 0, 1, 4096, 15, 1, 0);
+    refuses_post("a write with a byte more", FABRIC_BAD_WORDS, 0, 1, 4096, 15, 1, 5);
+    refuses_post("a read with words", FABRIC_BAD_WORDS, 0, 0, 4096, 15, 1, 4);
+    check_number("a write marked 256", post(&tried, 0, 256, 4096, 15, 2, 8), FABRIC_TAKEN);
+    check("it is held, for writing", tried.state.transfer[0].held != 0 && tried.state.transfer[0].write != 0);
+    check("with its words", memcmp(tried.buffer, words, 8) == 0 && all_zero(tried.buffer + 8, sizeof tried.buffer - 8));
+    check("memory is not touched", memcmp(tried.memory, fresh.memory, sizeof tried.memory) == 0);
+    tried.state.transfer[0].held = 2;
+    refuses_post("a transfer held, marked 2", FABRIC_HELD, 0, 0, 4096, 15, 1, 0);
+}
+
+/* A refusal for a length: all lent is as it was, and lines, mask and clocks are 0. */
+static void refuses_lengths(const char *name, size_t memory, size_t buffer)
+{
+    uint64_t most[2] = {ONE_CLOCK, 9};
+
+    for (size_t i = 0; i < 2; i++) {
+        tried = fresh;
+        memset(&tried.lines, 0xa5, sizeof tried.lines);
+        tried.mask = tried.clocks = 0xa5;
+        check_number(name, clock_lent(&tried, memory, buffer, most[i]), FABRIC_BAD_LENGTH);
+        check(name, same_lent(&tried, &fresh) && all_zero(&tried.lines, sizeof tried.lines) && tried.mask == 0);
+        check(name, most[i] == ONE_CLOCK || tried.clocks == 0);
+    }
+}
+
+static void lengths(void)
+{
+    tried = fresh;
+    check_number("a post with a shorter buffer", post_lent(&tried, sizeof tried.buffer - 1, 0, 1, 4096, 15, 1, 4),
+                 FABRIC_BAD_LENGTH);
+    check_number("a post with no buffer", post_lent(&tried, 0, 0, 1, 4096, 15, 1, 4), FABRIC_BAD_LENGTH);
+    check("a post with another buffer changes nothing", same_lent(&tried, &fresh));
+    refuses_lengths("a memory with a byte less", sizeof tried.memory - 1, sizeof tried.buffer);
+    refuses_lengths("no memory", 0, sizeof tried.buffer);
+    refuses_lengths("a buffer with a byte less", sizeof tried.memory, sizeof tried.buffer - 1);
+    refuses_lengths("no buffer", sizeof tried.memory, 0);
+}
+
+/* Both of two that are the same post a master's transfer number i; lengths, kinds and addresses go by turns. */
+static void post_both(uint32_t m, uint32_t i)
+{
+    uint32_t width = tried.board.master[m].width;
+    uint32_t beats = m == 0 && i % 3 == 0 ? 1 + i % 8 : 1;
+    uint32_t lanes = beats == 1 && i % 5 == 0 ? 1 : (1u << width) - 1;
+    uint32_t address = m == 0 && i % 4 == 1 ? 4 * (i % 9) : 4096 + width * (i % 40);
+    size_t length = i % 2 == 0 ? beats * width : 0;
+
+    check_number("a post before a run", post(&tried, m, i % 2 == 0, address, lanes, beats, length), FABRIC_TAKEN);
+    check_number("a post before clocks", post(&other, m, i % 2 == 0, address, lanes, beats, length), FABRIC_TAKEN);
+}
+
+/* Runs beside as many clocks: the same numbers and bytes, no master finished before the last clock, none left unnoticed. */
+static void runs(void)
+{
+    uint32_t posted[2] = {0, 0};
+    unsigned long finished = 0, cut = 0;
+
+    tried = fresh;
+    other = tried;
+    for (uint32_t i = 0; i < 400; i++) {
+        uint32_t most = i % 7 == 0 ? i % 5 : 1000;
+
+        for (uint32_t m = 0; m < 2; m++) {
+            if (tried.state.transfer[m].held == 0 && (m == 0 || i % 6 < 4))
+                post_both(m, posted[m]++);
+        }
+        check_number("a run", run(&tried, most), FABRIC_TAKEN);
+        check("a run is no longer than asked", tried.clocks <= most);
+        check("a run ends where a master finishes", tried.clocks == most || tried.mask != 0);
+        memset(&other.lines, 0, sizeof other.lines);
+        other.mask = 0;
+        for (uint32_t c = 0; c < tried.clocks; c++) {
+            check("a run goes on where no master finishes", other.mask == 0);
+            check_number("a clock of a run", clock_once(&other), FABRIC_TAKEN);
+        }
+        check("a run leaves what as many clocks leave", same_lent(&tried, &other));
+        check("a run shows its last clock", same_answer(&tried, &other));
+        finished += tried.mask != 0;
+        cut += tried.mask == 0;
+    }
+    check("runs that end at a finish, and runs that do not", finished > 300 && cut > 20);
+}
+
+int main(void)
+{
+    readings();
+    board_read();
+    boards();
+    states();
+    posts();
+    lengths();
+    runs();
+    if (!failed)
+        printf("calls: ok, %d checks\n", checks);
+    return failed;
+}

@@ -1,0 +1,307 @@
+/*
+ * Runs the library's clock beside a simulator of the same board, and stops at the first clock in which they differ.
+ *
+ *   lockstep [--mistake NAME] BOARD CLOCKS [SEED]
+ *
+ * Both get the same transfers: reads and writes, singles with some lanes or all, and bursts, drawn from SEED, now many at a
+ * time, now few. After each clock the line of every slave, the mask and every byte of memory and buffer are compared. Where
+ * all agree it prints one line, and the exit status is 0. At a difference it prints what each side has, and the status is 1.
+ * Status 2: wrong arguments, a board that is refused, a file that cannot be read, or output that cannot be written.
+ *
+ * The simulator here is simulator.c; simulator.h says what another one has to offer. --mistake makes it go wrong on purpose,
+ * to see that a difference is found; --mistakes lists the names.
+ */
+#include <errno.h>
+#include <inttypes.h>
+#include <stdio.h>
+#include <stdlib.h>
+#include <string.h>
+
+#include "number.h"
+#include "simulator.h"
+
+/* The longest data of a transfer: the beats of the longest burst, of the widest word. */
+#define MOST_WORDS FABRIC_PART_BYTES
+/* For how many clocks the traffic stays equally dense, and how many degrees of density there are above none. */
+#define SPELL 64
+#define DEGREES 8
+
+struct post {
+    uint32_t master, write, address, lanes, beats;
+    uint32_t length; /* of its words */
+    uint8_t words[MOST_WORDS];
+};
+
+/* The library's side: blocks of their own, as long as they have to be, so that what checks memory sees a step beyond. */
+static struct fabric_board *board;
+static struct fabric_state *state;
+static struct fabric_lines *lines;
+static uint8_t *memory;
+static uint8_t *buffer;
+static size_t memory_length;
+
+/* The traffic: who holds a transfer, and what was posted. */
+static uint32_t held;
+static unsigned long posts, writes, bursts, parts;
+static uint64_t drawn;
+
+/* A number below n, the next of a series that SEED fixes. */
+static uint32_t below(uint32_t n)
+{
+    drawn = drawn * UINT64_C(6364136223846793005) + UINT64_C(1442695040888963407);
+    return (uint32_t)((drawn >> 33) % n);
+}
+
+static int failed(const char *what)
+{
+    fprintf(stderr, "lockstep: %s: %s\n", what, strerror(errno));
+    return 2;
+}
+
+/* What was printed is on its way, or nothing is said of agreement. */
+static int ended(int status)
+{
+    return fflush(stdout) == 0 && !ferror(stdout) ? status : failed("standard output");
+}
+
+/* A single's lanes: all, or some that are legal, 1, 2, 4 or 8 from a multiple of their count on. */
+static uint32_t some_lanes(uint32_t width)
+{
+    uint32_t count = width;
+
+    while (count > 1 && below(2) == 0)
+        count /= 2;
+    return ((1u << count) - 1) << count * below(width / count);
+}
+
+/* A transfer of master m for slave s that the rules allow. Half of them are near the slave's front, where they meet. */
+static void draw(struct post *p, uint32_t m, uint32_t s)
+{
+    uint32_t width = board->master[m].width;
+    uint32_t words = board->slave[s].span / width;
+    uint32_t most = board->master[m].burst < words ? board->master[m].burst : words;
+    uint32_t room;
+
+    p->master = m;
+    p->write = below(2);
+    p->beats = below(2) == 0 ? 1 : 1 + below(1 + below(most));
+    room = words - p->beats + 1;
+    p->address = board->slave[s].base + width * below(below(2) == 0 && room > 8 ? 8 : room);
+    p->lanes = p->beats == 1 ? some_lanes(width) : (1u << width) - 1;
+    p->length = p->write != 0 ? p->beats * width : 0;
+    for (uint32_t i = 0; i < p->length; i++)
+        p->words[i] = (uint8_t)below(256);
+}
+
+/* Hands both sides a transfer; 1 where the library refuses it. */
+static int post(const struct post *p, uint32_t clock)
+{
+    uint32_t number = fabric_post(board, state, buffer, FABRIC_BUFFER_BYTES, p->master, p->write, p->address, p->lanes, p->beats,
+                                  p->words, p->length);
+
+    if (number != FABRIC_TAKEN) {
+        printf("library: clock %" PRIu32 " master %" PRIu32 " post refused,%" PRIu32 "\n", clock, p->master, number);
+        return 1;
+    }
+    simulator_post(p->master, p->write, p->address, p->lanes, p->beats, p->words);
+    held |= 1u << p->master;
+    posts++;
+    writes += p->write != 0;
+    bursts += p->beats > 1;
+    parts += p->beats == 1 && p->lanes != (1u << board->master[p->master].width) - 1;
+    return 0;
+}
+
+/* Masters that hold nothing post, so many times out of DEGREES; 1 where the library refuses a transfer. */
+static int post_some(uint32_t degree, uint32_t clock)
+{
+    static struct post p;
+
+    for (uint32_t m = 0; m < board->master_count; m++) {
+        uint32_t s = below(board->slave_count);
+
+        if ((held >> m & 1) != 0 || board->shares[m][s] == 0 || below(DEGREES) >= degree)
+            continue;
+        draw(&p, m, s);
+        if (post(&p, clock))
+            return 1;
+    }
+    return 0;
+}
+
+static void print_line(const char *side, uint32_t clock, uint32_t s, const struct fabric_line *l)
+{
+    printf("%-10s clock %" PRIu32 " slave %" PRIu32 " phase %" PRIu32 " owner %" PRIu32 " offset %" PRIu32 " lanes %" PRIu32
+           " run %" PRIu32 " place %" PRIu32 "\n",
+           side, clock, s, l->phase, l->owner, l->offset, l->lanes, l->run, l->place);
+}
+
+/* The first byte that differs, printed for both sides. */
+static int bytes_differ(const char *name, uint32_t clock, const uint8_t *ours, const uint8_t *theirs, size_t length)
+{
+    size_t i = 0;
+
+    if (memcmp(ours, theirs, length) == 0)
+        return 0;
+    while (ours[i] == theirs[i])
+        i++;
+    printf("library:   clock %" PRIu32 " %s byte %lu is %d\n", clock, name, (unsigned long)i, ours[i]);
+    printf("simulator: clock %" PRIu32 " %s byte %lu is %d\n", clock, name, (unsigned long)i, theirs[i]);
+    return 1;
+}
+
+/* Whether the sides differ after a clock; the first difference is printed. */
+static int differ(uint32_t clock, const struct fabric_lines *theirs, uint32_t our_mask, uint32_t their_mask)
+{
+    for (uint32_t s = 0; s < FABRIC_SLAVES; s++) {
+        if (memcmp(&lines->line[s], &theirs->line[s], sizeof lines->line[s]) != 0) {
+            print_line("library:", clock, s, &lines->line[s]);
+            print_line("simulator:", clock, s, &theirs->line[s]);
+            return 1;
+        }
+    }
+    if (our_mask != their_mask) {
+        printf("library:   clock %" PRIu32 " mask %" PRIu32 "\n", clock, our_mask);
+        printf("simulator: clock %" PRIu32 " mask %" PRIu32 "\n", clock, their_mask);
+        return 1;
+    }
+    return bytes_differ("memory", clock, memory, simulator_memory, memory_length)
+           || bytes_differ("buffer", clock, buffer, simulator_buffer, FABRIC_BUFFER_BYTES);
+}
+
+/* Runs both sides; 1 at the first difference. */
+static int run(uint32_t clocks)
+{
+    static struct fabric_lines theirs;
+    uint32_t degree = DEGREES, clock = 0;
+
+    while (clock < clocks) {
+        uint32_t number, our_mask, their_mask;
+
+        clock++;
+        if (clock % SPELL == 0)
+            degree = below(DEGREES + 1);
+        if (post_some(degree, clock))
+            return 1;
+        number = fabric_clock(board, state, memory, memory_length, buffer, FABRIC_BUFFER_BYTES, lines, &our_mask);
+        if (number != FABRIC_TAKEN) {
+            printf("library: clock %" PRIu32 " refused,%" PRIu32 "\n", clock, number);
+            return 1;
+        }
+        their_mask = simulator_clock(&theirs);
+        if (differ(clock, &theirs, our_mask, their_mask))
+            return 1;
+        held &= ~our_mask;
+    }
+    return 0;
+}
+
+/* A block of zeros; there is no going on without it. */
+static void *block(size_t length)
+{
+    void *bytes = calloc(1, length);
+
+    if (bytes == NULL)
+        exit(failed("memory"));
+    return bytes;
+}
+
+/* Reads the board of a file; 0, or the exit status with what is wrong on standard error. */
+static int read_board(const char *name)
+{
+    static uint8_t text[FABRIC_TEXT_BYTES + 1]; /* a longer file is refused as such */
+    FILE *file = fopen(name, "rb");
+    size_t length, line;
+    uint32_t number;
+    int bad;
+
+    if (file == NULL)
+        return failed(name);
+    length = fread(text, 1, sizeof text, file);
+    bad = ferror(file) ? failed(name) : 0;
+    fclose(file);
+    if (bad != 0)
+        return bad;
+    board = (struct fabric_board *)block(sizeof *board);
+    state = (struct fabric_state *)block(sizeof *state);
+    lines = (struct fabric_lines *)block(sizeof *lines);
+    number = fabric_refused_at(text, length, &line);
+    if (number == FABRIC_TAKEN)
+        number = fabric_read(text, length, board);
+    if (number == FABRIC_TAKEN)
+        number = fabric_reset(board, state);
+    if (number == FABRIC_TAKEN)
+        return 0;
+    fprintf(stderr, "lockstep: %s: ", name);
+    if (line > 0)
+        fprintf(stderr, "line %lu: ", (unsigned long)line);
+    fprintf(stderr, "refusal %" PRIu32 "\n", number);
+    return 2;
+}
+
+/* Memory and buffer, with the same bytes on both sides. */
+static void fill_memory(void)
+{
+    buffer = (uint8_t *)block(FABRIC_BUFFER_BYTES);
+    memory_length = 0;
+    for (uint32_t s = 0; s < board->slave_count; s++)
+        memory_length += board->slave[s].span;
+    memory = (uint8_t *)block(memory_length);
+    for (size_t i = 0; i < memory_length; i++)
+        memory[i] = (uint8_t)below(256);
+    memcpy(simulator_memory, memory, memory_length);
+}
+
+static int compare(const char *name, uint32_t clocks, uint32_t seed, const char *mistake)
+{
+    int status = read_board(name);
+
+    if (status != 0)
+        return status;
+    drawn = seed;
+    fill_memory();
+    simulator_reset(board, mistake);
+    if (run(clocks))
+        return ended(1);
+    printf("lockstep: %s: %" PRIu32 " clocks agree, %lu transfers: %lu writes, %lu bursts, %lu with some of the lanes\n", name,
+           clocks, posts, writes, bursts, parts);
+    return ended(0);
+}
+
+/* The simulator's own name of a mistake; null where it knows none of that name. */
+static const char *mistake_of(const char *name)
+{
+    for (const char *const *known = simulator_mistakes; *known != NULL; known++) {
+        if (strcmp(*known, name) == 0)
+            return *known;
+    }
+    return NULL;
+}
+
+int main(int count, char **words)
+{
+    static const char usage[] = "usage: lockstep [--mistake NAME] BOARD CLOCKS [SEED]\n"
+                                "       lockstep --mistakes\n";
+    const char *mistake = NULL;
+    uint32_t clocks, seed = 1;
+
+    if (count == 2 && (strcmp(words[1], "-h") == 0 || strcmp(words[1], "--help") == 0)) {
+        fputs(usage, stdout);
+        return ended(0);
+    }
+    if (count == 2 && strcmp(words[1], "--mistakes") == 0) {
+        for (const char *const *known = simulator_mistakes; *known != NULL; known++)
+            puts(*known);
+        return ended(0);
+    }
+    if (count > 2 && strcmp(words[1], "--mistake") == 0) {
+        mistake = mistake_of(words[2]);
+        words += 2;
+        count = mistake == NULL ? 0 : count - 2;
+    }
+    if (count < 3 || count > 4 || !number_of(words[2], &clocks) || (count == 4 && !number_of(words[3], &seed))) {
+        fputs(usage, stderr);
+        return 2;
+    }
+    return compare(words[1], clocks, seed, mistake);
+}

@@ -1,0 +1,250 @@
+/*
+ * A small simulator of a fabric, written from the rules (docs/SIMULATE.md) and not from the library. It works the way a bus
+ * monitor sees the bus: a transfer is listed access by access when it is posted, byte by byte; a slave then counts down the
+ * waits of the next access of its list and carries it out. It checks nothing: what is handed in has to be legal.
+ */
+#include <string.h>
+
+#include "simulator.h"
+
+/* The most accesses of a transfer: 64 beats of 8 bytes at a slave of width 1. */
+#define MOST_ACCESSES 512
+
+struct access {
+    struct fabric_line shown; /* as of an access */
+    uint32_t wait;            /* clocks in front of it */
+    uint32_t from, to;        /* its bytes, counted in the transfer */
+};
+
+/* The transfer of a master. */
+struct request {
+    int standing;
+    int write;
+    uint32_t slave;
+    uint32_t first; /* of the slave's bytes */
+    uint32_t lanes;
+    uint32_t beats;
+    uint32_t count; /* of its accesses */
+    uint32_t next;
+    struct access access[MOST_ACCESSES];
+};
+
+struct card {
+    uint32_t owner;
+    uint32_t grants;
+    int serving;
+    uint32_t wait; /* clocks to pass before the next access */
+    uint8_t *bytes;
+};
+
+uint8_t simulator_memory[FABRIC_MEMORY_BYTES];
+uint8_t simulator_buffer[FABRIC_BUFFER_BYTES];
+
+const char *const simulator_mistakes[] = {
+    "from-zero",     /* masters are tried upward from 0, not from the last owner */
+    "silent-keeps",  /* a silent master keeps its grants for later */
+    "burst-keeps",   /* a burst leaves the grants that remain */
+    "share-more",    /* one grant more than the shares */
+    "between-runs",  /* another master is granted between two runs of a burst */
+    "wait-per-beat", /* the wait is charged once per beat, not per access */
+    "last-run",      /* the last run is shown as long as the others */
+    "read-lanes",    /* of a narrower master's read only its own lanes are shown */
+    "every-lane",    /* a write writes lanes that are not enabled too */
+    NULL,
+};
+
+static struct fabric_board board;
+static struct request request[FABRIC_MASTERS];
+static struct card card[FABRIC_SLAVES];
+static const char *made;
+
+static int mistake(const char *name)
+{
+    return made != NULL && strcmp(made, name) == 0;
+}
+
+void simulator_reset(const struct fabric_board *started, const char *on_purpose)
+{
+    uint8_t *bytes = simulator_memory;
+
+    board = *started;
+    made = on_purpose;
+    memset(request, 0, sizeof request);
+    memset(card, 0, sizeof card);
+    for (uint32_t s = 0; s < board.slave_count; s++) {
+        card[s].owner = board.master_count - 1;
+        card[s].bytes = bytes;
+        bytes += board.slave[s].span;
+    }
+}
+
+/* The slave whose bytes have this address. */
+static uint32_t slave_at(uint32_t address)
+{
+    uint32_t s = 0;
+
+    while (address < board.slave[s].base || address - board.slave[s].base >= board.slave[s].span)
+        s++;
+    return s;
+}
+
+/* Cuts the accesses into runs, the last one shorter; of a narrower master each access is a run of 1. */
+static void cut_runs(struct request *r, uint32_t limit)
+{
+    uint32_t first = 0;
+
+    while (first < r->count) {
+        uint32_t left = r->count - first;
+        uint32_t length = left < limit ? left : limit;
+
+        for (uint32_t place = 0; place < length; place++) {
+            r->access[first + place].shown.run = mistake("last-run") ? limit : length;
+            r->access[first + place].shown.place = place;
+        }
+        first += length;
+    }
+}
+
+/* Lists the accesses: each has as many bytes as the narrower of master and slave, and lights the slave's lanes byte by byte. */
+static void list_accesses(struct request *r, uint32_t m)
+{
+    const struct fabric_slave *sl = &board.slave[r->slave];
+    uint32_t width = board.master[m].width;
+    uint32_t unit = width < sl->width ? width : sl->width;
+    uint32_t bytes = r->beats * width;
+    int own_lanes = r->write || mistake("read-lanes");
+
+    r->count = bytes / unit;
+    r->next = 0;
+    for (uint32_t i = 0; i < bytes; i++) {
+        struct access *a = &r->access[i / unit];
+        uint32_t lane = (r->first + i) % sl->width;
+
+        if (i % unit == 0) {
+            a->shown.phase = FABRIC_ACCESS;
+            a->shown.owner = m;
+            a->shown.offset = r->first + i - lane;
+            a->shown.lanes = own_lanes ? 0 : (1u << sl->width) - 1;
+            a->wait = r->write ? sl->write_wait : sl->read_wait;
+            if (mistake("wait-per-beat") && i % width != 0)
+                a->wait = 0;
+            a->from = i;
+            a->to = i + unit;
+        }
+        if (!r->write || (r->lanes >> i % width & 1) != 0)
+            a->shown.lanes |= 1u << lane;
+    }
+    cut_runs(r, width < sl->width ? 1 : sl->burst);
+}
+
+void simulator_post(uint32_t m, uint32_t write, uint32_t address, uint32_t lanes, uint32_t beats, const uint8_t *words)
+{
+    struct request *r = &request[m];
+
+    r->standing = 1;
+    r->write = write != 0;
+    r->slave = slave_at(address);
+    r->first = address - board.slave[r->slave].base;
+    r->lanes = lanes;
+    r->beats = beats;
+    if (r->write)
+        memcpy(simulator_buffer + FABRIC_PART_BYTES * m, words, beats * board.master[m].width);
+    list_accesses(r, m);
+}
+
+/* How many masters are tried before m: the one above the last owner comes first, the last owner last. */
+static uint32_t tried_before(uint32_t m, uint32_t owner)
+{
+    if (mistake("from-zero"))
+        return m;
+    return (m + board.master_count - owner - 1) % board.master_count;
+}
+
+/* The requester that is tried first; master_count where none requests. */
+static uint32_t first_requester(uint32_t s)
+{
+    uint32_t chosen = board.master_count;
+
+    for (uint32_t m = 0; m < board.master_count; m++) {
+        if (!request[m].standing || request[m].slave != s)
+            continue;
+        if (chosen == board.master_count || tried_before(m, card[s].owner) < tried_before(chosen, card[s].owner))
+            chosen = m;
+    }
+    return chosen;
+}
+
+/* Whom a slave that does not serve serves from this clock on, if anybody. */
+static void grant(uint32_t s)
+{
+    struct card *c = &card[s];
+    uint32_t chosen = first_requester(s);
+
+    if (chosen == board.master_count) {
+        if (!mistake("silent-keeps"))
+            c->grants = 0;
+        return;
+    }
+    if (c->grants > 0 && request[c->owner].standing && request[c->owner].slave == s) {
+        c->grants--;
+    } else {
+        c->owner = chosen;
+        c->grants = board.shares[chosen][s] - (mistake("share-more") ? 0 : 1);
+    }
+    if (request[c->owner].beats > 1 && !mistake("burst-keeps"))
+        c->grants = 0;
+    c->serving = 1;
+    c->wait = request[c->owner].access[request[c->owner].next].wait;
+}
+
+/* Moves the bytes of an access between the slave and the master's words. */
+static void move_bytes(const struct card *c, const struct request *r, const struct access *a)
+{
+    uint8_t *words = simulator_buffer + FABRIC_PART_BYTES * c->owner;
+    uint32_t width = board.master[c->owner].width;
+
+    for (uint32_t i = a->from; i < a->to; i++) {
+        if (!r->write)
+            words[i] = c->bytes[r->first + i];
+        else if ((r->lanes >> i % width & 1) != 0 || mistake("every-lane"))
+            c->bytes[r->first + i] = words[i];
+    }
+}
+
+/* A clock of a slave that serves: whether its owner is finished. */
+static int serve(struct card *c, struct fabric_line *line)
+{
+    struct request *r = &request[c->owner];
+    struct access *a = &r->access[r->next];
+
+    *line = a->shown;
+    if (c->wait > 0) {
+        c->wait--;
+        line->phase = FABRIC_WAITING;
+        return 0;
+    }
+    move_bytes(c, r, a);
+    r->next++;
+    if (r->next < r->count) {
+        c->wait = r->access[r->next].wait;
+        c->serving = !mistake("between-runs") || a->shown.place + 1 < a->shown.run;
+        return 0;
+    }
+    c->serving = 0;
+    r->standing = 0;
+    return 1;
+}
+
+uint32_t simulator_clock(struct fabric_lines *lines)
+{
+    uint32_t mask = 0;
+
+    memset(lines, 0, sizeof *lines);
+    for (uint32_t s = 0; s < board.slave_count; s++) {
+        if (!card[s].serving)
+            grant(s);
+        if (card[s].serving && serve(&card[s], &lines->line[s]))
+            mask |= 1u << card[s].owner;
+    }
+    return mask;
+}

@@ -1,0 +1,124 @@
+// The calls for C, as include/fabric.h declares them: each is the library's call of that name, on the same arrays. What a call
+// answers beside its number goes to numbers that C lends for it.
+ghost use mathlib.Core.Path.{_≡_};
+ghost use lib.ListN.{getD, length};
+ghost use Rattle.board_layout.specs.Layout.{boardIn};
+ghost use Rattle.description.specs.Lent.{Read};
+ghost use Rattle.description.specs.Blame.{refusalOf};
+ghost use Rattle.state_layout.specs.Layout.{marked};
+ghost use Rattle.quote.specs.Answers.{waitRefusal, waitOutput};
+ghost use Rattle.fabric.specs.Requests.{request};
+ghost use Rattle.fabric.specs.Lent.{Resets, Posts, Clocks, Runs};
+
+#[no_mangle]
+pub extern "C" fn fabric_wait(text: &[u8], master: u32, slave: u32, out: &mut [u8]) -> u32
+    ensures answer { λ r. ⌜ r ≡ waitRefusal (now (text .entry)) master slave (now (out .entry)) ⌝ }
+    ensures output { λ _. ⌜ now (out .exit) ≡ waitOutput (now (text .entry)) master slave (now (out .entry)) ⌝ }
+{
+    quote::wait_call(text, master, slave, out)
+}
+
+#[no_mangle]
+pub extern "C" fn fabric_read(text: &[u8], board: &mut [u32; 242]) -> u32
+    ensures { λ r. ⌜ Read (now (text .entry)) (now (board .entry)) (now (board .exit)) r ⌝ }
+{
+    description::read(text, board)
+}
+
+// The count of numbers lent. As board_layout::count: a call of it tells a proof an array's length, and costs nothing.
+fn count(l: &[usize]) -> usize
+    ensures { λ r. ⌜ r ≡ length (now (l .entry)) ⌝ }
+{
+    l.len()
+}
+
+#[no_mangle]
+pub extern "C" fn fabric_refused_at(text: &[u8], line: &mut [usize; 1]) -> u32
+    ensures answer { λ r. ⌜ r ≡ refusalOf (now (text .entry)) .number ⌝ }
+    ensures line { λ _. ⌜ getD (now (line .exit)) 0 0 ≡ refusalOf (now (text .entry)) .line ⌝ }
+{
+    count(line);
+    let r = description::refused_at(text);
+    line[0] = r.line;
+    r.number
+}
+
+#[no_mangle]
+pub extern "C" fn fabric_reset(board: &[u32; 242], state: &mut [u32; 120]) -> u32
+    ensures { λ r. ⌜ Resets (boardIn (now (board .entry))) (now (state .entry)) (now (state .exit)) r ⌝ }
+{
+    fabric::reset(board, state)
+}
+
+#[no_mangle]
+pub extern "C" fn fabric_post(
+    board: &[u32; 242],
+    state: &mut [u32; 120],
+    buffer: &mut [u8],
+    master: u32,
+    write: u32,
+    address: u32,
+    lanes: u32,
+    beats: u32,
+    words: &[u8],
+) -> u32
+    ensures { λ r. ⌜ Posts (boardIn (now (board .entry)))
+        (request master (marked write) address lanes beats (now (words .entry)))
+        (now (state .entry)) (now (state .exit)) (now (buffer .entry)) (now (buffer .exit)) r ⌝ }
+{
+    fabric::post(
+        board,
+        state,
+        buffer,
+        master,
+        write != 0,
+        address,
+        lanes,
+        beats,
+        words,
+    )
+}
+
+#[no_mangle]
+pub extern "C" fn fabric_clock(
+    board: &[u32; 242],
+    state: &mut [u32; 120],
+    memory: &mut [u8],
+    buffer: &mut [u8],
+    lines: &mut [u32; 96],
+    mask: &mut [u32; 1],
+) -> u32
+    ensures { λ r. ⌜ Clocks (boardIn (now (board .entry))) (now (state .entry)) (now (state .exit)) (now (lines .exit))
+        (record { memory = now (memory .entry); buffer = now (buffer .entry) })
+        (record { memory = now (memory .exit); buffer = now (buffer .exit) })
+        (record { number = r; mask = getD (now (mask .exit)) 0 0 }) ⌝ }
+{
+    board_layout::count(mask);
+    let a = fabric::clock(board, state, memory, buffer, lines);
+    mask[0] = a.mask;
+    a.number
+}
+
+#[no_mangle]
+pub extern "C" fn fabric_run(
+    board: &[u32; 242],
+    state: &mut [u32; 120],
+    memory: &mut [u8],
+    buffer: &mut [u8],
+    lines: &mut [u32; 96],
+    most: u32,
+    clocks: &mut [u32; 1],
+    mask: &mut [u32; 1],
+) -> u32
+    ensures { λ r. ⌜ Runs (boardIn (now (board .entry))) most (now (state .entry)) (now (state .exit)) (now (lines .exit))
+        (record { memory = now (memory .entry); buffer = now (buffer .entry) })
+        (record { memory = now (memory .exit); buffer = now (buffer .exit) })
+        (record { number = r; clocks = getD (now (clocks .exit)) 0 0; mask = getD (now (mask .exit)) 0 0 }) ⌝ }
+{
+    board_layout::count(clocks);
+    board_layout::count(mask);
+    let a = fabric::run(board, state, memory, buffer, lines, most);
+    clocks[0] = a.clocks;
+    mask[0] = a.mask;
+    a.number
+}
