@@ -4,10 +4,6 @@ ghost use Prim.Native.Nat.{_+_, _*_, _≤_, _<_};
 ghost use lib.ListN.{length};
 use crate::Run;
 use crate::explain;
-use geometry::Transfer;
-use state::Line;
-use state::Slot;
-use state::State;
 
 // The length of the buffer.
 pub const ROOM: usize = 65536;
@@ -54,7 +50,7 @@ pub fn put_line(out: &mut [u8; ROOM], run: Run, word: &[u8], numbers: &[u64]) ->
 }
 
 // Prints what a call answered, and explains a refusal.
-pub fn answer(out: &mut [u8; ROOM], run: Run, word: &[u8], number: u8) -> Run
+pub fn answer(out: &mut [u8; ROOM], run: Run, word: &[u8], number: u32) -> Run
     requires { ⌜ length (now word) < 900 ⌝ }
 {
     let printed = put_line(&mut *out, run, word, &[number as u64]);
@@ -104,34 +100,37 @@ pub fn put_hex(out: &mut [u8; ROOM], run: Run, bytes: &[u8]) -> Run {
     put_line(out, next, b"", &[])
 }
 
-fn flag(b: bool) -> u64 {
-    if b { 1 } else { 0 }
+// A lent number as one to print.
+fn wide(n: u32) -> u64 {
+    n as u64
 }
 
-// Prints slave s's line of a clock.
-fn put_slave(out: &mut [u8; ROOM], run: Run, s: usize, l: Line) -> Run {
+// Prints slave s's line of a clock: its six numbers.
+fn put_slave(out: &mut [u8; ROOM], run: Run, lines: &[u32; 96], s: usize) -> Run
+    requires { ⌜ s < 16 ⌝ }
+{
+    let p = 6 * s;
     let numbers = [
         s as u64,
-        l.phase as u64,
-        l.owner as u64,
-        l.offset as u64,
-        l.lanes as u64,
-        l.run as u64,
-        l.place as u64,
+        wide(lines[p]),
+        wide(lines[p + 1]),
+        wide(lines[p + 2]),
+        wide(lines[p + 3]),
+        wide(lines[p + 4]),
+        wide(lines[p + 5]),
     ];
     put_line(out, run, b"slave", &numbers)
 }
 
 // Prints the lines of the first n slaves.
-fn put_slaves(out: &mut [u8; ROOM], run: Run, lines: [Line; 16], n: usize) -> Run {
+fn put_slaves(out: &mut [u8; ROOM], run: Run, lines: &[u32; 96], n: u32) -> Run {
     let mut next = run;
-    let mut s = 0;
+    let mut s: usize = 0;
     while s < 16 {
-        if n <= s {
+        if n as usize <= s {
             return next;
         }
-        let l = lines[s];
-        next = put_slave(&mut *out, next, s, l);
+        next = put_slave(&mut *out, next, lines, s);
         s += 1;
     }
     next
@@ -141,68 +140,62 @@ fn put_slaves(out: &mut [u8; ROOM], run: Run, lines: [Line; 16], n: usize) -> Ru
 pub fn put_clock(
     out: &mut [u8; ROOM],
     run: Run,
-    number: u8,
-    mask: u8,
-    lines: [Line; 16],
-    slave_count: u8,
+    number: u32,
+    mask: u32,
+    lines: &[u32; 96],
+    slave_count: u32,
 ) -> Run {
     let next = put_line(&mut *out, run, b"clock", &[number as u64, mask as u64]);
     if number != 0 {
         return next;
     }
-    put_slaves(out, next, lines, slave_count as usize)
+    put_slaves(out, next, lines, slave_count)
 }
 
-fn put_transfer(out: &mut [u8; ROOM], run: Run, m: usize, t: Transfer) -> Run {
+// Prints one entry of a state: five numbers from place p on.
+fn put_entry(
+    out: &mut [u8; ROOM],
+    run: Run,
+    word: &[u8],
+    i: usize,
+    state: &[u32; 120],
+    p: usize,
+) -> Run
+    requires { ⌜ (length (now word) < 9) × (p < 116) ⌝ }
+{
     let numbers = [
-        m as u64,
-        flag(t.held),
-        flag(t.write),
-        t.address as u64,
-        t.lanes as u64,
-        t.beats as u64,
+        i as u64,
+        wide(state[p]),
+        wide(state[p + 1]),
+        wide(state[p + 2]),
+        wide(state[p + 3]),
+        wide(state[p + 4]),
     ];
-    put_line(out, run, b"transfer", &numbers)
+    put_line(out, run, word, &numbers)
 }
 
-fn put_transfers(out: &mut [u8; ROOM], run: Run, transfers: [Transfer; 8]) -> Run {
+fn put_transfers(out: &mut [u8; ROOM], run: Run, state: &[u32; 120]) -> Run {
     let mut next = run;
-    let mut m = 0;
+    let mut m: usize = 0;
     while m < 8 {
-        let t = transfers[m];
-        next = put_transfer(&mut *out, next, m, t);
+        next = put_entry(&mut *out, next, b"transfer", m, state, 5 * m);
         m += 1;
     }
     next
 }
 
-fn put_slot(out: &mut [u8; ROOM], run: Run, s: usize, t: Slot) -> Run {
-    let numbers = [
-        s as u64,
-        t.owner as u64,
-        t.remaining as u64,
-        flag(t.serving),
-        t.done as u64,
-        t.waited as u64,
-    ];
-    put_line(out, run, b"slot", &numbers)
-}
-
-fn put_slots(out: &mut [u8; ROOM], run: Run, slots: [Slot; 16]) -> Run {
+fn put_slots(out: &mut [u8; ROOM], run: Run, state: &[u32; 120]) -> Run {
     let mut next = run;
-    let mut s = 0;
+    let mut s: usize = 0;
     while s < 16 {
-        let t = slots[s];
-        next = put_slot(&mut *out, next, s, t);
+        next = put_entry(&mut *out, next, b"slot", s, state, 40 + 5 * s);
         s += 1;
     }
     next
 }
 
-// Prints all of a state.
-pub fn put_state(out: &mut [u8; ROOM], run: Run, state: State) -> Run {
-    let transfers = state.transfers;
-    let slots = state.slots;
-    let next = put_transfers(&mut *out, run, transfers);
-    put_slots(out, next, slots)
+// Prints all of a state. Its marks are 0 or 1: a line of the script and the library write no other.
+pub fn put_state(out: &mut [u8; ROOM], run: Run, state: &[u32; 120]) -> Run {
+    let next = put_transfers(&mut *out, run, state);
+    put_slots(out, next, state)
 }

@@ -28,7 +28,7 @@ pub fn problem(line: u64, problem: u8) {
 // Explains a call where it was refused. Its answer is written out before, so that the explanation comes behind it where
 // both go to one place. A call answers no more than a number of a board that the script has overwritten, so that no line of
 // the board can be charged.
-pub fn call(out: &[u8], run: Run, number: u8) -> Run {
+pub fn call(out: &[u8], run: Run, number: u32) -> Run {
     if number == 0 {
         return run;
     }

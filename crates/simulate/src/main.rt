@@ -36,13 +36,12 @@ fn refuse(path: &[u8], text: &[u8]) {
 
 // Runs the script on the board that a text describes.
 fn simulate(path: &[u8], text: &[u8]) {
-    let parsed = description::read(text);
-    if parsed.number != 0 {
+    let mut board = [0u32; 242];
+    if description::read(text, &mut board) != 0 {
         refuse(path, text);
         return;
     }
-    let board = parsed.board;
-    run::run_script(text, board);
+    run::run_script(text, &mut board);
 }
 
 // Reads the board's file, up to one byte more than a description may have: the reader refuses a longer one by its length. A

@@ -1,128 +1,79 @@
-// Entries of the board and the state, overwritten by what a line says. The line's limits keep each number within its field.
-use crate::world::World;
-use board::Board;
-use board::Master;
-use board::Slave;
-use geometry::Transfer;
+// Entries of the board and the state, overwritten by what a line says, number by number in the order of the line's fields.
+ghost use Prim.Native.Nat.{_<_};
 use script::Command;
-use state::Slot;
-use state::State;
 
-pub fn byte(n: u64) -> u8 {
-    if n < 256 { n as u8 } else { 255 }
-}
-
-fn half(n: u64) -> u16 {
-    if n < 65536 { n as u16 } else { 65535 }
-}
-
+// A number of a line as one of an array. The line's limits keep it within its field.
 pub fn word(n: u64) -> u32 {
     if n < 4294967296 { n as u32 } else { 4294967295 }
 }
 
-fn with_transfer(state: State, c: Command) -> State {
-    let mut s = state;
-    let i = c.first as usize;
-    if i < 8 {
-        let t = Transfer {
-            held: c.second == 1,
-            write: c.third == 1,
-            address: word(c.fourth),
-            lanes: byte(c.fifth),
-            beats: byte(c.sixth),
-        };
-        s.transfers[i] = t;
+// A number at a place of an array, where the array has it.
+fn store(numbers: &mut [u32], place: usize, n: u32) {
+    if place < numbers.len() {
+        numbers[place] = n;
     }
-    s
 }
 
-fn with_slot(state: State, c: Command) -> State {
-    let mut s = state;
-    let i = c.first as usize;
-    if i < 16 {
-        let t = Slot {
-            owner: byte(c.second),
-            remaining: byte(c.third),
-            serving: c.fourth == 1,
-            done: half(c.fifth),
-            waited: byte(c.sixth),
-        };
-        s.slots[i] = t;
-    }
-    s
-}
-
-fn with_master(board: Board, c: Command) -> Board {
-    let mut b = board;
-    let i = c.first as usize;
-    if i < 8 {
-        let m = Master {
-            width: byte(c.second),
-            burst: byte(c.third),
-        };
-        b.masters[i] = m;
-    }
-    b
-}
-
-fn with_slave(board: Board, c: Command) -> Board {
-    let mut b = board;
-    let i = c.first as usize;
-    if i < 16 {
-        let s = Slave {
-            base: word(c.second),
-            span: word(c.third),
-            width: byte(c.fourth),
-            burst: byte(c.fifth),
-            read_wait: byte(c.sixth),
-            write_wait: byte(c.seventh),
-        };
-        b.slaves[i] = s;
-    }
-    b
-}
-
-fn with_share(board: Board, m: usize, s: usize, shares: u8) -> Board {
-    let mut b = board;
-    if m < 8 {
-        if s < 16 {
-            let i = 16 * m + s;
-            b.shares[i] = shares;
+// The first n of six numbers, at a place of an array and behind it.
+fn put(numbers: &mut [u32], place: usize, values: [u64; 6], n: usize)
+    requires { ⌜ place < 1000 ⌝ }
+{
+    let mut i: usize = 0;
+    while i < 6 {
+        if n <= i {
+            return;
         }
+        store(&mut *numbers, place + i, word(values[i]));
+        i += 1;
     }
-    b
 }
 
-fn with_counts(board: Board, c: Command) -> Board {
-    let mut b = board;
-    b.master_count = byte(c.first);
-    b.slave_count = byte(c.second);
-    b
+// What stands behind the first field of a line.
+fn behind(c: Command) -> [u64; 6] {
+    [c.second, c.third, c.fourth, c.fifth, c.sixth, c.seventh]
 }
 
-// The world with an entry of the state or of the board overwritten, or the board's counts.
-pub fn overwrite(w: World, c: Command) -> World {
-    let mut next = w;
+// An entry of the state.
+fn put_state(state: &mut [u32; 120], c: Command, i: usize)
+    requires { ⌜ i < 16 ⌝ }
+{
     if c.kind == script::TRANSFER {
-        next.state = with_transfer(w.state, c);
-        return next;
+        put(state, 5 * i, behind(c), 5);
+        return;
     }
-    if c.kind == script::SLOT {
-        next.state = with_slot(w.state, c);
-        return next;
-    }
+    put(state, 40 + 5 * i, behind(c), 5);
+}
+
+// An entry of the board, or its counts.
+fn put_board(board: &mut [u32; 242], c: Command, i: usize)
+    requires { ⌜ i < 16 ⌝ }
+{
     if c.kind == script::MASTER {
-        next.board = with_master(w.board, c);
-        return next;
+        put(board, 2 + 2 * i, behind(c), 2);
+        return;
     }
     if c.kind == script::SLAVE {
-        next.board = with_slave(w.board, c);
-        return next;
+        put(board, 18 + 6 * i, behind(c), 6);
+        return;
     }
     if c.kind == script::SHARE {
-        next.board = with_share(w.board, c.first as usize, c.second as usize, byte(c.third));
-        return next;
+        put(
+            board,
+            114 + 16 * i + (c.second % 16) as usize,
+            [c.third, 0, 0, 0, 0, 0],
+            1,
+        );
+        return;
     }
-    next.board = with_counts(w.board, c);
-    next
+    put(board, 0, [c.first, c.second, 0, 0, 0, 0], 2);
+}
+
+// An entry of the state or of the board overwritten, or the board's counts. A master or a card has a number below 16.
+pub fn overwrite(board: &mut [u32; 242], state: &mut [u32; 120], c: Command) {
+    let i = (c.first % 16) as usize;
+    if (c.kind == script::TRANSFER) | (c.kind == script::SLOT) {
+        put_state(state, c, i);
+        return;
+    }
+    put_board(board, c, i);
 }

@@ -5,22 +5,16 @@ use Rattle.session.proofs.answers.put_slaves.Statement.{statement}
 use Rattle.session.proofs.answers.put_slaves.Tie as tie
 
 abbrev Inv-loop : tie.InvT-loop
-Inv-loop out₀ n lines next₀ s₀ out next s = s ≤ 16
+Inv-loop out₀ lines n next₀ s₀ out next s = s ≤ 16
 
 abbrev μ-loop : tie.MeasureT-loop
-μ-loop out₀ n lines next₀ s₀ out next s = 16 - s
+μ-loop out₀ lines n next₀ s₀ out next s = 16 - s
 
 loop-holds : tie.Need-loop-holds Inv-loop μ-loop
 loop-holds c = search needs
 
 returns : tie.Need-returns Inv-loop μ-loop
 returns c = search needs
-
-mul-l : tie.Need-mul-l Inv-loop μ-loop
-mul-l c = search needs
-
-array-copy-out-l : tie.Need-array-copy-out-l Inv-loop μ-loop
-array-copy-out-l c = search needs
 
 put-slave-requires : tie.Need-put-slave-requires Inv-loop μ-loop
 put-slave-requires c κs = search needs
@@ -45,8 +39,6 @@ put-slaves-spec =
     μ-loop
     loop-holds
     returns
-    mul-l
-    array-copy-out-l
     put-slave-requires
     add-s
     loop-less

@@ -5,22 +5,25 @@ use Rattle.session.proofs.answers.put_slots.Statement.{statement}
 use Rattle.session.proofs.answers.put_slots.Tie as tie
 
 abbrev Inv-loop : tie.InvT-loop
-Inv-loop out₀ slots next₀ s₀ out next s = s ≤ 16
+Inv-loop out₀ state next₀ s₀ t6 out next s = s ≤ 16
 
 abbrev μ-loop : tie.MeasureT-loop
-μ-loop out₀ slots next₀ s₀ out next s = 16 - s
+μ-loop out₀ state next₀ s₀ t6 out next s = 16 - s
 
 loop-holds : tie.Need-loop-holds Inv-loop μ-loop
 loop-holds c = search needs
 
-mul-t : tie.Need-mul-t Inv-loop μ-loop
-mul-t c = search needs
+slice-aggregate-put-entry : tie.Need-slice-aggregate-put-entry Inv-loop μ-loop
+slice-aggregate-put-entry c = search needs
 
-array-copy-out-t : tie.Need-array-copy-out-t Inv-loop μ-loop
-array-copy-out-t c = search needs
+mul-put-entry : tie.Need-mul-put-entry Inv-loop μ-loop
+mul-put-entry c = search needs
 
-put-slot-requires : tie.Need-put-slot-requires Inv-loop μ-loop
-put-slot-requires c κs = search needs
+add-put-entry : tie.Need-add-put-entry Inv-loop μ-loop
+add-put-entry c = search needs
+
+put-entry-requires : tie.Need-put-entry-requires Inv-loop μ-loop
+put-entry-requires c κs = search needs
 
 add-s : tie.Need-add-s Inv-loop μ-loop
 add-s c = search needs
@@ -41,9 +44,10 @@ put-slots-spec =
     Inv-loop
     μ-loop
     loop-holds
-    mul-t
-    array-copy-out-t
-    put-slot-requires
+    slice-aggregate-put-entry
+    mul-put-entry
+    add-put-entry
+    put-entry-requires
     add-s
     loop-less
     loop-again

@@ -5,22 +5,22 @@ use Rattle.session.proofs.answers.put_transfers.Statement.{statement}
 use Rattle.session.proofs.answers.put_transfers.Tie as tie
 
 abbrev Inv-loop : tie.InvT-loop
-Inv-loop out₀ transfers next₀ m₀ out next m = m ≤ 8
+Inv-loop out₀ state next₀ m₀ t6 out next m = m ≤ 8
 
 abbrev μ-loop : tie.MeasureT-loop
-μ-loop out₀ transfers next₀ m₀ out next m = 8 - m
+μ-loop out₀ state next₀ m₀ t6 out next m = 8 - m
 
 loop-holds : tie.Need-loop-holds Inv-loop μ-loop
 loop-holds c = search needs
 
-mul-t : tie.Need-mul-t Inv-loop μ-loop
-mul-t c = search needs
+slice-aggregate-put-entry : tie.Need-slice-aggregate-put-entry Inv-loop μ-loop
+slice-aggregate-put-entry c = search needs
 
-array-copy-out-t : tie.Need-array-copy-out-t Inv-loop μ-loop
-array-copy-out-t c = search needs
+mul-put-entry : tie.Need-mul-put-entry Inv-loop μ-loop
+mul-put-entry c = search needs
 
-put-transfer-requires : tie.Need-put-transfer-requires Inv-loop μ-loop
-put-transfer-requires c κs = search needs
+put-entry-requires : tie.Need-put-entry-requires Inv-loop μ-loop
+put-entry-requires c κs = search needs
 
 add-m : tie.Need-add-m Inv-loop μ-loop
 add-m c = search needs
@@ -41,9 +41,9 @@ put-transfers-spec =
     Inv-loop
     μ-loop
     loop-holds
-    mul-t
-    array-copy-out-t
-    put-transfer-requires
+    slice-aggregate-put-entry
+    mul-put-entry
+    put-entry-requires
     add-m
     loop-less
     loop-again

@@ -7,16 +7,20 @@ use Rattle.simulate.proofs.run.run_clock.Statement.{statement}
 use Rattle.simulate.proofs.run.run_clock.Tie as tie
 
 abbrev Inv-loop : tie.InvT-loop
-Inv-loop count memory₀ buffer₀ out₀ board state₀ run₀ number₀ left₀ memory buffer out state run number left = (length memory ≡ length memory₀) × (length buffer ≡ length buffer₀)
+Inv-loop board state₀ count memory₀ buffer₀ out₀ lines₀ next₀ number₀ left₀ state memory buffer out lines next number left =
+    (length memory ≡ length memory₀) × (length buffer ≡ length buffer₀)
 
 abbrev μ-loop : tie.MeasureT-loop
-μ-loop count memory₀ buffer₀ out₀ board state₀ run₀ number₀ left₀ memory buffer out state run number left = left
+μ-loop board state₀ count memory₀ buffer₀ out₀ lines₀ next₀ number₀ left₀ state memory buffer out lines next number left = left
 
 loop-holds : tie.Need-loop-holds Inv-loop μ-loop
 loop-holds c = search needs
 
 clock-requires : tie.Need-clock-requires Inv-loop μ-loop
 clock-requires c κs = search needs
+
+slave-count-requires : tie.Need-slave-count-requires Inv-loop μ-loop
+slave-count-requires c κs = search needs
 
 put-clock-requires : tie.Need-put-clock-requires Inv-loop μ-loop
 put-clock-requires c κs = search needs
@@ -50,6 +54,7 @@ run-clock-spec =
     μ-loop
     loop-holds
     clock-requires
+    slave-count-requires
     put-clock-requires
     left-after-requires
     loop-less

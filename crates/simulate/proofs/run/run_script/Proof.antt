@@ -7,11 +7,12 @@ use Rattle.simulate.proofs.run.run_script.Statement.{statement}
 use Rattle.simulate.proofs.run.run_script.Tie as tie
 
 abbrev Inv-loop : tie.InvT-loop
-Inv-loop text memory₀ words₀ longer₀ input₀ out₀ w₀ passes₀ memory words longer input out w passes =
+Inv-loop text board₀ memory₀ words₀ longer₀ input₀ out₀ state₀ run₀ passes₀ board memory words longer input out state run passes =
     (length memory ≡ 65544) × ((length words ≡ 4096) × ((length longer ≡ 4104) × (length input ≡ 131200)))
 
 abbrev μ-loop : tie.MeasureT-loop
-μ-loop text memory₀ words₀ longer₀ input₀ out₀ w₀ passes₀ memory words longer input out w passes = passes
+μ-loop text board₀ memory₀ words₀ longer₀ input₀ out₀ state₀ run₀ passes₀ board memory words longer input out state run passes =
+    passes
 
 start-requires : tie.Need-start-requires Inv-loop μ-loop
 start-requires c κs = search needs

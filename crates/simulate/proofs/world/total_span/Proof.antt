@@ -5,10 +5,10 @@ use Rattle.simulate.proofs.world.total_span.Statement.{statement}
 use Rattle.simulate.proofs.world.total_span.Tie as tie
 
 abbrev Inv-loop : tie.InvT-loop
-Inv-loop n slaves total₀ i₀ total i = (i ≤ 16) × (total ≤ 4294967295 * i)
+Inv-loop board n total₀ s₀ total s = (s ≤ 16) × (total ≤ 4294967295 * s)
 
 abbrev μ-loop : tie.MeasureT-loop
-μ-loop n slaves total₀ i₀ total i = 16 - i
+μ-loop board n total₀ s₀ total s = 16 - s
 
 loop-holds : tie.Need-loop-holds Inv-loop μ-loop
 loop-holds c = search needs
@@ -16,11 +16,8 @@ loop-holds c = search needs
 returns : tie.Need-returns Inv-loop μ-loop
 returns c = search needs
 
-mul-s : tie.Need-mul-s Inv-loop μ-loop
-mul-s c = search needs
-
-array-copy-out-s : tie.Need-array-copy-out-s Inv-loop μ-loop
-array-copy-out-s c = search needs
+slave-at-requires : tie.Need-slave-at-requires Inv-loop μ-loop
+slave-at-requires c κs = search needs
 
 cast-total : tie.Need-cast-total Inv-loop μ-loop
 cast-total c = search needs
@@ -28,8 +25,8 @@ cast-total c = search needs
 add-total : tie.Need-add-total Inv-loop μ-loop
 add-total c = search needs
 
-add-i : tie.Need-add-i Inv-loop μ-loop
-add-i c = search needs
+add-s : tie.Need-add-s Inv-loop μ-loop
+add-s c = search needs
 
 loop-less : tie.Need-loop-less Inv-loop μ-loop
 loop-less c = search needs
@@ -48,11 +45,10 @@ total-span-spec =
     μ-loop
     loop-holds
     returns
-    mul-s
-    array-copy-out-s
+    slave-at-requires
     cast-total
     add-total
-    add-i
+    add-s
     loop-less
     loop-again
     returns-2)
