@@ -1,5 +1,5 @@
 #!/bin/sh
-# The benchmark: builds the library's archives and times them against the model. No argument.
+# The benchmark: builds the library's archive and times its calls for C against the model. No argument.
 set -eu
 here=$(CDPATH= cd -- "$(dirname -- "$0")" && pwd)
 cd "$here/.."
@@ -7,9 +7,10 @@ case ${1-} in
     '') ;;
     *)
         echo "usage: bench/run.sh
-Proves and builds the archives of the library (rt staticlib), then times its calls against the
-model's code in one run: a line for each call, with the ratio of the times. A call that the
-repository does not have yet is timed for the model alone."
+Proves and builds the library's archives (rt staticlib fabric_c, bench_entries), then times its
+calls for C against the model's code in one run: a line for each call, with the ratio of the
+times. Those for clock and run are a clock with its posts; run goes on until a master finishes.
+The last lines are the same traffic made in Rattle, the reading of its board included."
         case $1 in
             -h | --help) exit 0 ;;
             *) exit 2 ;;
@@ -17,9 +18,8 @@ repository does not have yet is timed for the model alone."
         ;;
 esac
 mkdir -p target
-rt staticlib bench_entries > target/bench.log 2>&1 || { cat target/bench.log >&2; exit 1; }
-if grep -qs 'fn fabric_wait' crates/quote/src/*.rt; then
-    rt staticlib quote > target/bench.log 2>&1 || { cat target/bench.log >&2; exit 1; }
-fi
+for archive in fabric_c bench_entries; do
+    rt staticlib "$archive" > target/bench.log 2>&1 || { cat target/bench.log >&2; exit 1; }
+done
 cargo build --release --offline --quiet --manifest-path bench/Cargo.toml --target-dir target/bench
 exec target/bench/release/bench boards

@@ -1,41 +1,61 @@
-//! The library's calls. Each is None where its archive was not built.
+//! The library's calls for C, as include/fabric.h has them. They are linked and not compiled with the benchmark: none of their
+//! code is put into the caller's, and nothing that they write is left out because nobody looks at it.
 
-pub type Read = fn(&[u8], u32) -> u32;
-pub type Wait = fn(&[u8], u32, u32, &mut [u8]) -> u32;
-pub type Clocks = fn(&[u8], &mut [u8], &mut [u8], u32) -> u32;
+/// Board, state and lines: the numbers of the header's structs, in their order.
+pub const BOARD: usize = 242;
+pub const STATE: usize = 120;
+pub const LINES: usize = 96;
 
-#[cfg(not(bench_read))]
-pub const READ: Option<Read> = None;
-#[cfg(bench_read)]
-pub const READ: Option<Read> = Some(linked::read);
-
-#[cfg(not(fabric_wait))]
-pub const WAIT: Option<Wait> = None;
-#[cfg(fabric_wait)]
-pub const WAIT: Option<Wait> = Some(linked::wait);
-
-#[cfg(not(bench_clocks))]
-pub const CLOCKS: Option<Clocks> = None;
-#[cfg(bench_clocks)]
-pub const CLOCKS: Option<Clocks> = Some(linked::clocks);
-
-/// A slice goes to the library as its pointer and its length.
-#[allow(dead_code)]
 mod linked {
+    use super::{BOARD, LINES, STATE};
+
     extern "C" {
-        #[cfg(bench_read)]
-        fn bench_read(text: *const u8, text_length: usize, place: u32) -> u32;
-        #[cfg(fabric_wait)]
-        fn fabric_wait(
+        pub fn fabric_read(text: *const u8, text_length: usize, board: *mut [u32; BOARD]) -> u32;
+        pub fn fabric_wait(
             text: *const u8,
             text_length: usize,
             master: u32,
             slave: u32,
-            output: *mut u8,
-            output_length: usize,
+            out: *mut u8,
+            out_length: usize,
         ) -> u32;
-        #[cfg(bench_clocks)]
-        fn bench_clocks(
+        pub fn fabric_reset(board: *const [u32; BOARD], state: *mut [u32; STATE]) -> u32;
+        pub fn fabric_post(
+            board: *const [u32; BOARD],
+            state: *mut [u32; STATE],
+            buffer: *mut u8,
+            buffer_length: usize,
+            master: u32,
+            write: u32,
+            address: u32,
+            lanes: u32,
+            beats: u32,
+            words: *const u8,
+            words_length: usize,
+        ) -> u32;
+        pub fn fabric_clock(
+            board: *const [u32; BOARD],
+            state: *mut [u32; STATE],
+            memory: *mut u8,
+            memory_length: usize,
+            buffer: *mut u8,
+            buffer_length: usize,
+            lines: *mut [u32; LINES],
+            mask: *mut u32,
+        ) -> u32;
+        pub fn fabric_run(
+            board: *const [u32; BOARD],
+            state: *mut [u32; STATE],
+            memory: *mut u8,
+            memory_length: usize,
+            buffer: *mut u8,
+            buffer_length: usize,
+            lines: *mut [u32; LINES],
+            most: u32,
+            clocks: *mut u32,
+            mask: *mut u32,
+        ) -> u32;
+        pub fn bench_clocks(
             text: *const u8,
             text_length: usize,
             memory: *mut u8,
@@ -45,34 +65,114 @@ mod linked {
             clocks: u32,
         ) -> u32;
     }
+}
 
-    #[cfg(bench_read)]
-    pub fn read(text: &[u8], place: u32) -> u32 {
-        // SAFETY: the pointer and the length are those of one slice, which the call only reads.
-        unsafe { bench_read(text.as_ptr(), text.len(), place) }
+/// The traffic of singles made in Rattle, from the board's text on: the sum of the masks.
+pub fn clocks(text: &[u8], memory: &mut [u8], buffer: &mut [u8], clocks: u32) -> u32 {
+    // SAFETY: each pointer and length are those of one slice; memory and buffer are lent for writing.
+    unsafe {
+        linked::bench_clocks(
+            text.as_ptr(),
+            text.len(),
+            memory.as_mut_ptr(),
+            memory.len(),
+            buffer.as_mut_ptr(),
+            buffer.len(),
+            clocks,
+        )
+    }
+}
+
+pub fn read(text: &[u8], board: &mut [u32; BOARD]) -> u32 {
+    // SAFETY: the pointer and the length are those of one slice; the board has its numbers.
+    unsafe { linked::fabric_read(text.as_ptr(), text.len(), board) }
+}
+
+pub fn wait(text: &[u8], master: u32, slave: u32, out: &mut [u8]) -> u32 {
+    let (place, length) = (out.as_mut_ptr(), out.len());
+    // SAFETY: each pointer and length are those of one slice; `out` is lent for writing.
+    unsafe { linked::fabric_wait(text.as_ptr(), text.len(), master, slave, place, length) }
+}
+
+/// What is lent to a clock.
+pub struct Lent<'a> {
+    pub board: &'a [u32; BOARD],
+    pub state: [u32; STATE],
+    pub memory: &'a mut [u8],
+    pub buffer: &'a mut [u8],
+    pub lines: [u32; LINES],
+}
+
+impl Lent<'_> {
+    pub fn reset(&mut self) -> u32 {
+        // SAFETY: board and state have their numbers.
+        unsafe { linked::fabric_reset(self.board, &mut self.state) }
     }
 
-    #[cfg(fabric_wait)]
-    pub fn wait(text: &[u8], master: u32, slave: u32, output: &mut [u8]) -> u32 {
-        let (place, length) = (output.as_mut_ptr(), output.len());
-        // SAFETY: each pointer and length are those of one slice; `output` is lent for writing.
-        unsafe { fabric_wait(text.as_ptr(), text.len(), master, slave, place, length) }
-    }
-
-    #[cfg(bench_clocks)]
-    pub fn clocks(text: &[u8], memory: &mut [u8], buffer: &mut [u8], clocks: u32) -> u32 {
-        // SAFETY: each pointer and length are those of one slice; the last two are lent for
-        // writing and do not overlap.
+    pub fn post(
+        &mut self,
+        master: u32,
+        write: bool,
+        address: u32,
+        lanes: u32,
+        beats: u32,
+        words: &[u8],
+    ) -> u32 {
+        // SAFETY: board and state have their numbers; each pointer and length are those of one slice.
         unsafe {
-            bench_clocks(
-                text.as_ptr(),
-                text.len(),
-                memory.as_mut_ptr(),
-                memory.len(),
-                buffer.as_mut_ptr(),
-                buffer.len(),
-                clocks,
+            linked::fabric_post(
+                self.board,
+                &mut self.state,
+                self.buffer.as_mut_ptr(),
+                self.buffer.len(),
+                master,
+                write as u32,
+                address,
+                lanes,
+                beats,
+                words.as_ptr(),
+                words.len(),
             )
         }
+    }
+
+    /// The number and the mask.
+    pub fn clock(&mut self) -> (u32, u32) {
+        let mut mask = 0;
+        // SAFETY: the arrays have their numbers; each pointer and length are those of one slice.
+        let number = unsafe {
+            linked::fabric_clock(
+                self.board,
+                &mut self.state,
+                self.memory.as_mut_ptr(),
+                self.memory.len(),
+                self.buffer.as_mut_ptr(),
+                self.buffer.len(),
+                &mut self.lines,
+                &mut mask,
+            )
+        };
+        (number, mask)
+    }
+
+    /// The number, the clocks passed and the last one's mask.
+    pub fn run(&mut self, most: u32) -> (u32, u32, u32) {
+        let (mut clocks, mut mask) = (0, 0);
+        // SAFETY: the arrays have their numbers; each pointer and length are those of one slice.
+        let number = unsafe {
+            linked::fabric_run(
+                self.board,
+                &mut self.state,
+                self.memory.as_mut_ptr(),
+                self.memory.len(),
+                self.buffer.as_mut_ptr(),
+                self.buffer.len(),
+                &mut self.lines,
+                most,
+                &mut clocks,
+                &mut mask,
+            )
+        };
+        (number, clocks, mask)
     }
 }

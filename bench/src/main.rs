@@ -19,6 +19,7 @@ use std::io;
 use std::path::PathBuf;
 use std::process::ExitCode;
 use std::time::Instant;
+use traffic::{Library, Model, Pace, Plan};
 
 /// How many places of the stack are tried: a call's time depends on where its locals lie in a
 /// cache line and in a page, which changes from run to run.
@@ -35,7 +36,7 @@ type Work<'a> = &'a mut dyn FnMut(u32);
 
 /// Nanoseconds for one time of the work, by the median of the places.
 struct Measured {
-    library: Option<f64>,
+    library: f64,
     model: f64,
     /// The ratio at the place where the library does worst.
     worst: f64,
@@ -71,16 +72,12 @@ fn median(mut times: Vec<f64>) -> f64 {
     times[times.len() / 2]
 }
 
-fn measure(count: u32, library: Option<Work>, model: Work) -> Measured {
-    let mut nothing = |_| {};
-    let linked = library.is_some();
-    let library = library.unwrap_or(&mut nothing);
+fn measure(count: u32, library: Work, model: Work) -> Measured {
     let places: Vec<(f64, f64)> = (0..PLACES)
         .map(|depth| race(depth, count, library, model))
         .collect();
-    let of_library = median(places.iter().map(|place| place.0).collect());
     Measured {
-        library: linked.then_some(of_library),
+        library: median(places.iter().map(|place| place.0).collect()),
         model: median(places.iter().map(|place| place.1).collect()),
         worst: places
             .iter()
@@ -91,16 +88,13 @@ fn measure(count: u32, library: Option<Work>, model: Work) -> Measured {
 
 /// A line of the report: both sides' figures, and the ratio of the library's time to the model's.
 fn report(name: &str, measured: Measured, figure: fn(f64) -> String) {
-    let model = figure(measured.model);
-    match measured.library {
-        None => println!("{name}: library not built, model {model}"),
-        Some(time) => println!(
-            "{name}: library {}, model {model}, ratio {:.2} (at worst {:.2})",
-            figure(time),
-            time / measured.model,
-            measured.worst
-        ),
-    }
+    println!(
+        "{name}: library {}, model {}, ratio {:.2} (at worst {:.2})",
+        figure(measured.library),
+        figure(measured.model),
+        measured.library / measured.model,
+        measured.worst
+    );
 }
 
 fn microseconds(time: f64) -> String {
@@ -111,40 +105,25 @@ fn clocks_to_a_second(time: f64) -> String {
     format!("{:.0} clocks/s", 1e9 / time)
 }
 
-/// The model's answer to what `bench_read` of the library is asked.
-fn model_read(text: &[u8], place: u32) -> u32 {
-    match description::read(text) {
-        Err(number) => number as u32,
-        Ok(board) => {
-            let place = place as usize;
-            let master = &board.masters[place % 8];
-            let slave = &board.slaves[place % 16];
-            let shares = board.shares[place % 128 / 16][place % 16];
-            shares as u32 ^ master.width as u32 ^ slave.span
-        }
-    }
-}
-
 fn bench_read(text: &[u8]) {
+    let of_model = description::read(text).expect("the largest board is refused");
+    let mut board = [0; library::BOARD];
+    assert_eq!(library::read(text, &mut board), 0);
+    assert_eq!(board, traffic::numbers(&of_model));
     let mut model = |count| {
-        for place in 0..count {
-            black_box(model_read(black_box(text), black_box(place)));
+        for _ in 0..count {
+            let _ = black_box(description::read(black_box(text)));
         }
     };
-    let name = "read largest board";
-    let Some(library) = library::READ else {
-        return report(name, measure(CALLS, None, &mut model), microseconds);
-    };
-    for place in 0..128 {
-        assert_eq!(library(text, place), model_read(text, place));
-    }
     let mut library = |count| {
-        for place in 0..count {
-            black_box(library(black_box(text), black_box(place)));
+        for _ in 0..count {
+            let mut board = [0; library::BOARD];
+            black_box(library::read(black_box(text), &mut board));
+            black_box(&mut board);
         }
     };
-    let measured = measure(CALLS, Some(&mut library), &mut model);
-    report(name, measured, microseconds);
+    let measured = measure(CALLS, &mut library, &mut model);
+    report("read largest board", measured, microseconds);
 }
 
 /// A master and a slave for each call.
@@ -153,6 +132,13 @@ fn pair(call: u32) -> (u32, u32) {
 }
 
 fn bench_wait(text: &[u8]) {
+    for (master, slave) in (0..128).map(pair) {
+        let mut of_model = [0; wait::ANSWER_LENGTH];
+        let mut of_library = [0; wait::ANSWER_LENGTH];
+        let number = wait::wait_call(text, master, slave, &mut of_model) as u32;
+        assert_eq!(library::wait(text, master, slave, &mut of_library), number);
+        assert_eq!(of_library, of_model);
+    }
     let mut answer = [0; wait::ANSWER_LENGTH];
     let mut model = |count| {
         for call in 0..count {
@@ -161,50 +147,80 @@ fn bench_wait(text: &[u8]) {
             black_box(&mut answer);
         }
     };
-    let name = "fabric_wait largest board";
-    let Some(library) = library::WAIT else {
-        return report(name, measure(CALLS, None, &mut model), microseconds);
-    };
-    for (master, slave) in (0..128).map(pair) {
-        let mut of_model = [0; wait::ANSWER_LENGTH];
-        let mut of_library = [0; wait::ANSWER_LENGTH];
-        let number = wait::wait_call(text, master, slave, &mut of_model);
-        assert_eq!(library(text, master, slave, &mut of_library), number as u32);
-        assert_eq!(of_library, of_model);
-    }
     let mut answer = [0; wait::ANSWER_LENGTH];
     let mut library = |count| {
         for call in 0..count {
             let (master, slave) = black_box(pair(call));
-            black_box(library(black_box(text), master, slave, &mut answer));
+            black_box(library::wait(black_box(text), master, slave, &mut answer));
             black_box(&mut answer);
         }
     };
-    let measured = measure(CALLS, Some(&mut library), &mut model);
-    report(name, measured, microseconds);
+    let measured = measure(CALLS, &mut library, &mut model);
+    report("fabric_wait largest board", measured, microseconds);
 }
 
-fn bench_clocks(masters: usize, slaves: usize) {
+/// Memory and buffer of a side.
+fn stores(slaves: usize) -> (Vec<u8>, Vec<u8>) {
+    let memory = (0..slaves * traffic::SPAN).map(|i| i as u8).collect();
+    (memory, vec![0; fabric::BUFFER_LENGTH])
+}
+
+/// A traffic on a board, in clocks with their posts. The board is read once, before; each round starts with a reset, so that all
+/// rounds are alike.
+fn bench_traffic(masters: usize, slaves: usize, plan: Plan) {
+    let text = traffic::board_text(masters, slaves);
+    let board = &description::read(text.as_bytes()).expect("the traffic's board is refused");
+    let mut numbers = [0; library::BOARD];
+    assert_eq!(library::read(text.as_bytes(), &mut numbers), 0);
+    let (mut memory, mut buffer) = stores(slaves);
+    let mut of_library = |clocks, look| {
+        let mut side = Library::start(&numbers, &mut memory, &mut buffer);
+        traffic::run(black_box(&mut side), board, plan, clocks, look)
+    };
+    let (mut memory, mut buffer) = stores(slaves);
+    let mut of_model = |clocks, look| {
+        let mut side = Model::start(board, &mut memory, &mut buffer, look);
+        traffic::run(black_box(&mut side), board, plan, clocks, look)
+    };
+    let sums = of_library(1000, true);
+    assert_eq!(sums, of_model(1000, true));
+    assert_eq!((sums.refused, sums.clocks), (0, 1000));
+    let mut library = |count| {
+        black_box(of_library(count, false));
+    };
+    let mut model = |count| {
+        black_box(of_model(count, false));
+    };
+    let measured = measure(CLOCKS, &mut library, &mut model);
+    let name = format!("{} {masters} x {slaves}{}", plan.call(), plan.kind());
+    report(&name, measured, clocks_to_a_second);
+}
+
+/// Singles whose traffic is made in Rattle, so that the calls can be inlined in it. Both sides read the board in each round.
+fn bench_rattle(masters: usize, slaves: usize) {
     let text = traffic::board_text(masters, slaves);
     let text = text.as_bytes();
-    let total = slaves * traffic::SPAN;
-    let mut memory = vec![0; total];
-    let mut buffer = [0; fabric::BUFFER_LENGTH];
-    let sum = traffic::run(text, &mut memory, &mut buffer, 1000);
-    let mut model = |count| {
-        black_box(traffic::run(text, &mut memory, &mut buffer, count));
+    let plan = Plan {
+        pace: Pace::Clock,
+        beats: 1,
     };
-    let name = format!("clock {masters} x {slaves}");
-    let Some(library) = library::CLOCKS else {
-        return report(&name, measure(CLOCKS, None, &mut model), clocks_to_a_second);
+    let (mut memory, mut buffer) = stores(slaves);
+    let mut of_library = |clocks| library::clocks(text, &mut memory, &mut buffer, clocks);
+    let (mut memory, mut buffer) = stores(slaves);
+    let mut of_model = |clocks| {
+        let board = &description::read(text).expect("the traffic's board is refused");
+        let mut side = Model::start(board, &mut memory, &mut buffer, false);
+        traffic::run(black_box(&mut side), board, plan, clocks, false).masks
     };
-    let mut memory = vec![0; total];
-    let mut buffer = [0; fabric::BUFFER_LENGTH];
-    assert_eq!(library(text, &mut memory, &mut buffer, 1000), sum);
+    assert_eq!(of_library(1000), of_model(1000));
     let mut library = |count| {
-        black_box(library(text, &mut memory, &mut buffer, count));
+        black_box(of_library(count));
     };
-    let measured = measure(CLOCKS, Some(&mut library), &mut model);
+    let mut model = |count| {
+        black_box(of_model(count));
+    };
+    let measured = measure(CLOCKS, &mut library, &mut model);
+    let name = format!("clock {masters} x {slaves} from Rattle, with the reading");
     report(&name, measured, clocks_to_a_second);
 }
 
@@ -213,8 +229,15 @@ fn run() -> io::Result<()> {
     let text = fs::read(folder.join("largest.txt"))?;
     bench_read(&text);
     bench_wait(&text);
+    for pace in [Pace::Clock, Pace::Run] {
+        for beats in [1, 8] {
+            for (masters, slaves) in [(2, 1), (8, 4), (8, 16)] {
+                bench_traffic(masters, slaves, Plan { pace, beats });
+            }
+        }
+    }
     for (masters, slaves) in [(2, 1), (8, 4), (8, 16)] {
-        bench_clocks(masters, slaves);
+        bench_rattle(masters, slaves);
     }
     Ok(())
 }

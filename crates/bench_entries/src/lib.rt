@@ -1,26 +1,10 @@
-// What the benchmark calls of the library, by C's conventions.
-use board::Board;
+// What the benchmark calls of the library beside the calls for C: traffic made in Rattle, so that the calls can be inlined.
 use board::Master;
 use board::Slave;
-use state::State;
 ghost use Prim.Native.Nat.{_<_};
 
-// Reads a text and answers its number with one entry of each part of the board: which entries is known only at the call, so
-// that no part of the reading can be left out.
-#[no_mangle]
-pub extern "C" fn bench_read(text: &[u8], place: u32) -> u32 {
-    let parsed = description::read(text);
-    let number = parsed.number as u32;
-    let board = parsed.board;
-    let master = board.masters[(place % 8) as usize];
-    let slave = board.slaves[(place % 16) as usize];
-    let shares = board.shares[(place % 128) as usize];
-    let of_pair = shares as u32 ^ master.width as u32 ^ slave.span;
-    number ^ of_pair
-}
-
 // All lanes of a legal width.
-fn all_lanes(width: u8) -> u8 {
+fn all_lanes(width: u32) -> u32 {
     match width {
         1 => 1,
         2 => 3,
@@ -30,7 +14,7 @@ fn all_lanes(width: u8) -> u8 {
 }
 
 // The slave that transfer number `index` of master m is for: the slaves in turn.
-fn slave_in_turn(count: u8, m: u8, index: u32) -> usize
+fn slave_in_turn(count: u32, m: u32, index: u32) -> usize
     ensures { λ r. ⌜ r < 16 ⌝ }
 {
     if count == 0 {
@@ -43,7 +27,7 @@ fn slave_in_turn(count: u8, m: u8, index: u32) -> usize
 pub struct Next {
     pub write: bool,
     pub address: u32,
-    pub lanes: u8,
+    pub lanes: u32,
     pub length: usize,
 }
 
@@ -63,42 +47,68 @@ fn next_transfer(ma: Master, sl: Slave, index: u32) -> Next
     }
 }
 
-// Runs clocks, every master posting again as soon as it is idle; the sum of the masks. One loop over the masters and then the
-// clock: post and clock stand at one place each, where the compiler puts their code, and no other function is handed the board
-// or the state, so that the traffic costs little beside them.
-fn run(b: Board, mut state: State, memory: &mut [u8], buffer: &mut [u8], mut clocks: u32) -> u32 {
+// Posts transfer number `index` of master m.
+fn post_next(board: &[u32; 242], state: &mut [u32; 120], buffer: &mut [u8], m: u32, index: u32)
+    requires { ⌜ m < 8 ⌝ }
+{
     let words = [0u8; 8];
+    let count = board_layout::slave_count(board);
+    let sl = board_layout::slave_at(board, slave_in_turn(count, m, index));
+    let ma = board_layout::master_at(board, m as usize);
+    let next = next_transfer(ma, sl, index);
+    let n = next.length;
+    fabric::post(
+        board,
+        state,
+        buffer,
+        m,
+        next.write,
+        next.address,
+        next.lanes,
+        1,
+        &words[..n],
+    );
+}
+
+// Posts the next transfer of master m where it is idle.
+fn post_idle(
+    board: &[u32; 242],
+    state: &mut [u32; 120],
+    buffer: &mut [u8],
+    posted: &mut [u32; 8],
+    m: u32,
+    idle: u32,
+)
+    requires { ⌜ m < 8 ⌝ }
+{
+    if (idle >> m) % 2 == 1 {
+        let index = posted[m as usize];
+        post_next(board, state, buffer, m, index);
+        posted[m as usize] = std::num::wrapping_add_u32(index, 1);
+    }
+}
+
+// Runs clocks, every master posting again as soon as it is idle; the sum of the masks.
+fn run(
+    board: &[u32; 242],
+    state: &mut [u32; 120],
+    memory: &mut [u8],
+    buffer: &mut [u8],
+    mut clocks: u32,
+) -> u32 {
+    let mut lines = [0u32; 96];
     let mut posted = [0u32; 8];
-    let mut idle: u8 = 255;
+    let mut idle: u32 = 255;
     let mut sum: u32 = 0;
-    let mut m: u8 = 0;
+    let mut m: u32 = 0;
     while 0 < clocks {
-        if m < b.master_count % 9 {
-            if (idle >> m) % 2 == 1 {
-                let index = posted[m as usize];
-                let sl = b.slaves[slave_in_turn(b.slave_count, m, index)];
-                let next = next_transfer(b.masters[m as usize], sl, index);
-                let n = next.length;
-                let answer = fabric::post(
-                    b,
-                    state,
-                    buffer,
-                    m as u32,
-                    next.write,
-                    next.address,
-                    next.lanes,
-                    1,
-                    &words[..n],
-                );
-                state = answer.state;
-                posted[m as usize] = std::num::wrapping_add_u32(index, 1);
-            }
+        if m < board_layout::master_count(board) % 9 {
+            post_idle(board, &mut *state, &mut *buffer, &mut posted, m, idle);
             m += 1;
         } else {
-            let answer = fabric::clock(b, state, memory, buffer);
-            state = answer.state;
+            let answer = fabric::clock(board, &mut *state, &mut *memory, &mut *buffer, &mut lines);
             idle = answer.mask;
-            sum = std::num::wrapping_add_u32(sum, idle as u32);
+            sum = std::num::wrapping_add_u32(sum, idle);
             clocks -= 1;
             m = 0;
         }
@@ -114,9 +124,9 @@ pub extern "C" fn bench_clocks(
     buffer: &mut [u8],
     clocks: u32,
 ) -> u32 {
-    let parsed = description::read(text);
-    let board = parsed.board;
-    let started = fabric::reset(board);
-    let state = started.state;
-    run(board, state, memory, buffer, clocks)
+    let mut board = [0u32; 242];
+    let mut state = [0u32; 120];
+    description::read(text, &mut board);
+    fabric::reset(&board, &mut state);
+    run(&board, &mut state, memory, buffer, clocks)
 }
