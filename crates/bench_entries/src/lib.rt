@@ -1,6 +1,6 @@
 // What the benchmark calls of the library beside the calls for C: traffic made in Rattle, so that the calls can be inlined.
-use board::Master;
-use board::Slave;
+use description_board::Master;
+use description_board::Slave;
 ghost use Prim.Native.Nat.{_<_};
 
 // All lanes of a legal width.
@@ -52,9 +52,9 @@ fn post_next(board: &[u32; 242], state: &mut [u32; 120], buffer: &mut [u8], m: u
     requires { ⌜ m < 8 ⌝ }
 {
     let words = [0u8; 8];
-    let count = board_layout::slave_count(board);
-    let sl = board_layout::slave_at(board, slave_in_turn(count, m, index));
-    let ma = board_layout::master_at(board, m as usize);
+    let count = description_layout::slave_count(board);
+    let sl = description_layout::slave_at(board, slave_in_turn(count, m, index));
+    let ma = description_layout::master_at(board, m as usize);
     let next = next_transfer(ma, sl, index);
     let n = next.length;
     fabric::post(
@@ -102,7 +102,7 @@ fn run(
     let mut sum: u32 = 0;
     let mut m: u32 = 0;
     while 0 < clocks {
-        if m < board_layout::master_count(board) % 9 {
+        if m < description_layout::master_count(board) % 9 {
             post_idle(board, &mut *state, &mut *buffer, &mut posted, m, idle);
             m += 1;
         } else {

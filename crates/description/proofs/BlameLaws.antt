@@ -6,16 +6,16 @@ use Prim.Native.Nat.{ℕ, _+_, _≤_, _<_}
 use native.Mathlib.Omega.{arith}
 use lib.ListN.{length, drop, drop-of-length-le}
 use borrow.Author.Tests.{lt-ltb, le-ltb, eq-eqb, ne-eqb}
-use Rattle.text.specs.Fields.{split}
-use Rattle.board.specs.declared.Item.{Item}
-use Rattle.board.specs.declared.Item.the-variants.{Malformed}
-use Rattle.board.specs.declared.Reading.{Reading}
-use Rattle.board.specs.Rules.{refused, start, step, run, finish, described}
-use Rattle.board.proofs.RunLaws.{run-stays, finish-stays}
-use Rattle.board_layout.specs.Layout.{boardIn}
-use Rattle.readings.specs.declared.Progress.{Progress}
-use Rattle.readings.specs.Readings.{readingOf}
-use Rattle.lines.specs.Reader.{itemsOf, itemsOfPieces, unended, LineFrom}
+use Rattle.common_text.specs.Fields.{split}
+use Rattle.description_board.specs.declared.Item.{Item}
+use Rattle.description_board.specs.declared.Item.the-variants.{Malformed}
+use Rattle.description_board.specs.declared.Reading.{Reading}
+use Rattle.description_board.specs.Rules.{refused, start, step, run, finish, described}
+use Rattle.description_board.proofs.RunLaws.{run-stays, finish-stays}
+use Rattle.description_layout.specs.Layout.{boardIn}
+use Rattle.description_rules.specs.declared.Progress.{Progress}
+use Rattle.description_rules.specs.Readings.{readingOf}
+use Rattle.description_lines.specs.Reader.{itemsOf, itemsOfPieces, unended, LineFrom}
 use Rattle.description.specs.Reader.{mostBytes, reading, readText}
 use Rattle.description.specs.declared.Refusal.{Refusal}
 use Rattle.description.specs.Blame.{firstRefused, chargedLine, refusalOf}

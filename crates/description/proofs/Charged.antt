@@ -8,11 +8,11 @@ use native.Mathlib.Omega.{arith}
 use lib.Dec.{eqb, ltb}
 use lib.ListN.{length, take}
 use borrow.Author.Tests.{eqb-true, eqb-false, ltb-false}
-use Rattle.board.specs.declared.Item.{Item}
-use Rattle.board.specs.declared.Reading.{Reading}
-use Rattle.board.specs.Rules.{refused, start, step, run, finish, described}
-use Rattle.board.proofs.RunLaws.{run-stays, finish-stays}
-use Rattle.lines.specs.Reader.{itemsOf}
+use Rattle.description_board.specs.declared.Item.{Item}
+use Rattle.description_board.specs.declared.Reading.{Reading}
+use Rattle.description_board.specs.Rules.{refused, start, step, run, finish, described}
+use Rattle.description_board.proofs.RunLaws.{run-stays, finish-stays}
+use Rattle.description_lines.specs.Reader.{itemsOf}
 use Rattle.description.specs.Reader.{mostBytes, reading, readText}
 use Rattle.description.specs.Blame.{firstRefused, chargedLine, refusalOf}
 use Rattle.description.proofs.BlameLaws.{first-taken, first-refused}

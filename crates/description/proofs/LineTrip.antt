@@ -9,23 +9,23 @@ use native.Mathlib.Omega.{arith}
 use lib.Dec.{eqb}
 use lib.ListN.{length, getD, length-append}
 use borrow.Author.Tests.{eqb-true, eqb-false}
-use Rattle.laws.specs.Bytes.{bytesOf}
-use Rattle.laws.specs.Lists.{member, same, gather, table}
-use Rattle.text.specs.Digits.{digits, fieldsText, lineText}
-use Rattle.text.specs.Fields.{comma, lineFeed, split}
-use Rattle.text.proofs.Decimal.{digits-most, line-length}
-use Rattle.text.proofs.Round.{Short, split-fields, split-line, numbers-digits}
-use Rattle.board.specs.declared.Board.{Board}
-use Rattle.board.specs.declared.Item.{Item}
-use Rattle.board.specs.declared.Item.the-variants.{Malformed, MasterLine, SlaveLine, ShareLine}
-use Rattle.board.specs.Records.{masterAt, slaveAt}
-use Rattle.board.specs.Items.{masterItem, slaveNumbers, slaveItem, shareItem, items}
-use Rattle.board.specs.Legal.{Legal}
-use Rattle.board.proofs.RuleLaws.{width-bound, burst-bound, span-bound}
-use Rattle.lines.specs.Reader.{masterWord, slaveWord, shareWord, masterLine, slaveLine, shareLine}
-use Rattle.lines.specs.Reader.{itemOf, itemOfFields, itemsOf, itemsOfPieces, unended}
-use Rattle.lines.specs.Writer.{slaveFields, itemText, itemsText}
-use Rattle.lines.proofs.ReadLaws.{items-more}
+use Rattle.common_laws.specs.Bytes.{bytesOf}
+use Rattle.common_laws.specs.Lists.{member, same, gather, table}
+use Rattle.common_text.specs.Digits.{digits, fieldsText, lineText}
+use Rattle.common_text.specs.Fields.{comma, lineFeed, split}
+use Rattle.common_text.proofs.Decimal.{digits-most, line-length}
+use Rattle.common_text.proofs.Round.{Short, split-fields, split-line, numbers-digits}
+use Rattle.description_board.specs.declared.Board.{Board}
+use Rattle.description_board.specs.declared.Item.{Item}
+use Rattle.description_board.specs.declared.Item.the-variants.{Malformed, MasterLine, SlaveLine, ShareLine}
+use Rattle.description_board.specs.Records.{masterAt, slaveAt}
+use Rattle.description_board.specs.Items.{masterItem, slaveNumbers, slaveItem, shareItem, items}
+use Rattle.description_board.specs.Legal.{Legal}
+use Rattle.description_board.proofs.RuleLaws.{width-bound, burst-bound, span-bound}
+use Rattle.description_lines.specs.Reader.{masterWord, slaveWord, shareWord, masterLine, slaveLine, shareLine}
+use Rattle.description_lines.specs.Reader.{itemOf, itemOfFields, itemsOf, itemsOfPieces, unended}
+use Rattle.description_lines.specs.Writer.{slaveFields, itemText, itemsText}
+use Rattle.description_lines.proofs.ReadLaws.{items-more}
 use Rattle.description.specs.Writer.{writeText}
 use Rattle.description.specs.Longest.{longest}
 use Rattle.description.proofs.WriteLaws.{gather-most, lines-most, length-parts, pair-none, pair-some}

@@ -5,9 +5,9 @@ use mathlib.Core.Path.{_≡_}
 use Prim.Native.Nat.{ℕ, _≤_, _<_}
 use lib.ListN.{length}
 use borrow.Author.Tests.{lt-ltb, le-ltb}
-use Rattle.board.specs.declared.Item.the-variants.{Malformed}
-use Rattle.board.specs.Rules.{itemRefusal, refused, start, step, described}
-use Rattle.lines.specs.Reader.{itemsOf}
+use Rattle.description_board.specs.declared.Item.the-variants.{Malformed}
+use Rattle.description_board.specs.Rules.{itemRefusal, refused, start, step, described}
+use Rattle.description_lines.specs.Reader.{itemsOf}
 use Rattle.description.specs.Reader.{mostBytes, reading}
 
 -- the length goes first

@@ -9,16 +9,16 @@ use native.Mathlib.Omega.{arith}
 use lib.Dec.{ltb, eqb}
 use lib.ListN.{length}
 use borrow.Author.Tests.{le-ltb, eqb-true}
-use Rattle.board.specs.declared.Board.{Board}
-use Rattle.board.specs.declared.Reading.{Reading}
-use Rattle.board.specs.Rules.{described, refused}
-use Rattle.board.specs.Items.{items, checkBoard}
-use Rattle.board.specs.Legal.{Legal}
-use Rattle.board.specs.Rebuilt.{trimmed}
-use Rattle.board.proofs.Accepted.{accepted-legal}
-use Rattle.board.proofs.Rebuilt.{rebuilt, items-trimmed, described-accepted, described-trimmed}
-use Rattle.lines.specs.Reader.{itemsOf}
-use Rattle.lines.specs.Writer.{itemsText}
+use Rattle.description_board.specs.declared.Board.{Board}
+use Rattle.description_board.specs.declared.Reading.{Reading}
+use Rattle.description_board.specs.Rules.{described, refused}
+use Rattle.description_board.specs.Items.{items, checkBoard}
+use Rattle.description_board.specs.Legal.{Legal}
+use Rattle.description_board.specs.Rebuilt.{trimmed}
+use Rattle.description_board.proofs.Accepted.{accepted-legal}
+use Rattle.description_board.proofs.Rebuilt.{rebuilt, items-trimmed, described-accepted, described-trimmed}
+use Rattle.description_lines.specs.Reader.{itemsOf}
+use Rattle.description_lines.specs.Writer.{itemsText}
 use Rattle.description.specs.declared.Parsed.{Parsed}
 use Rattle.description.specs.Reader.{mostBytes, reading, readText}
 use Rattle.description.specs.Writer.{writeText, writeRefusal}

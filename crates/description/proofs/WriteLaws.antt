@@ -7,19 +7,19 @@ use native.Mathlib.Nat.{mul-suc}
 use native.Mathlib.Omega.{arith}
 use lib.ListN.{length, getD, length-append}
 use borrow.Author.Tests.{lt-ltb, le-ltb, eq-eqb, ne-eqb}
-use Rattle.laws.specs.Lists.{gather, table}
-use Rattle.laws.proofs.TableLaws.{below-suc}
-use Rattle.text.specs.Scanning.{Put}
-use Rattle.text.proofs.Puts.{put-then, put-front}
-use Rattle.board.specs.declared.Board.{Board}
-use Rattle.board.specs.declared.Item.{Item}
-use Rattle.board.specs.declared.Item.the-variants.{Malformed, MasterLine, SlaveLine, ShareLine}
-use Rattle.board.specs.Items.{masterItem, slaveItem, shareItem, items, checkBoard}
-use Rattle.board.proofs.Accepted.{accepted-legal}
-use Rattle.board_check.specs.Lines.{placeCount, lineAt, present, linesTo}
-use Rattle.board_check.proofs.LineLaws.{lines-all, lines-next}
-use Rattle.lines.specs.Writer.{itemText, itemsText}
-use Rattle.lines.proofs.WriteLaws.{item-fits, text-append, text-one, length-text}
+use Rattle.common_laws.specs.Lists.{gather, table}
+use Rattle.common_laws.proofs.TableLaws.{below-suc}
+use Rattle.common_text.specs.Scanning.{Put}
+use Rattle.common_text.proofs.Puts.{put-then, put-front}
+use Rattle.description_board.specs.declared.Board.{Board}
+use Rattle.description_board.specs.declared.Item.{Item}
+use Rattle.description_board.specs.declared.Item.the-variants.{Malformed, MasterLine, SlaveLine, ShareLine}
+use Rattle.description_board.specs.Items.{masterItem, slaveItem, shareItem, items, checkBoard}
+use Rattle.description_board.proofs.Accepted.{accepted-legal}
+use Rattle.description_check.specs.Lines.{placeCount, lineAt, present, linesTo}
+use Rattle.description_check.proofs.LineLaws.{lines-all, lines-next}
+use Rattle.description_lines.specs.Writer.{itemText, itemsText}
+use Rattle.description_lines.proofs.WriteLaws.{item-fits, text-append, text-one, length-text}
 use Rattle.description.specs.Writer.{writeText, writeRefusal, written, outputAfter}
 use Rattle.description.specs.declared.Written.{Written}
 

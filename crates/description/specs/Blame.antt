@@ -5,10 +5,10 @@ use mathlib.Core.List.{List, [], _∷_}
 use Prim.Native.Nat.{ℕ, _+_}
 use lib.Dec.{ltb, eqb}
 use lib.ListN.{length}
-use Rattle.board.specs.declared.Item.{Item}
-use Rattle.board.specs.declared.Reading.{Reading}
-use Rattle.board.specs.Rules.{start, step}
-use Rattle.lines.specs.Reader.{itemsOf}
+use Rattle.description_board.specs.declared.Item.{Item}
+use Rattle.description_board.specs.declared.Reading.{Reading}
+use Rattle.description_board.specs.Rules.{start, step}
+use Rattle.description_lines.specs.Reader.{itemsOf}
 use Rattle.description.specs.Reader.{mostBytes, readText}
 use Rattle.description.specs.declared.Refusal.{Refusal}
 

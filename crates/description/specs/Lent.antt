@@ -3,11 +3,11 @@
 use mathlib.Core.Path.{_≡_}
 use mathlib.Core.List.{List}
 use Prim.Native.Nat.{ℕ}
-use Rattle.board.specs.declared.Reading.{Reading}
-use Rattle.board.specs.Rules.{described, start}
-use Rattle.board.specs.Items.{checkBoard}
-use Rattle.board_layout.specs.Layout.{boardIn}
-use Rattle.lines.specs.Reader.{itemsOf}
+use Rattle.description_board.specs.declared.Reading.{Reading}
+use Rattle.description_board.specs.Rules.{described, start}
+use Rattle.description_board.specs.Items.{checkBoard}
+use Rattle.description_layout.specs.Layout.{boardIn}
+use Rattle.description_lines.specs.Reader.{itemsOf}
 use Rattle.description.specs.declared.Refusal.{Refusal}
 use Rattle.description.specs.Reader.{readText}
 use Rattle.description.specs.Blame.{firstRefused}

@@ -5,9 +5,9 @@ use mathlib.Core.List.{List}
 use Prim.Native.Nat.{ℕ}
 use lib.Dec.{ltb}
 use lib.ListN.{length}
-use Rattle.board.specs.declared.Reading.{Reading}
-use Rattle.board.specs.Rules.{described, refused}
-use Rattle.lines.specs.Reader.{itemsOf}
+use Rattle.description_board.specs.declared.Reading.{Reading}
+use Rattle.description_board.specs.Rules.{described, refused}
+use Rattle.description_lines.specs.Reader.{itemsOf}
 use Rattle.description.specs.declared.Parsed.{Parsed}
 
 -- "Text, at most 8,192 bytes"

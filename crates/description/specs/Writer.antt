@@ -5,9 +5,9 @@ use mathlib.Core.List.{List, _++_}
 use Prim.Native.Nat.{ℕ}
 use lib.Dec.{ltb, eqb}
 use lib.ListN.{length, drop}
-use Rattle.board.specs.declared.Board.{Board}
-use Rattle.board.specs.Items.{items, checkBoard}
-use Rattle.lines.specs.Writer.{itemsText}
+use Rattle.description_board.specs.declared.Board.{Board}
+use Rattle.description_board.specs.Items.{items, checkBoard}
+use Rattle.description_lines.specs.Writer.{itemsText}
 use Rattle.description.specs.declared.Written.{Written}
 
 -- the writer's lines for a board

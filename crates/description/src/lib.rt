@@ -2,14 +2,14 @@
 ghost use mathlib.Core.Path.{_≡_};
 ghost use Prim.Native.Nat.{_≤_};
 ghost use lib.ListN.{length, replicate};
-ghost use Rattle.text.specs.Scanning.{Put};
-ghost use Rattle.board_layout.specs.Layout.{boardIn};
+ghost use Rattle.common_text.specs.Scanning.{Put};
+ghost use Rattle.description_layout.specs.Layout.{boardIn};
 ghost use Rattle.description.specs.Reader.{reading};
 ghost use Rattle.description.specs.Blame.{chargedLine, refusalOf};
 ghost use Rattle.description.specs.Lent.{Comes, LinesCome, refusalIn, Read};
 ghost use Rattle.description.specs.Writer.{writeText, written, outputAfter};
-use board::Board;
-use board::Item;
+use description_board::Board;
+use description_board::Item;
 
 // No accepted board's text has more bytes: 8 master lines of at most 12, 16 slave lines of 36, 128 share lines of 15.
 pub const LONGEST: usize = 8 * 12 + 16 * 36 + 128 * 15;
@@ -38,14 +38,14 @@ fn read_lines(text: &[u8], board: &mut [u32; 242]) -> Refusal
     requires { ⌜ now board ≡ replicate 242 0 ⌝ }
     ensures { λ r. ⌜ LinesCome (now (text .entry)) (now (board .exit)) r ⌝ }
 {
-    let mut p = readings::first_progress();
+    let mut p = description_rules::first_progress();
     let mut line: usize = 0;
     let mut at: usize = 0;
     while at < text.len() {
-        let found = lines::line_from(text, at);
+        let found = description_lines::line_from(text, at);
         let item = found.item;
         line += 1;
-        p = readings::add_item(board, p, item);
+        p = description_rules::add_item(board, p, item);
         if p.number != 0 {
             return Refusal {
                 number: p.number,
@@ -54,7 +54,7 @@ fn read_lines(text: &[u8], board: &mut [u32; 242]) -> Refusal
         }
         at = found.next;
     }
-    let last = readings::finished(board, p);
+    let last = description_rules::finished(board, p);
     Refusal {
         number: last.number,
         line: 0,
@@ -69,7 +69,11 @@ fn read_bounded(text: &[u8], board: &mut [u32; 242]) -> Refusal
     if text.len() <= 8192 {
         return read_lines(text, board);
     }
-    let p = readings::add_item(board, readings::first_progress(), Item::Malformed);
+    let p = description_rules::add_item(
+        board,
+        description_rules::first_progress(),
+        Item::Malformed,
+    );
     Refusal {
         number: p.number,
         line: 0,
@@ -85,7 +89,7 @@ pub fn read(text: &[u8], board: &mut [u32; 242]) -> u32
     if outcome.number != 0 {
         return outcome.number;
     }
-    board_layout::copy(board, &own);
+    description_layout::copy(board, &own);
     0
 }
 
@@ -102,12 +106,12 @@ fn put_board(out: &mut [u8], board: &[u32; 242]) -> usize
     requires { ⌜ length (writeText (boardIn (now board))) ≤ length (now out) ⌝ }
     ensures { λ r. ⌜ Put (now (out .entry)) 0 (writeText (boardIn (now (board .entry)))) (now (out .exit)) r ⌝ }
 {
-    let n = board_check::places(board);
+    let n = description_check::places(board);
     let mut next: usize = 0;
     let mut k: usize = 0;
     while k < n {
-        let item = board_check::line_at(board, k);
-        next = lines::put_item(&mut *out, next, item);
+        let item = description_check::line_at(board, k);
+        next = description_lines::put_item(&mut *out, next, item);
         k += 1;
     }
     next
@@ -118,12 +122,12 @@ fn board_length(board: &[u32; 242]) -> usize
     requires { ⌜ refusalIn (now board) ≡ 0 ⌝ }
     ensures { λ r. ⌜ r ≡ length (writeText (boardIn (now (board .entry)))) ⌝ }
 {
-    let n = board_check::places(board);
+    let n = description_check::places(board);
     let mut sum: usize = 0;
     let mut k: usize = 0;
     while k < n {
-        let item = board_check::line_at(board, k);
-        sum += lines::item_length(item);
+        let item = description_check::line_at(board, k);
+        sum += description_lines::item_length(item);
         k += 1;
     }
     sum
@@ -136,7 +140,7 @@ pub fn write(board: &[u32; 242], out: &mut [u8]) -> Written
     ensures output { λ r. ⌜ now (out .exit) ≡ outputAfter (boardIn (now (board .entry))) (now (out .entry)) ⌝ }
     ensures room { λ r. do ⌜ ((← ⟦LONGEST⟧ .entry) ≤ length (now (out .entry)) → r .number ≡ refusalIn (now (board .entry))) ⌝ }
 {
-    let number = board_check::refusal(board);
+    let number = description_check::refusal(board);
     if number != 0 {
         return Written {
             number: number,

@@ -7,16 +7,16 @@ use Prim.Native.Nat.{ℕ}
 use lib.Dec.{eqb}
 use lib.ListN.{length, replicate}
 use borrow.Author.Tests.{eq-eqb, ne-eqb, eqb-true, not-false}
-use Rattle.laws.proofs.Tests.{neither, passed}
-use Rattle.board.specs.declared.Board.{Board}
-use Rattle.board.specs.Records.{memoryLength}
-use Rattle.board.specs.Items.{checkBoard}
-use Rattle.moves.specs.Bytes.{Store, bufferLength}
-use Rattle.state.specs.declared.State.{State}
-use Rattle.state.specs.Records.{noLine}
-use Rattle.state.specs.Soundness.{sound}
-use Rattle.state_layout.specs.Layout.{stateIn, linesIn}
-use Rattle.cycles.specs.Cycles.{Clocks as Cycled}
+use Rattle.common_laws.proofs.Tests.{neither, passed}
+use Rattle.description_board.specs.declared.Board.{Board}
+use Rattle.description_board.specs.Records.{memoryLength}
+use Rattle.description_board.specs.Items.{checkBoard}
+use Rattle.fabric_bytes.specs.Bytes.{Store, bufferLength}
+use Rattle.fabric_state.specs.declared.State.{State}
+use Rattle.fabric_state.specs.Records.{noLine}
+use Rattle.fabric_state.specs.Soundness.{sound}
+use Rattle.fabric_layout.specs.Layout.{stateIn, linesIn}
+use Rattle.fabric_cycle.specs.Cycles.{Clocks as Cycled}
 use Rattle.fabric.specs.Calls.{clockRefusal, clock, storeAfterClock}
 use Rattle.fabric.specs.Requests.{clockRefusalBy}
 use Rattle.fabric.specs.Lent.{Clocks}

@@ -6,18 +6,18 @@ use Prim.Native.Nat.{ℕ, _+_, _-_, _≤_, _<_}
 use native.Mathlib.Omega.{arith}
 use lib.ListN.{length, replicate}
 use borrow.Author.Tests.{ne-eqb}
-use Rattle.laws.specs.Lists.{table}
-use Rattle.board.specs.declared.Board.{Board}
-use Rattle.board.specs.Records.{memoryLength}
-use Rattle.moves.specs.Bytes.{Store, bufferLength}
-use Rattle.state.specs.declared.State.{State}
-use Rattle.state.specs.declared.Line.{Line}
-use Rattle.state.specs.Records.{noLine}
-use Rattle.state_layout.specs.Layout.{stateIn, linesIn}
-use Rattle.state_layout.proofs.StateLaws.{transfers-length, slots-length}
-use Rattle.transfers.specs.Targets.{targetsIn, requestMask}
-use Rattle.cycles.specs.Cycles.{Runs as Accepts, Clocks as Cycled}
-use Rattle.cycles.proofs.AgainLaws.{same-requests}
+use Rattle.common_laws.specs.Lists.{table}
+use Rattle.description_board.specs.declared.Board.{Board}
+use Rattle.description_board.specs.Records.{memoryLength}
+use Rattle.fabric_bytes.specs.Bytes.{Store, bufferLength}
+use Rattle.fabric_state.specs.declared.State.{State}
+use Rattle.fabric_state.specs.declared.Line.{Line}
+use Rattle.fabric_state.specs.Records.{noLine}
+use Rattle.fabric_layout.specs.Layout.{stateIn, linesIn}
+use Rattle.fabric_layout.proofs.StateLaws.{transfers-length, slots-length}
+use Rattle.fabric_check.specs.Targets.{targetsIn, requestMask}
+use Rattle.fabric_cycle.specs.Cycles.{Runs as Accepts, Clocks as Cycled}
+use Rattle.fabric_cycle.proofs.AgainLaws.{same-requests}
 use Rattle.fabric.specs.Calls.{clockRefusal}
 use Rattle.fabric.specs.Running.{Run, standing, clockOn, run}
 use Rattle.fabric.specs.Lent.{Runs}

@@ -8,24 +8,24 @@ use Prim.Native.Nat.{ℕ, _*_, _≤_, _<_}
 use native.Mathlib.Omega.{arith}
 use lib.Dec.{leb, eqb}
 use borrow.Author.Tests.{leb-false, lt-leb, eq-eqb, ne-eqb, eqb-true, eqb-false, not-false}
-use Rattle.laws.proofs.Arithmetic.{product-le}
-use Rattle.laws.proofs.ListLaws.{member-within}
-use Rattle.laws.proofs.Tests.{passed}
-use Rattle.board.specs.declared.Master.{Master}
-use Rattle.board.specs.declared.Board.{Board}
-use Rattle.board.specs.Records.{masterAt, slaveAt}
-use Rattle.board.specs.Rules.{widths, bursts}
-use Rattle.board.specs.Items.{checkBoard}
-use Rattle.board.proofs.Accepted.{accepted-legal}
-use Rattle.geometry.specs.declared.Transfer.{Transfer}
-use Rattle.geometry.specs.Decoding.{targetOf}
-use Rattle.moves.specs.Bytes.{bufferLength, posted}
-use Rattle.state.specs.declared.State.{State}
-use Rattle.state.specs.Records.{transferAt}
-use Rattle.state.specs.Posting.{Request, transferOf, wrongBeats, unaligned, wrongLanes, unmapped, passesEnd, refusalAt, transferRefusal, stateWith}
-use Rattle.state.specs.Soundness.{sound}
-use Rattle.state.proofs.DecodeLaws.{accepted}
-use Rattle.state_layout.specs.Layout.{stateIn}
+use Rattle.common_laws.proofs.Arithmetic.{product-le}
+use Rattle.common_laws.proofs.ListLaws.{member-within}
+use Rattle.common_laws.proofs.Tests.{passed}
+use Rattle.description_board.specs.declared.Master.{Master}
+use Rattle.description_board.specs.declared.Board.{Board}
+use Rattle.description_board.specs.Records.{masterAt, slaveAt}
+use Rattle.description_board.specs.Rules.{widths, bursts}
+use Rattle.description_board.specs.Items.{checkBoard}
+use Rattle.description_board.proofs.Accepted.{accepted-legal}
+use Rattle.fabric_accesses.specs.declared.Transfer.{Transfer}
+use Rattle.fabric_accesses.specs.Decoding.{targetOf}
+use Rattle.fabric_bytes.specs.Bytes.{bufferLength, posted}
+use Rattle.fabric_state.specs.declared.State.{State}
+use Rattle.fabric_state.specs.Records.{transferAt}
+use Rattle.fabric_state.specs.Posting.{Request, transferOf, wrongBeats, unaligned, wrongLanes, unmapped, passesEnd, refusalAt, transferRefusal, stateWith}
+use Rattle.fabric_state.specs.Soundness.{sound}
+use Rattle.fabric_state.proofs.DecodeLaws.{accepted}
+use Rattle.fabric_layout.specs.Layout.{stateIn}
 use Rattle.fabric.specs.Lent.{Posts}
 use Rattle.fabric.specs.Calls.{wrongWords, requestRefusal, refusalBy, postRefusal, post, bufferAfterPost}
 

@@ -3,10 +3,10 @@
 use mathlib.Core.Path.{_≡_, refl, sym, ap₂, _∙_}
 use mathlib.Core.List.{List}
 use Prim.Native.Nat.{ℕ, _-_}
-use Rattle.board.specs.declared.Board.{Board}
-use Rattle.board.specs.Items.{checkBoard}
-use Rattle.state.specs.Resetting.{stateAtReset, ownedBy}
-use Rattle.state_layout.specs.Layout.{stateIn}
+use Rattle.description_board.specs.declared.Board.{Board}
+use Rattle.description_board.specs.Items.{checkBoard}
+use Rattle.fabric_state.specs.Resetting.{stateAtReset, ownedBy}
+use Rattle.fabric_layout.specs.Layout.{stateIn}
 use Rattle.fabric.specs.Calls.{reset}
 use Rattle.fabric.specs.Lent.{Resets}
 

@@ -8,21 +8,21 @@ use lib.Dec.{eqb}
 use lib.ListN.{length}
 use native.Mathlib.Numerals.{add-one}
 use borrow.Author.Tests.{ne-eqb, not-false}
-use Rattle.laws.proofs.Tests.{passed}
-use Rattle.board.specs.declared.Board.{Board}
-use Rattle.board.specs.Records.{memoryLength}
-use Rattle.board.specs.Items.{checkBoard}
-use Rattle.board.proofs.Accepted.{accepted-legal}
-use Rattle.moves.specs.Bytes.{Store, bufferLength}
-use Rattle.state.specs.declared.State.{State}
-use Rattle.state.specs.Soundness.{sound}
-use Rattle.state.specs.Control.{maskOf, stateAfter, linesOf}
-use Rattle.state.specs.declared.Line.{Line}
-use Rattle.state.specs.Carrying.{storeAfter}
-use Rattle.state.specs.Clocking.{clockedOf}
-use Rattle.state.proofs.SoundLaws.{sound-test, sound-facts, clock-sound}
-use Rattle.state.proofs.StateLaws.{transfers-after, slots-after}
-use Rattle.state.proofs.StoreLengths.{store-length}
+use Rattle.common_laws.proofs.Tests.{passed}
+use Rattle.description_board.specs.declared.Board.{Board}
+use Rattle.description_board.specs.Records.{memoryLength}
+use Rattle.description_board.specs.Items.{checkBoard}
+use Rattle.description_board.proofs.Accepted.{accepted-legal}
+use Rattle.fabric_bytes.specs.Bytes.{Store, bufferLength}
+use Rattle.fabric_state.specs.declared.State.{State}
+use Rattle.fabric_state.specs.Soundness.{sound}
+use Rattle.fabric_state.specs.Control.{maskOf, stateAfter, linesOf}
+use Rattle.fabric_state.specs.declared.Line.{Line}
+use Rattle.fabric_state.specs.Carrying.{storeAfter}
+use Rattle.fabric_state.specs.Clocking.{clockedOf}
+use Rattle.fabric_state.proofs.SoundLaws.{sound-test, sound-facts, clock-sound}
+use Rattle.fabric_state.proofs.StateLaws.{transfers-after, slots-after}
+use Rattle.fabric_state.proofs.StoreLengths.{store-length}
 use Rattle.fabric.specs.Calls.{clockRefusal, clock, storeAfterClock, afterClock}
 use Rattle.fabric.specs.Running.{Run, clockMore, clockOn}
 use Rattle.fabric.proofs.PostLaws.{passed-number}

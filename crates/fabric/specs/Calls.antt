@@ -5,22 +5,22 @@ use mathlib.Core.List.{List}
 use Prim.Native.Nat.{ℕ, _*_}
 use lib.Dec.{leb, eqb}
 use lib.ListN.{length}
-use Rattle.board.specs.declared.Master.{Master}
-use Rattle.board.specs.declared.Board.{Board}
-use Rattle.board.specs.Records.{masterAt, memoryLength}
-use Rattle.board.specs.Items.{checkBoard}
-use Rattle.geometry.specs.declared.Transfer.{Transfer}
-use Rattle.moves.specs.Bytes.{Store, bufferLength, posted}
-use Rattle.state.specs.declared.State.{State}
+use Rattle.description_board.specs.declared.Master.{Master}
+use Rattle.description_board.specs.declared.Board.{Board}
+use Rattle.description_board.specs.Records.{masterAt, memoryLength}
+use Rattle.description_board.specs.Items.{checkBoard}
+use Rattle.fabric_accesses.specs.declared.Transfer.{Transfer}
+use Rattle.fabric_bytes.specs.Bytes.{Store, bufferLength, posted}
+use Rattle.fabric_state.specs.declared.State.{State}
 use Rattle.fabric.specs.declared.Started.{Started}
 use Rattle.fabric.specs.declared.Posted.{Posted}
-use Rattle.state.specs.declared.Clocked.{Clocked}
-use Rattle.state.specs.Records.{noState, transferAt}
-use Rattle.state.specs.Posting.{Request, transferOf, transferRefusal, stateWith}
-use Rattle.state.specs.Resetting.{stateAtReset}
-use Rattle.state.specs.Soundness.{sound}
-use Rattle.state.specs.Clocking.{clockedOf, refusedClock}
-use Rattle.state.specs.Carrying.{storeAfter}
+use Rattle.fabric_state.specs.declared.Clocked.{Clocked}
+use Rattle.fabric_state.specs.Records.{noState, transferAt}
+use Rattle.fabric_state.specs.Posting.{Request, transferOf, transferRefusal, stateWith}
+use Rattle.fabric_state.specs.Resetting.{stateAtReset}
+use Rattle.fabric_state.specs.Soundness.{sound}
+use Rattle.fabric_state.specs.Clocking.{clockedOf, refusedClock}
+use Rattle.fabric_state.specs.Carrying.{storeAfter}
 
 -- what `reset` answers; "memory and buffer are not touched"
 unfoldable pub reset : Board → Started

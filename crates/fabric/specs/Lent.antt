@@ -5,10 +5,10 @@ use mathlib.Core.Path.{_≡_}
 use mathlib.Core.List.{List}
 use mathlib.Core.Logic.{_≢_}
 use Prim.Native.Nat.{ℕ}
-use Rattle.board.specs.declared.Board.{Board}
-use Rattle.moves.specs.Bytes.{Store}
-use Rattle.state.specs.Posting.{Request}
-use Rattle.state_layout.specs.Layout.{stateIn, linesIn}
+use Rattle.description_board.specs.declared.Board.{Board}
+use Rattle.fabric_bytes.specs.Bytes.{Store}
+use Rattle.fabric_state.specs.Posting.{Request}
+use Rattle.fabric_layout.specs.Layout.{stateIn, linesIn}
 use Rattle.fabric.specs.Calls.{reset, post, bufferAfterPost, clock, storeAfterClock}
 use Rattle.fabric.specs.Running.{run}
 use Rattle.fabric.specs.declared.Answer.{Answer}

@@ -4,8 +4,8 @@ use mathlib.Core.Bool.{Bool, cond, not, _||_}
 use mathlib.Core.List.{List}
 use Prim.Native.Nat.{ℕ}
 use lib.Dec.{eqb}
-use Rattle.moves.specs.Bytes.{bufferLength}
-use Rattle.state.specs.Posting.{Request}
+use Rattle.fabric_bytes.specs.Bytes.{bufferLength}
+use Rattle.fabric_state.specs.Posting.{Request}
 
 abbrev pub request : ℕ → Bool → ℕ → ℕ → ℕ → List ℕ → Request
 request m w a l n bytes = record { master = m; write = w; address = a; lanes = l; beats = n; words = bytes }

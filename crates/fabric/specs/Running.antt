@@ -5,9 +5,9 @@ use mathlib.Core.List.{List}
 use Prim.Native.Nat.{ℕ, zero, suc, _+_}
 use lib.Dec.{eqb}
 use lib.ListN.{replicate}
-use Rattle.board.specs.declared.Board.{Board}
-use Rattle.state.specs.declared.Line.{Line}
-use Rattle.state.specs.Records.{noLine}
+use Rattle.description_board.specs.declared.Board.{Board}
+use Rattle.fabric_state.specs.declared.Line.{Line}
+use Rattle.fabric_state.specs.Records.{noLine}
 use Rattle.fabric.specs.Calls.{World, clockRefusal, clock, afterClock}
 
 -- how far a run has come: the number answered, the clocks passed, the last one's mask and lines, and what stands behind it

@@ -1,15 +1,15 @@
 // The public calls on a board's fabric: reset, post, clock and run, on lent arrays of numbers.
-use board::Master;
-use geometry::Transfer;
-use state::State;
+use description_board::Master;
+use fabric_accesses::Transfer;
+use fabric_state::State;
 ghost use mathlib.Core.Path.{_≡_};
 ghost use mathlib.Core.Bool.{cond};
 ghost use Prim.Native.Nat.{_*_, _≤_, _<_};
 ghost use lib.ListN.{length};
-ghost use Rattle.board.specs.Items.{checkBoard};
-ghost use Rattle.board.specs.Records.{memoryLength};
-ghost use Rattle.board_layout.specs.Layout.{boardIn};
-ghost use Rattle.state_layout.specs.Layout.{stateIn};
+ghost use Rattle.description_board.specs.Items.{checkBoard};
+ghost use Rattle.description_board.specs.Records.{memoryLength};
+ghost use Rattle.description_layout.specs.Layout.{boardIn};
+ghost use Rattle.fabric_layout.specs.Layout.{stateIn};
 ghost use Rattle.fabric.specs.Calls.{requestRefusal, refusalBy};
 ghost use Rattle.fabric.specs.Requests.{request, clockRefusalBy};
 ghost use Rattle.fabric.specs.Lent.{Resets, Posts, Clocks, Runs};
@@ -42,13 +42,13 @@ pub struct Ran {
 pub fn reset(board: &[u32; 242], state: &mut [u32; 120]) -> u32
     ensures { λ r. ⌜ Resets (boardIn (now (board .entry))) (now (state .entry)) (now (state .exit)) r ⌝ }
 {
-    let number = board_check::refusal(board);
+    let number = description_check::refusal(board);
     if number != 0 {
         return number;
     }
-    let owner = board_layout::master_count(board) - 1;
-    let count = board_layout::slave_count(board);
-    state_layout::reset_state(state, owner, count);
+    let owner = description_layout::master_count(board) - 1;
+    let count = description_layout::slave_count(board);
+    fabric_layout::reset_state(state, owner, count);
     0
 }
 
@@ -67,11 +67,11 @@ fn request_refusal(board: &[u32; 242], m: usize, t: Transfer, length: usize) -> 
     requires { ⌜ (checkBoard (boardIn (now board)) ≡ 0) × (m < boardIn (now board) .«master_count») ⌝ }
     ensures { λ r. ⌜ r ≡ requestRefusal (boardIn (now (board .entry))) m t length ⌝ }
 {
-    let number = transfers::refusal_of(board, m, t);
+    let number = fabric_check::refusal_of(board, m, t);
     if number != 0 {
         return number;
     }
-    let ma = board_layout::master_at(board, m);
+    let ma = description_layout::master_at(board, m);
     if length as u64 != words_length(ma, t) {
         return 18;
     }
@@ -90,7 +90,7 @@ fn post_refusal(
     ensures { λ r. ⌜ r ≡ refusalBy (boardIn (now (board .entry))) (stateIn (now (state .entry))) room m t length ⌝ }
 {
     let mut targets = [0u32; 8];
-    let checked = state_check::ready(board, state, &mut targets);
+    let checked = fabric_check::ready(board, state, &mut targets);
     if checked.number != 0 {
         return checked.number;
     }
@@ -100,10 +100,10 @@ fn post_refusal(
     if !checked.sound {
         return 9;
     }
-    if board_layout::master_count(board) <= m {
+    if description_layout::master_count(board) <= m {
         return 11;
     }
-    let before = state_layout::transfer_at(state, m as usize);
+    let before = fabric_layout::transfer_at(state, m as usize);
     if before.held {
         return 12;
     }
@@ -137,8 +137,8 @@ pub fn post(
         return number;
     }
     let m = master as usize;
-    moves::post_words(buffer, m, words);
-    state_layout::put_transfer(state, m, t);
+    fabric_bytes::post_words(buffer, m, words);
+    fabric_layout::put_transfer(state, m, t);
     0
 }
 
@@ -150,8 +150,8 @@ fn clock_refusal(board: &[u32; 242], number: u32, sound: bool, memory: usize, bu
     if number != 0 {
         return number;
     }
-    let count = board_layout::slave_count(board) as usize;
-    let room = rules::span_total(board, count, 0);
+    let count = description_layout::slave_count(board) as usize;
+    let room = description_rules::span_total(board, count, 0);
     if memory as u64 != room {
         return 8;
     }
@@ -174,7 +174,7 @@ pub fn clock(
         (record { memory = now (memory .exit); buffer = now (buffer .exit) }) r ⌝ }
 {
     let mut targets = [0u32; 8];
-    let checked = state_check::ready(board, state, &mut targets);
+    let checked = fabric_check::ready(board, state, &mut targets);
     let number = clock_refusal(
         board,
         checked.number,
@@ -183,15 +183,15 @@ pub fn clock(
         buffer.len(),
     );
     if number != 0 {
-        state_layout::clear_lines(lines, 0);
+        fabric_layout::clear_lines(lines, 0);
         return Answer {
             number: number,
             mask: 0,
         };
     }
     let mut requests = [0u32; 16];
-    transfers::request_masks(&targets, &mut requests);
-    let mask = cycles::cycle(board, state, &requests, lines, memory, buffer);
+    fabric_check::request_masks(&targets, &mut requests);
+    let mask = fabric_cycle::cycle(board, state, &requests, lines, memory, buffer);
     Answer {
         number: 0,
         mask: mask,
@@ -223,7 +223,7 @@ pub fn run(
         (record { memory = now (memory .exit); buffer = now (buffer .exit) }) r ⌝ }
 {
     let mut targets = [0u32; 8];
-    let checked = state_check::ready(board, state, &mut targets);
+    let checked = fabric_check::ready(board, state, &mut targets);
     let number = clock_refusal(
         board,
         checked.number,
@@ -231,15 +231,15 @@ pub fn run(
         memory.len(),
         buffer.len(),
     );
-    state_layout::clear_lines(lines, 0);
+    fabric_layout::clear_lines(lines, 0);
     if number != 0 {
         return run_answer(number, 0, 0);
     }
     let mut requests = [0u32; 16];
-    transfers::request_masks(&targets, &mut requests);
+    fabric_check::request_masks(&targets, &mut requests);
     let mut left = most;
     while 0 < left {
-        let mask = cycles::cycle(board, state, &requests, lines, memory, buffer);
+        let mask = fabric_cycle::cycle(board, state, &requests, lines, memory, buffer);
         left -= 1;
         if mask != 0 {
             return run_answer(0, most - left, mask);

@@ -2,11 +2,11 @@
 // answers beside its number goes to numbers that C lends for it.
 ghost use mathlib.Core.Path.{_≡_};
 ghost use lib.ListN.{getD, length};
-ghost use Rattle.board_layout.specs.Layout.{boardIn};
+ghost use Rattle.description_layout.specs.Layout.{boardIn};
 ghost use Rattle.description.specs.Lent.{Read};
 ghost use Rattle.description.specs.Blame.{refusalOf};
-ghost use Rattle.state_layout.specs.Layout.{marked};
-ghost use Rattle.quote.specs.Answers.{waitRefusal, waitOutput};
+ghost use Rattle.fabric_layout.specs.Layout.{marked};
+ghost use Rattle.wait.specs.Answers.{waitRefusal, waitOutput};
 ghost use Rattle.fabric.specs.Requests.{request};
 ghost use Rattle.fabric.specs.Lent.{Resets, Posts, Clocks, Runs};
 
@@ -15,7 +15,7 @@ pub extern "C" fn fabric_wait(text: &[u8], master: u32, slave: u32, out: &mut [u
     ensures answer { λ r. ⌜ r ≡ waitRefusal (now (text .entry)) master slave (now (out .entry)) ⌝ }
     ensures output { λ _. ⌜ now (out .exit) ≡ waitOutput (now (text .entry)) master slave (now (out .entry)) ⌝ }
 {
-    quote::wait_call(text, master, slave, out)
+    wait::wait_call(text, master, slave, out)
 }
 
 #[no_mangle]
@@ -25,7 +25,7 @@ pub extern "C" fn fabric_read(text: &[u8], board: &mut [u32; 242]) -> u32
     description::read(text, board)
 }
 
-// The count of numbers lent. As board_layout::count: a call of it tells a proof an array's length, and costs nothing.
+// The count of numbers lent. As description_layout::count: a call of it tells a proof an array's length, and costs nothing.
 fn count(l: &[usize]) -> usize
     ensures { λ r. ⌜ r ≡ length (now (l .entry)) ⌝ }
 {
@@ -93,7 +93,7 @@ pub extern "C" fn fabric_clock(
         (record { memory = now (memory .exit); buffer = now (buffer .exit) })
         (record { number = r; mask = getD (now (mask .exit)) 0 0 }) ⌝ }
 {
-    board_layout::count(mask);
+    description_layout::count(mask);
     let a = fabric::clock(board, state, memory, buffer, lines);
     mask[0] = a.mask;
     a.number
@@ -115,8 +115,8 @@ pub extern "C" fn fabric_run(
         (record { memory = now (memory .exit); buffer = now (buffer .exit) })
         (record { number = r; clocks = getD (now (clocks .exit)) 0 0; mask = getD (now (mask .exit)) 0 0 }) ⌝ }
 {
-    board_layout::count(clocks);
-    board_layout::count(mask);
+    description_layout::count(clocks);
+    description_layout::count(mask);
     let a = fabric::run(board, state, memory, buffer, lines, most);
     clocks[0] = a.clocks;
     mask[0] = a.mask;

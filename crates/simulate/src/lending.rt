@@ -1,6 +1,6 @@
 // How much of the memory and of the buffer is lent from now on.
-use script::Command;
-use session::Run;
+use program_script::Command;
+use program_script::Run;
 
 // Copies as many bytes as both have.
 fn copy(from: &[u8], to: &mut [u8]) {
@@ -30,13 +30,13 @@ pub fn lend(run: Run, command: Command, words: &mut [u8], longer: &mut [u8]) -> 
     let mut next = run;
     if command.first == 0 {
         if run.memory_most < length {
-            return session::failed(run, script::OUT_OF_RANGE);
+            return program_script::failed(run, program_script::OUT_OF_RANGE);
         }
         next.memory_lent = length;
         return next;
     }
     if 4104 < length {
-        return session::failed(run, script::OUT_OF_RANGE);
+        return program_script::failed(run, program_script::OUT_OF_RANGE);
     }
     next.buffer_lent = length;
     if run.buffer_lent <= 4096 {

@@ -7,31 +7,31 @@ mod world;
 
 use libc::STDERR_FILENO;
 use libc::STDOUT_FILENO;
-use programs::Mode;
+use program_options::Mode;
 
 fn usage(fd: i32) -> bool {
-    streams::write_all(fd, b"usage: simulate BOARD < SCRIPT\n")
+    program_streams::write_all(fd, b"usage: simulate BOARD < SCRIPT\n")
 }
 
 // What the numbers mean that the calls answer.
 fn help() {
     let taken = usage(STDOUT_FILENO)
-        && streams::write_all(
+        && program_streams::write_all(
             STDOUT_FILENO,
             b"Runs the script's lines on the board and prints what each call answers, a refusal by its number:\n",
         )
-        && refusals::list(STDOUT_FILENO, 18);
-    programs::printed(b"simulate", taken);
+        && program_refusals::list(STDOUT_FILENO, 18);
+    program_options::printed(b"simulate", taken);
 }
 
 // The board is refused: its number on standard output, the line and the cause on standard error.
 fn refuse(path: &[u8], text: &[u8]) {
     let r = description::refused_at(text);
-    programs::printed(b"simulate", refusals::print(r.number));
+    program_options::printed(b"simulate", program_refusals::print(r.number));
     io::write_all(STDERR_FILENO, b"simulate: ");
     io::write_all(STDERR_FILENO, path);
     io::write_all(STDERR_FILENO, b": ");
-    refusals::explain(r);
+    program_refusals::explain(r);
 }
 
 // Runs the script on the board that a text describes.
@@ -50,13 +50,13 @@ fn simulate(path: &[u8], text: &[u8]) {
 fn simulate_file(path: &[u8]) {
     let fd = os::open_read(path);
     if fd < 0 {
-        streams::report(b"simulate", path);
+        program_streams::report(b"simulate", path);
         return;
     }
     let mut text = [0u8; 8193];
-    let got = streams::read_all(fd, &mut text);
+    let got = program_streams::read_all(fd, &mut text);
     if got.failed {
-        streams::report(b"simulate", path);
+        program_streams::report(b"simulate", path);
         return;
     }
     libc::close(fd);
@@ -69,17 +69,17 @@ fn simulate_word(i: usize) {
     let mut path = io::buffer();
     let length = os::arg(i, &mut path);
     if os::errno() != 0 {
-        streams::report(b"simulate", b"BOARD");
+        program_streams::report(b"simulate", b"BOARD");
         return;
     }
     simulate_file(&path[..length]);
 }
 
 fn main() {
-    let mode = programs::asked(1);
+    let mode = program_options::asked(1);
     match mode {
         Mode::Help => help(),
-        Mode::Version => programs::print_version(b"simulate"),
+        Mode::Version => program_options::print_version(b"simulate"),
         Mode::Run(i) => simulate_word(i),
         Mode::Wrong => {
             usage(STDERR_FILENO);

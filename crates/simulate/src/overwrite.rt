@@ -1,6 +1,6 @@
 // Entries of the board and the state, overwritten by what a line says, number by number in the order of the line's fields.
 ghost use Prim.Native.Nat.{_<_};
-use script::Command;
+use program_script::Command;
 
 // A number of a line as one of an array. The line's limits keep it within its field.
 pub fn word(n: u64) -> u32 {
@@ -37,7 +37,7 @@ fn behind(c: Command) -> [u64; 6] {
 fn put_state(state: &mut [u32; 120], c: Command, i: usize)
     requires { ⌜ i < 16 ⌝ }
 {
-    if c.kind == script::TRANSFER {
+    if c.kind == program_script::TRANSFER {
         put(state, 5 * i, behind(c), 5);
         return;
     }
@@ -48,15 +48,15 @@ fn put_state(state: &mut [u32; 120], c: Command, i: usize)
 fn put_board(board: &mut [u32; 242], c: Command, i: usize)
     requires { ⌜ i < 16 ⌝ }
 {
-    if c.kind == script::MASTER {
+    if c.kind == program_script::MASTER {
         put(board, 2 + 2 * i, behind(c), 2);
         return;
     }
-    if c.kind == script::SLAVE {
+    if c.kind == program_script::SLAVE {
         put(board, 18 + 6 * i, behind(c), 6);
         return;
     }
-    if c.kind == script::SHARE {
+    if c.kind == program_script::SHARE {
         put(
             board,
             114 + 16 * i + (c.second % 16) as usize,
@@ -71,7 +71,7 @@ fn put_board(board: &mut [u32; 242], c: Command, i: usize)
 // An entry of the state or of the board overwritten, or the board's counts. A master or a card has a number below 16.
 pub fn overwrite(board: &mut [u32; 242], state: &mut [u32; 120], c: Command) {
     let i = (c.first % 16) as usize;
-    if (c.kind == script::TRANSFER) | (c.kind == script::SLOT) {
+    if (c.kind == program_script::TRANSFER) | (c.kind == program_script::SLOT) {
         put_state(state, c, i);
         return;
     }

@@ -3,16 +3,16 @@ ghost use Prim.Native.Nat.{_<_};
 use crate::lending;
 use crate::overwrite;
 use crate::world;
-use script::Command;
-use session::INPUT;
-use session::ROOM;
-use session::Run;
+use program_script::Command;
+use program_script::INPUT;
+use program_script::ROOM;
+use program_script::Run;
 
 // The state of a refused board is zeros: the library leaves what it is lent as it was.
 fn run_reset(board: &[u32; 242], state: &mut [u32; 120], run: Run, out: &mut [u8; ROOM]) -> Run {
     *state = [0; 120];
     let number = fabric::reset(board, state);
-    session::answer(out, run, b"reset", number)
+    program_script::answer(out, run, b"reset", number)
 }
 
 // A post's bytes are the line's last field.
@@ -26,8 +26,8 @@ fn run_post(
     out: &mut [u8; ROOM],
 ) -> Run {
     let mut bytes = [0u8; 4096];
-    script::decode(script::last_field(line, c.last), &mut bytes);
-    let end = session::place(c.sixth as usize, &bytes);
+    program_script::decode(program_script::last_field(line, c.last), &mut bytes);
+    let end = program_script::place(c.sixth as usize, &bytes);
     let number = fabric::post(
         board,
         state,
@@ -39,7 +39,7 @@ fn run_post(
         overwrite::word(c.fifth),
         &bytes[..end],
     );
-    session::answer(out, run, b"post", number)
+    program_script::answer(out, run, b"post", number)
 }
 
 // How many clocks are left after one: none where its answer could not be printed.
@@ -71,21 +71,21 @@ fn run_clock(
     while 0 < left {
         let c = fabric::clock(board, &mut *state, &mut *memory, &mut *buffer, &mut lines);
         number = c.number;
-        let slaves = board_layout::slave_count(board);
-        next = session::put_clock(&mut *out, next, number, c.mask, &lines, slaves);
+        let slaves = description_layout::slave_count(board);
+        next = program_script::put_clock(&mut *out, next, number, c.mask, &lines, slaves);
         left = left_after(left, next.broken);
     }
-    session::call(&*out, next, number)
+    program_script::call(&*out, next, number)
 }
 
 // The wait is that of the board as it was read.
 fn run_wait(run: Run, c: Command, text: &[u8], out: &mut [u8; ROOM]) -> Run {
     let mut board = [0u32; 242];
     description::read(text, &mut board);
-    let q = quote::quote_of(&board, overwrite::word(c.first), overwrite::word(c.second));
+    let q = wait::quote_of(&board, overwrite::word(c.first), overwrite::word(c.second));
     let numbers = [q.number as u64, q.wait, q.serve];
-    let printed = session::put_line(&mut *out, run, b"wait", &numbers);
-    session::call(&*out, printed, q.number)
+    let printed = program_script::put_line(&mut *out, run, b"wait", &numbers);
+    program_script::call(&*out, printed, q.number)
 }
 
 // A fill or a show of lent bytes.
@@ -93,17 +93,20 @@ fn touch(run: Run, c: Command, line: &[u8], lent: &mut [u8], out: &mut [u8; ROOM
     let start = c.second as usize;
     let n = c.third as usize;
     if lent.len() < start {
-        return session::failed(run, script::PAST_LENT);
+        return program_script::failed(run, program_script::PAST_LENT);
     }
     if lent.len() - start < n {
-        return session::failed(run, script::PAST_LENT);
+        return program_script::failed(run, program_script::PAST_LENT);
     }
     let end = start + n;
-    if c.kind == script::FILL {
-        script::decode(script::last_field(line, c.last), &mut lent[start..end]);
+    if c.kind == program_script::FILL {
+        program_script::decode(
+            program_script::last_field(line, c.last),
+            &mut lent[start..end],
+        );
         return run;
     }
-    session::put_hex(out, run, &lent[start..end])
+    program_script::put_hex(out, run, &lent[start..end])
 }
 
 // Every line but lend, on the bytes that are lent.
@@ -118,23 +121,23 @@ fn obey(
     buffer: &mut [u8],
     out: &mut [u8; ROOM],
 ) -> Run {
-    if c.kind <= script::COUNT {
+    if c.kind <= program_script::COUNT {
         overwrite::overwrite(board, state, c);
         return run;
     }
-    if c.kind == script::RESET {
+    if c.kind == program_script::RESET {
         return run_reset(board, state, run, out);
     }
-    if c.kind == script::POST {
+    if c.kind == program_script::POST {
         return run_post(board, state, run, c, line, buffer, out);
     }
-    if c.kind == script::CLOCK {
+    if c.kind == program_script::CLOCK {
         return run_clock(board, state, run, c.first, memory, buffer, out);
     }
-    if c.kind == script::STATE {
-        return session::put_state(out, run, state);
+    if c.kind == program_script::STATE {
+        return program_script::put_state(out, run, state);
     }
-    if c.kind == script::WAIT {
+    if c.kind == program_script::WAIT {
         return run_wait(run, c, text, out);
     }
     let lent = lending::either(c.first == 0, memory, buffer);
@@ -156,17 +159,17 @@ fn run_line(
     if !run.found {
         return run;
     }
-    let line = session::line_of(input, run);
-    let c = script::parse(line);
+    let line = program_script::line_of(input, run);
+    let c = program_script::parse(line);
     if c.problem != 0 {
-        return session::failed(run, c.problem);
+        return program_script::failed(run, c.problem);
     }
-    if c.kind == script::LEND {
+    if c.kind == program_script::LEND {
         return lending::lend(run, c, words, longer);
     }
     let all = lending::either(run.buffer_lent <= 4096, words, longer);
-    let buffer = session::lent(run.buffer_lent, all);
-    let lent = session::lent(run.memory_lent, memory);
+    let buffer = program_script::lent(run.buffer_lent, all);
+    let lent = program_script::lent(run.memory_lent, memory);
     obey(board, state, run, c, line, text, lent, buffer, out)
 }
 
@@ -185,7 +188,7 @@ pub fn run_script(text: &[u8], board: &mut [u32; 242]) {
     let mut passes = u64::MAX;
     while 0 < passes {
         passes -= 1;
-        run = session::next_line(&mut input, &out, run);
+        run = program_script::next_line(&mut input, &out, run);
         run = run_line(
             &mut *board,
             &mut state,
@@ -201,5 +204,5 @@ pub fn run_script(text: &[u8], board: &mut [u32; 242]) {
             break;
         }
     }
-    session::finish(&mut out, run);
+    program_script::finish(&mut out, run);
 }

@@ -1,6 +1,6 @@
 // Where a run of the simulator starts.
 ghost use Prim.Native.Nat.{_≤_};
-use session::Run;
+use program_script::Run;
 
 // The spans of the first n slaves together.
 fn total_span(board: &[u32; 242], n: u32) -> u64 {
@@ -10,7 +10,7 @@ fn total_span(board: &[u32; 242], n: u32) -> u64 {
         if n as usize <= s {
             return total;
         }
-        let sl = board_layout::slave_at(board, s);
+        let sl = description_layout::slave_at(board, s);
         total += sl.span as u64;
         s += 1;
     }
@@ -29,6 +29,6 @@ fn memory_length(total: u64) -> usize
 
 // Before the first line.
 pub fn start(board: &[u32; 242]) -> Run {
-    let memory = memory_length(total_span(board, board_layout::slave_count(board)));
-    session::first_run(memory)
+    let memory = memory_length(total_span(board, description_layout::slave_count(board)));
+    program_script::first_run(memory)
 }

@@ -7,10 +7,10 @@ use mathlib.Core.Path.{_≡_, refl, ap, sym, subst, _∙_}
 use Prim.Native.Nat.{ℕ, _<_}
 use native.Mathlib.Omega.{arith}
 use lib.ListN.{length, take}
-use Rattle.streams.specs.declared.Got.{Got}
-use Rattle.streams.specs.Reading.{gathered, Standing, ended, broken, going, standing, Marks, Gathered}
+use Rattle.program_streams.specs.declared.Got.{Got}
+use Rattle.program_streams.specs.Reading.{gathered, Standing, ended, broken, going, standing, Marks, Gathered}
 use Rattle.description.specs.Reader.{mostBytes}
-use Rattle.tables.specs.Tables.{printed, Page}
+use Rattle.wait_table.specs.Tables.{printed, Page}
 use Rattle.table.specs.Preparing.{Reads}
 
 module _ {text : List ℕ} {g : Got} (x : Gathered text g) where

@@ -7,9 +7,9 @@ use mathlib.Core.Path.{_≡_}
 use Prim.Native.Nat.{ℕ, _<_}
 use lib.ListN.{length, take}
 use Rattle.io.specs.Counts.{Counts}
-use Rattle.streams.specs.Reading.{Answer, gathered, ended, standing}
+use Rattle.program_streams.specs.Reading.{Answer, gathered, ended, standing}
 use Rattle.description.specs.Reader.{mostBytes}
-use Rattle.tables.specs.Tables.{printed}
+use Rattle.wait_table.specs.Tables.{printed}
 use Rattle.table.specs.declared.Prepared.{Prepared}
 
 -- Where no read failed, the input was read to its end, or over the length at which a text is refused by its length alone, and the

@@ -7,19 +7,19 @@ ghost use Rattle.table.specs.Preparing.{Reads};
 use libc::STDERR_FILENO;
 use libc::STDIN_FILENO;
 use libc::STDOUT_FILENO;
-use programs::Mode;
+use program_options::Mode;
 
 fn usage(fd: i32) -> bool {
-    streams::write_all(fd, b"usage: table < BOARD\n")
-        && streams::write_all(
+    program_streams::write_all(fd, b"usage: table < BOARD\n")
+        && program_streams::write_all(
             fd,
             b"Prints master,slave,wait,serve of every connected pair, or refused, and a number:\n",
         )
-        && refusals::list(fd, 7)
+        && program_refusals::list(fd, 7)
 }
 
 fn help() {
-    programs::printed(b"table", usage(STDOUT_FILENO));
+    program_options::printed(b"table", usage(STDOUT_FILENO));
 }
 
 // Says at which line a text is refused, and why.
@@ -27,7 +27,7 @@ fn explain(text: &[u8]) {
     let r = description::refused_at(text);
     if r.number != 0 {
         io::write_all(STDERR_FILENO, b"table: ");
-        refusals::explain(r);
+        program_refusals::explain(r);
     }
 }
 
@@ -41,11 +41,11 @@ struct Prepared {
 
 // Reads a description, and makes the page of it. The text has room for one byte more than a description may have: a longer one
 // is then refused as such.
-fn prepare(text: &mut [u8], page: &mut [u8; tables::LONGEST_TABLE]) -> Prepared
+fn prepare(text: &mut [u8], page: &mut [u8; wait_table::LONGEST_TABLE]) -> Prepared
     requires { ⌜ mostBytes < length (now text) ⌝ }
     ensures { λ r. ⌜ Reads (now (text .exit)) (now (page .exit)) r ⌝ }
 {
-    let got = streams::read_all(STDIN_FILENO, &mut *text);
+    let got = program_streams::read_all(STDIN_FILENO, &mut *text);
     let n = got.end;
     if got.failed {
         return Prepared {
@@ -54,7 +54,7 @@ fn prepare(text: &mut [u8], page: &mut [u8; tables::LONGEST_TABLE]) -> Prepared
             failed: true,
         };
     }
-    let length = tables::print_page(&text[..n], &mut *page);
+    let length = wait_table::print_page(&text[..n], &mut *page);
     Prepared {
         read: n,
         length: length,
@@ -64,23 +64,23 @@ fn prepare(text: &mut [u8], page: &mut [u8; tables::LONGEST_TABLE]) -> Prepared
 
 fn table() {
     let mut text = [0; 8193];
-    let mut page = [0; tables::LONGEST_TABLE];
+    let mut page = [0; wait_table::LONGEST_TABLE];
     let made = prepare(&mut text, &mut page);
     if made.failed {
-        streams::report(b"table", b"standard input");
+        program_streams::report(b"table", b"standard input");
         return;
     }
     let length = made.length;
     let n = made.read;
-    programs::print(b"table", &page[..length]);
+    program_options::print(b"table", &page[..length]);
     explain(&text[..n]);
 }
 
 fn main() {
-    let mode = programs::asked(0);
+    let mode = program_options::asked(0);
     match mode {
         Mode::Help => help(),
-        Mode::Version => programs::print_version(b"table"),
+        Mode::Version => program_options::print_version(b"table"),
         Mode::Run(_) => table(),
         Mode::Wrong => {
             usage(STDERR_FILENO);

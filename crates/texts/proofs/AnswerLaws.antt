@@ -8,10 +8,10 @@ use native.Mathlib.Omega.{arith}
 use lib.Dec.{eqb, ltb}
 use lib.ListN.{length, take, drop, length-take}
 use borrow.Author.Tests.{ltb-false}
-use Rattle.text.specs.Digits.{lineText}
-use Rattle.text.proofs.Decimal.{line-length, fields-long}
-use Rattle.board.specs.declared.Board.{Board}
-use Rattle.board.specs.Items.{checkBoard}
+use Rattle.common_text.specs.Digits.{lineText}
+use Rattle.common_text.proofs.Decimal.{line-length, fields-long}
+use Rattle.description_board.specs.declared.Board.{Board}
+use Rattle.description_board.specs.Items.{checkBoard}
 use Rattle.description.specs.declared.Written.{Written}
 use Rattle.description.specs.Writer.{writeText, writeRefusal, written}
 

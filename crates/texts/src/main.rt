@@ -3,8 +3,8 @@
 // the input cannot be read, or the answers cannot be printed, standard error says so.
 ghost use Prim.Native.Nat.{_+_, _≤_};
 ghost use lib.ListN.{length};
+use common_text::Number;
 use libc::STDIN_FILENO;
-use text::Number;
 
 // What is still to be taken of a piece of the input: its bytes from `at` up to `end`. Whether no further piece is to be read,
 // since the input has ended or cannot be read.
@@ -48,9 +48,9 @@ fn refill(piece: &mut [u8], input: Input) -> Input
     if input.last | (input.at < input.end) {
         return input;
     }
-    let got = streams::read_all(STDIN_FILENO, &mut *piece);
+    let got = program_streams::read_all(STDIN_FILENO, &mut *piece);
     if got.failed {
-        streams::report(b"texts", b"standard input");
+        program_streams::report(b"texts", b"standard input");
         return Input {
             at: 0,
             end: 0,
@@ -82,7 +82,7 @@ fn take_head(piece: &mut [u8], first: Input) -> Head
         input.at = at + 1;
         if piece[at] == b'\n' {
             return Head {
-                length: text::parse_number(&line[..kept]),
+                length: common_text::parse_number(&line[..kept]),
                 input: input,
             };
         }
@@ -149,7 +149,7 @@ fn make_room(out: &[u8], filled: usize) -> Room
             at: filled,
         };
     }
-    let printed = programs::print(b"texts", &out[..filled]);
+    let printed = program_options::print(b"texts", &out[..filled]);
     Room {
         made: printed,
         at: 0,
@@ -164,7 +164,7 @@ fn put_answer(out: &mut [u8], at: usize, record: &[u8]) -> usize
 {
     let mut board = [0u32; 242];
     let number = description::read(record, &mut board);
-    let next = text::put_line(&mut *out, at, b"read", &[number as u64]);
+    let next = common_text::put_line(&mut *out, at, b"read", &[number as u64]);
     if number != 0 {
         return next;
     }
@@ -236,5 +236,5 @@ fn main() {
     let mut record = [0u8; 8193];
     let mut out = io::large_buffer();
     let filled = answer_records(&mut piece, &mut record, &mut out);
-    programs::print(b"texts", &out[..filled]);
+    program_options::print(b"texts", &out[..filled]);
 }

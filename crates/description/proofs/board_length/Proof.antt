@@ -6,12 +6,12 @@ use Prim.Native.Nat.{_-_, _≤_}
 use native.Mathlib.Omega.{arith}
 use lib.ListN.{length}
 use borrow.Author.Needs.{needs}
-use Rattle.laws.specs.Lists.{gather}
+use Rattle.common_laws.specs.Lists.{gather}
 use Rattle.description.proofs.WriteLaws.{text-all, length-next, lines-fit, few-places}
-use Rattle.lines.proofs.WriteLaws.{item-fits}
-use Rattle.lines.specs.Writer.{itemText, itemsText}
-use Rattle.board_check.specs.Lines.{linesTo}
-use Rattle.board_layout.specs.Layout.{boardIn}
+use Rattle.description_lines.proofs.WriteLaws.{item-fits}
+use Rattle.description_lines.specs.Writer.{itemText, itemsText}
+use Rattle.description_check.specs.Lines.{linesTo}
+use Rattle.description_layout.specs.Layout.{boardIn}
 use Rattle.description.proofs.board_length.Statement.{statement}
 use Rattle.description.proofs.board_length.Tie as tie
 

@@ -4,13 +4,13 @@
 use Prim.Native.Nat.{_-_, _≤_}
 use native.Mathlib.Omega.{arith}
 use borrow.Author.Needs.{needs}
-use Rattle.laws.specs.Lists.{gather}
+use Rattle.common_laws.specs.Lists.{gather}
 use Rattle.description.proofs.WriteLaws.{text-all, room-next, put-next}
-use Rattle.lines.specs.Writer.{itemsText}
-use Rattle.board_check.specs.Lines.{linesTo}
-use Rattle.board_layout.specs.Layout.{boardIn}
-use Rattle.text.proofs.Puts.{put-none, put-length}
-use Rattle.text.specs.Scanning.{Put}
+use Rattle.description_lines.specs.Writer.{itemsText}
+use Rattle.description_check.specs.Lines.{linesTo}
+use Rattle.description_layout.specs.Layout.{boardIn}
+use Rattle.common_text.proofs.Puts.{put-none, put-length}
+use Rattle.common_text.specs.Scanning.{Put}
 use Rattle.description.proofs.put_board.Statement.{statement}
 use Rattle.description.proofs.put_board.Tie as tie
 

@@ -3,12 +3,12 @@
 use mathlib.Core.Path.{ap, _∙_}
 use native.Mathlib.Omega.{arith}
 use borrow.Author.Needs.{needs}
-use Rattle.board.specs.Rules.{step}
-use Rattle.board.specs.declared.Item.the-variants.{Malformed}
-use Rattle.board.specs.declared.Reading.{Reading}
+use Rattle.description_board.specs.Rules.{step}
+use Rattle.description_board.specs.declared.Item.the-variants.{Malformed}
+use Rattle.description_board.specs.declared.Reading.{Reading}
 use Rattle.description.proofs.BlameLaws.{comes-short, comes-long}
 use Rattle.description.specs.Reader.{mostBytes}
-use Rattle.readings.specs.Readings.{readingOf}
+use Rattle.description_rules.specs.Readings.{readingOf}
 use Rattle.description.proofs.read_bounded.Statement.{statement}
 use Rattle.description.proofs.read_bounded.Tie as tie
 

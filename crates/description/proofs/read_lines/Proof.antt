@@ -7,7 +7,7 @@ use native.Mathlib.Omega.{arith}
 use lib.ListN.{length}
 use borrow.Author.Needs.{needs}
 use Rattle.description.proofs.BlameLaws.{Counted, counted-none, counted-next, counted-refused, counted-end, whole-comes}
-use Rattle.readings.specs.Readings.{readingOf}
+use Rattle.description_rules.specs.Readings.{readingOf}
 use Rattle.description.proofs.read_lines.Statement.{statement}
 use Rattle.description.proofs.read_lines.Tie as tie
 

@@ -6,14 +6,14 @@ use Prim.Native.Nat.{ℕ, _≤_}
 use native.Mathlib.Omega.{arith}
 use lib.ListN.{length}
 use borrow.Author.Needs.{needs}
-use Rattle.board.specs.Items.{checkBoard}
-use Rattle.board.specs.declared.Board.{Board}
+use Rattle.description_board.specs.Items.{checkBoard}
+use Rattle.description_board.specs.declared.Board.{Board}
 use Rattle.description.proofs.Trip.{text-room}
 use Rattle.description.proofs.WriteLaws.{Writes, board-refused, room-refused, text-written}
 use Rattle.description.specs.Writer.{written, outputAfter}
 use Rattle.description.specs.Longest.{longest}
 use Rattle.description.specs.declared.Written.{Written}
-use Rattle.board_layout.specs.Layout.{boardIn}
+use Rattle.description_layout.specs.Layout.{boardIn}
 use Rattle.description.proofs.write.Statement.{statement}
 use Rattle.description.proofs.write.Tie as tie
 

@@ -5,8 +5,8 @@ use Prim.Native.Nat.{ℕ}
 use native.Mathlib.Omega.{arith}
 use borrow.Author.Needs.{needs}
 use lib.ListN.{take}
-use Rattle.board.specs.Records.{totalSpan, startOf, memoryLength}
-use Rattle.board_layout.specs.Layout.{boardIn}
+use Rattle.description_board.specs.Records.{totalSpan, startOf, memoryLength}
+use Rattle.description_layout.specs.Layout.{boardIn}
 use Rattle.fabric.proofs.ClockLaws.{by-board, by-memory, by-buffer, by-state}
 use Rattle.fabric.proofs.clock_refusal.Statement.{statement}
 use Rattle.fabric.proofs.clock_refusal.Tie as tie

@@ -4,10 +4,10 @@ use mathlib.Core.Path.{_≡_, sym, _∙_}
 use mathlib.Core.Bool.{true}
 use lib.ListN.{length}
 use borrow.Author.Needs.{needs}
-use Rattle.board.specs.Items.{checkBoard}
-use Rattle.board_layout.specs.Layout.{boardIn}
-use Rattle.moves.specs.Bytes.{bufferLength}
-use Rattle.state_layout.specs.Layout.{stateIn}
+use Rattle.description_board.specs.Items.{checkBoard}
+use Rattle.description_layout.specs.Layout.{boardIn}
+use Rattle.fabric_bytes.specs.Bytes.{bufferLength}
+use Rattle.fabric_layout.specs.Layout.{stateIn}
 use Rattle.fabric.specs.Calls.{postRefusal}
 use Rattle.fabric.proofs.PostLaws.{Taken, taken, some-part, words-fit, post-refused, post-taken}
 use Rattle.fabric.proofs.post.Statement.{statement}

@@ -7,13 +7,13 @@ use native.Mathlib.Omega.{arith}
 use lib.Dec.{leb}
 use borrow.Author.Tests.{eq-eqb, ne-eqb, le-leb, lt-leb, not-true, not-false}
 use borrow.Author.Needs.{needs}
-use Rattle.board.specs.Items.{checkBoard}
-use Rattle.board.proofs.Accepted.{accepted-legal}
-use Rattle.board_layout.specs.Layout.{boardIn}
-use Rattle.geometry.specs.declared.Transfer.{Transfer}
-use Rattle.state.specs.Records.{transferAt}
-use Rattle.state.specs.Soundness.{sound}
-use Rattle.state_layout.specs.Layout.{stateIn}
+use Rattle.description_board.specs.Items.{checkBoard}
+use Rattle.description_board.proofs.Accepted.{accepted-legal}
+use Rattle.description_layout.specs.Layout.{boardIn}
+use Rattle.fabric_accesses.specs.declared.Transfer.{Transfer}
+use Rattle.fabric_state.specs.Records.{transferAt}
+use Rattle.fabric_state.specs.Soundness.{sound}
+use Rattle.fabric_layout.specs.Layout.{stateIn}
 use Rattle.fabric.specs.Calls.{requestRefusal, refusalBy}
 use Rattle.fabric.proofs.PostLaws.{refusal-asked}
 use Rattle.fabric.proofs.post_refusal.Statement.{statement}

@@ -4,9 +4,9 @@ use mathlib.Core.Path.{_≡_, sym, _∙_}
 use native.Mathlib.Omega.{arith}
 use borrow.Author.Tests.{ne-eqb}
 use borrow.Author.Needs.{needs}
-use Rattle.board.proofs.Accepted.{accepted-legal}
-use Rattle.board_layout.specs.Layout.{boardIn}
-use Rattle.state.specs.Posting.{transferRefusal}
+use Rattle.description_board.proofs.Accepted.{accepted-legal}
+use Rattle.description_layout.specs.Layout.{boardIn}
+use Rattle.fabric_state.specs.Posting.{transferRefusal}
 use Rattle.fabric.specs.Calls.{requestRefusal}
 use Rattle.fabric.proofs.PostLaws.{words-wrong, words-right}
 use Rattle.fabric.proofs.request_refusal.Statement.{statement}

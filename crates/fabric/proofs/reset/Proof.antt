@@ -3,9 +3,9 @@
 use mathlib.Core.Path.{_≡_, sym, _∙_}
 use native.Mathlib.Omega.{arith}
 use borrow.Author.Needs.{needs}
-use Rattle.board.specs.Items.{checkBoard}
-use Rattle.board.proofs.Accepted.{accepted-legal}
-use Rattle.board_layout.specs.Layout.{boardIn}
+use Rattle.description_board.specs.Items.{checkBoard}
+use Rattle.description_board.proofs.Accepted.{accepted-legal}
+use Rattle.description_layout.specs.Layout.{boardIn}
 use Rattle.fabric.proofs.ResetLaws.{reset-taken, reset-refused}
 use Rattle.fabric.proofs.reset.Statement.{statement}
 use Rattle.fabric.proofs.reset.Tie as tie

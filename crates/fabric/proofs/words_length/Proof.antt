@@ -2,7 +2,7 @@
 -- Assumes nothing.
 use native.Mathlib.Omega.{arith}
 use borrow.Author.Needs.{needs}
-use Rattle.laws.proofs.Arithmetic.{product-le}
+use Rattle.common_laws.proofs.Arithmetic.{product-le}
 use Rattle.fabric.proofs.words_length.Statement.{statement}
 use Rattle.fabric.proofs.words_length.Tie as tie
 

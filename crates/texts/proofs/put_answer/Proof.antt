@@ -5,7 +5,7 @@ use Prim.Native.Nat.{ℕ, _≤_}
 use lib.ListN.{length}
 use native.Mathlib.Omega.{arith}
 use borrow.Author.Needs.{needs}
-use Rattle.text.proofs.Puts.{put-length}
+use Rattle.common_text.proofs.Puts.{put-length}
 use Rattle.texts.proofs.AnswerLaws.{line-short, part-written}
 use Rattle.texts.proofs.put_answer.Statement.{statement}
 use Rattle.texts.proofs.put_answer.Tie as tie

@@ -1,0 +1,260 @@
+// Bytes to fields and decimal numbers, and back.
+ghost use mathlib.Core.Path.{_≡_};
+ghost use mathlib.Core.List.{[], _∷_};
+ghost use Prim.Native.Nat.{_≤_, _<_, _+_};
+ghost use lib.ListN.{length};
+ghost use Rattle.common_laws.specs.Lists.{same};
+ghost use Rattle.common_text.specs.Fields.{comma, lineFeed, split, scan, numberOf, numbersOf, withNumber, noNumbers};
+ghost use Rattle.common_text.specs.Digits.{digits, fieldsText, lineText};
+ghost use Rattle.common_text.specs.Scanning.{behind, Cut, Put};
+
+// What a field spells.
+pub enum Number {
+    Malformed,
+    Value(u64),
+}
+
+// The numbers of a line's fields behind the first; none where a field is malformed or there are more than six.
+pub struct Numbers {
+    pub count: u8,
+    pub values: [u64; 6],
+}
+
+// The place of the first byte `b` of s, or the length of s where there is none: where the first piece of s ends.
+pub fn find_byte(s: &[u8], b: u8) -> usize
+    ensures { λ r. ⌜ Cut b (now (s .entry)) r ⌝ }
+{
+    let mut i = 0;
+    while i < s.len() {
+        if s[i] == b {
+            return i;
+        }
+        i += 1;
+    }
+    i
+}
+
+// Whether a and b hold the same bytes. The lengths go first, so that the loop can read both at one index.
+pub fn same_bytes(a: &[u8], b: &[u8]) -> bool
+    ensures { λ r. ⌜ r ≡ same (now (a .entry)) (now (b .entry)) ⌝ }
+{
+    if a.len() != b.len() {
+        return false;
+    }
+    let mut i = 0;
+    while i < a.len() {
+        if a[i] != b[i] {
+            return false;
+        }
+        i += 1;
+    }
+    true
+}
+
+// A byte as a wider number.
+fn wide(x: u8) -> u64
+    ensures { λ r. ⌜ r ≡ x ⌝ }
+{
+    x as u64
+}
+
+// The number that the digits spell. Ten digits are below 2 ^ 64, so the value cannot wrap.
+fn scan_digits(s: &[u8]) -> Number
+    requires { ⌜ length (now s) ≤ 10 ⌝ }
+    ensures { λ r. ⌜ r ≡ scan 0 (now (s .entry)) ⌝ }
+{
+    let mut value: u64 = 0;
+    let mut i: usize = 0;
+    while i < s.len() {
+        let c = s[i];
+        if c < 48 {
+            return Number::Malformed;
+        }
+        if 57 < c {
+            return Number::Malformed;
+        }
+        value = value * 10 + wide(c - 48);
+        i += 1;
+    }
+    Number::Value(value)
+}
+
+// The number that a whole field spells: 1 to 10 digits, with no leading zero except in 0 itself.
+pub fn parse_number(field: &[u8]) -> Number
+    ensures { λ r. ⌜ r ≡ numberOf (now (field .entry)) ⌝ }
+{
+    let n = field.len();
+    if n == 0 {
+        return Number::Malformed;
+    }
+    if 10 < n {
+        return Number::Malformed;
+    }
+    if n == 1 {
+        return scan_digits(field);
+    }
+    if field[0] == 48 {
+        return Number::Malformed;
+    }
+    scan_digits(field)
+}
+
+// No numbers: a line with no further field, and the answer for a malformed one.
+fn no_numbers() -> Numbers
+    ensures { λ r. ⌜ r ≡ noNumbers ⌝ }
+{
+    Numbers {
+        count: 0,
+        values: [0; 6],
+    }
+}
+
+// One number more, where there is a place for it.
+fn with_number(ns: Numbers, n: u64) -> Numbers
+    requires { ⌜ ns .count < 6 ⌝ }
+    ensures { λ r. ⌜ r ≡ withNumber ns n ⌝ }
+{
+    let mut values = ns.values;
+    let k = ns.count as usize;
+    values[k] = n;
+    Numbers {
+        count: ns.count + 1,
+        values: values,
+    }
+}
+
+// The numbers that the fields of a text spell. An empty text has one field, which is malformed.
+pub fn parse_numbers(fields: &[u8]) -> Numbers
+    ensures { λ r. ⌜ r ≡ numbersOf (split comma (now (fields .entry))) ⌝ }
+{
+    let mut ns = no_numbers();
+    let mut at: usize = 0;
+    loop {
+        let rest = &fields[at..];
+        let e = find_byte(rest, b',');
+        let n = parse_number(&rest[..e]);
+        if ns.count == 6 {
+            return no_numbers();
+        }
+        match n {
+            Number::Malformed => {
+                return no_numbers();
+            }
+            Number::Value(v) => {
+                ns = with_number(ns, v);
+            }
+        }
+        if e == rest.len() {
+            return ns;
+        }
+        at = at + e + 1;
+    }
+}
+
+// The numbers of the fields behind a line's first, which ends at `place`: none where the line ends there.
+pub fn numbers_behind(line: &[u8], place: usize) -> Numbers
+    ensures { λ r. ⌜ r ≡ numbersOf (behind comma (now (line .entry)) place) ⌝ }
+{
+    if place < line.len() {
+        let start = place + 1;
+        return parse_numbers(&line[start..]);
+    }
+    no_numbers()
+}
+
+// Writes s into out from `at` on; the answer is the place behind it.
+pub fn put_bytes(out: &mut [u8], at: usize, s: &[u8]) -> usize
+    requires { ⌜ at + length (now s) ≤ length (now out) ⌝ }
+    ensures { λ r. ⌜ Put (now (out .entry)) at (now (s .entry)) (now (out .exit)) r ⌝ }
+{
+    let mut i = 0;
+    while i < s.len() {
+        out[at + i] = s[i];
+        i += 1;
+    }
+    at + i
+}
+
+// Writes n in decimal. The digits before the last go first, so that no length has to be known.
+pub fn put_number(out: &mut [u8], at: usize, n: u64) -> usize
+    requires { ⌜ at + length (digits n) ≤ length (now out) ⌝ }
+    ensures { λ r. ⌜ Put (now (out .entry)) at (digits n) (now (out .exit)) r ⌝ }
+{
+    if n < 10 {
+        out[at] = (48 + n) as u8;
+        return at + 1;
+    }
+    let p = put_number(&mut *out, at, n / 10);
+    out[p] = (48 + n % 10) as u8;
+    p + 1
+}
+
+// Writes a comma and n in decimal.
+pub fn put_field(out: &mut [u8], at: usize, n: u64) -> usize
+    requires { ⌜ at + (1 + length (digits n)) ≤ length (now out) ⌝ }
+    ensures { λ r. ⌜ Put (now (out .entry)) at (comma ∷ digits n) (now (out .exit)) r ⌝ }
+{
+    out[at] = b',';
+    let next = at + 1;
+    put_number(&mut *out, next, n)
+}
+
+// Writes a comma and a number, for each number.
+pub fn put_fields(out: &mut [u8], at: usize, numbers: &[u64]) -> usize
+    requires { ⌜ at + length (fieldsText (now numbers)) ≤ length (now out) ⌝ }
+    ensures { λ r. ⌜ Put (now (out .entry)) at (fieldsText (now (numbers .entry))) (now (out .exit)) r ⌝ }
+{
+    let mut next = at;
+    let mut i = 0;
+    while i < numbers.len() {
+        next = put_field(&mut *out, next, numbers[i]);
+        i += 1;
+    }
+    next
+}
+
+// Writes the line feed that ends a line.
+pub fn put_end(out: &mut [u8], at: usize) -> usize
+    requires { ⌜ at + 1 ≤ length (now out) ⌝ }
+    ensures { λ r. ⌜ Put (now (out .entry)) at (lineFeed ∷ []) (now (out .exit)) r ⌝ }
+{
+    out[at] = b'\n';
+    at + 1
+}
+
+// Writes a line: its first field, its numbers, the line feed.
+pub fn put_line(out: &mut [u8], at: usize, word: &[u8], numbers: &[u64]) -> usize
+    requires { ⌜ at + length (lineText (now word) (now numbers)) ≤ length (now out) ⌝ }
+    ensures { λ r. ⌜ Put (now (out .entry)) at (lineText (now (word .entry)) (now (numbers .entry))) (now (out .exit)) r ⌝ }
+{
+    let a = put_bytes(&mut *out, at, word);
+    let b = put_fields(&mut *out, a, numbers);
+    put_end(&mut *out, b)
+}
+
+// How many bytes n takes in decimal, so that a writer knows a text's length before it writes.
+pub fn digit_count(n: u64) -> usize
+    ensures { λ r. ⌜ r ≡ length (digits n) ⌝ }
+{
+    let mut count: usize = 1;
+    let mut m = n;
+    while 10 <= m {
+        m = m / 10;
+        count += 1;
+    }
+    count
+}
+
+// How many bytes the fields of a line's numbers take. A line has at most six numbers, so that the sum cannot wrap.
+pub fn fields_length(numbers: &[u64]) -> usize
+    requires { ⌜ length (now numbers) ≤ 6 ⌝ }
+    ensures { λ r. ⌜ r ≡ length (fieldsText (now (numbers .entry))) ⌝ }
+{
+    let mut sum: usize = 0;
+    let mut i = 0;
+    while i < numbers.len() {
+        sum += 1 + digit_count(numbers[i]);
+        i += 1;
+    }
+    sum
+}

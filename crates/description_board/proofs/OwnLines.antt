@@ -1,0 +1,143 @@
+-- A board's own lines, read: as long as none is refused, the board so far has the board's own entries.
+-- Assumes nothing.
+use mathlib.Core.Path.{_≡_, refl, sym, _∙_}
+use mathlib.Core.Bool.{or-true, or-false}
+use mathlib.Core.List.{List, [], _∷_, _++_}
+use mathlib.Core.Logic.{_≢_}
+use Prim.Native.Nat.{ℕ, zero, suc, _+_, _*_, _/_, _%_, _<_}
+use native.Mathlib.Decide.{ℕ-discrete}
+use native.Mathlib.Numerals.{add-one}
+use native.Mathlib.Omega.{arith}
+use lib.Dec.{ltb}
+use lib.ListN.{getD}
+use borrow.Author.Tests.{ne-eqb, lt-ltb}
+use Rattle.common_laws.specs.Lists.{gather, table, some}
+use Rattle.common_laws.proofs.FrontLaws.{front, front-none, front-next, front-skip, front-all}
+use Rattle.description_board.specs.declared.Board.{Board}
+use Rattle.description_board.specs.declared.Item.{Item}
+use Rattle.description_board.specs.declared.Item.the-variants.{ShareLine}
+use Rattle.description_board.specs.declared.Reading.{Reading}
+use Rattle.description_board.specs.Records.{noMaster, noSlave, noBoard, masterAt, slaveAt}
+use Rattle.description_board.specs.Rules.{itemRefusal, withItem, withMaster, withSlave, withShare, isShare}
+use Rattle.description_board.specs.Rules.{refused, start, taken, step, run}
+use Rattle.description_board.specs.Items.{masterItem, slaveItem, shareItem, items}
+use Rattle.description_board.specs.Rebuilt.{trimmed, shared}
+use Rattle.description_board.proofs.RuleLaws.{master-taken, slave-taken}
+use Rattle.description_board.proofs.RunLaws.{step-taken, run-append}
+
+-- what has been read after b's first m masters, its first s slaves and the first k places of its shares
+unfoldable pub readTo : Board → ℕ → ℕ → ℕ → Reading
+readTo b m s k = record {
+  number = 0;
+  sharing = some (λ i. ltb 0 (getD (b .shares) i 0)) k;
+  board = record {
+    «master_count» = m;
+    «slave_count» = s;
+    masters = front (masterAt b) noMaster 8 m;
+    slaves = front (slaveAt b) noSlave 16 s;
+    shares = front (λ i. getD (b .shares) i 0) 0 128 k;
+  };
+}
+
+-- the line at place k of the shares, where the pair is connected
+abbrev pub shareLine : Board → ℕ → Item
+shareLine b k = ShareLine (k / 16) (k % 16) (getD (b .shares) k 0)
+
+share-line : (b : Board) (k : ℕ) → getD (b .shares) k 0 ≢ 0 → shareItem (b .shares) k ≡ shareLine b k ∷ []
+unfolding shareItem
+share-line b k z = rw (ne-eqb _ _ z)
+
+module _ (b : Board) where
+  pub read-none : start ≡ readTo b 0 0 0
+  unfolding start refused noBoard readTo some
+  read-none =
+      rw (front-none (masterAt b) noMaster 8, front-none (slaveAt b) noSlave 16, front-none (λ i. getD (b .shares) i 0) 0 128)
+
+  -- at the end: the board, trimmed
+  pub read-all : readTo b (b .«master_count») (b .«slave_count») 128 ≡ record { number = 0; sharing = shared b; board = trimmed b }
+  unfolding readTo shared trimmed front
+  read-all = rw (← front-all (λ i. getD (b .shares) i 0) 0 128)
+
+  -- one line more
+  pub read-master : (m : ℕ) → itemRefusal (readTo b m 0 0) (masterItem (b .masters) m) ≡ 0
+      → step (readTo b m 0 0) (masterItem (b .masters) m) ≡ readTo b (suc m) 0 0
+  unfolding readTo masterItem itemRefusal taken withItem withMaster isShare some
+  read-master m e =
+      let l : m < 8 = master-taken _ _ _ e .room in
+      sym (step-taken _ _ refl refl e) ∙ rw (front-next (masterAt b) noMaster 8 m l, add-one m)
+
+  pub read-slave : (m s : ℕ) → itemRefusal (readTo b m s 0) (slaveItem (b .slaves) s) ≡ 0
+      → step (readTo b m s 0) (slaveItem (b .slaves) s) ≡ readTo b m (suc s) 0
+  unfolding readTo slaveItem itemRefusal taken withItem withSlave isShare some
+  read-slave m s e =
+      let l : s < 16 = slave-taken _ _ _ e .room in
+      sym (step-taken _ _ refl refl e) ∙ rw (front-next (slaveAt b) noSlave 16 s l, add-one s)
+
+  -- one place of the shares more
+  module _ (m s k : ℕ) (h : k < 128) where
+    read-zero : getD (b .shares) k 0 ≡ 0 → run (readTo b m s k) (shareItem (b .shares) k) ≡ readTo b m s (suc k)
+    unfolding run shareItem readTo some
+    read-zero z = rw (z, front-skip (λ i. getD (b .shares) i 0) 0 128 k h z, add-one k, or-false)
+
+    read-share : getD (b .shares) k 0 ≢ 0 → itemRefusal (readTo b m s k) (shareLine b k) ≡ 0
+        → run (readTo b m s k) (shareItem (b .shares) k) ≡ readTo b m s (suc k)
+    unfolding run readTo some taken withItem withShare isShare
+    read-share z e =
+        let i : 16 * (k / 16) + k % 16 ≡ k = omega arith in
+        rw (share-line b k z)
+        (sym (step-taken _ _ refl refl e)
+        ∙ rw (i, front-next (λ i. getD (b .shares) i 0) 0 128 k h, add-one k, lt-ltb 0 (getD (b .shares) k 0) (omega arith), or-true))
+
+-- lines that lead from one reading to another, and a line that is not refused, where E tells that none was refused
+record Leads (E : Reading → Type 0) (o : Reading) (xs : List Item) (p : Reading) : Type 0 where
+  on : E (run o xs) → run o xs ≡ p
+
+abbrev pub Clear : (Reading → Type 0) → Reading → Item → Type 0
+Clear E r x = E (step r x) → itemRefusal r x ≡ 0
+
+module _ (E : Reading → Type 0) (back : (r : Reading) (xs : List Item) → E (run r xs) → E r) where
+  leads-on : {o p q : Reading} {xs ys : List Item} → Leads E o xs p → Leads E p ys q → Leads E o (xs ++ ys) q
+  leads-on {o} {p} {q} {xs} {ys} f g = record { on = go }
+    where
+      go : E (run o (xs ++ ys)) → run o (xs ++ ys) ≡ q
+      go e =
+          let a : E (run (run o xs) ys) = rw run-append at e in
+          let w : run o xs ≡ p = f .on (back (run o xs) ys a) in
+          rw (run-append, w) (g .on (rw w at a))
+
+  walk : (f : ℕ → List Item) (at : ℕ → Reading) (n : ℕ) → ((i : ℕ) → i < n → Leads E (at i) (f i) (at (suc i)))
+      → Leads E (at 0) (gather f n) (at n)
+  unfolding run gather
+  walk f at zero h = record { on = λ e. refl }
+  walk f at (suc n) h = leads-on (walk f at n (λ i l. h i (omega arith))) (h n (omega arith))
+
+  -- the lines of a board, each not refused
+  module _ (b : Board) where
+    read-place : (m s k : ℕ) → k < 128 → (getD (b .shares) k 0 ≢ 0 → Clear E (readTo b m s k) (shareLine b k))
+        → Leads E (readTo b m s k) (shareItem (b .shares) k) (readTo b m s (suc k))
+    unfolding run
+    read-place m s k l h = record { on = go (ℕ-discrete (getD (b .shares) k 0) 0) }
+      where
+        go : Dec (getD (b .shares) k 0 ≡ 0) → E (run (readTo b m s k) (shareItem (b .shares) k))
+            → run (readTo b m s k) (shareItem (b .shares) k) ≡ readTo b m s (suc k)
+        go (yes z) e = read-zero b m s k l z
+        go (no z) e = read-share b m s k l z (h z (rw (share-line b k z) at e))
+
+    pub read-items : ((m : ℕ) → m < b .«master_count» → Clear E (readTo b m 0 0) (masterItem (b .masters) m))
+        → ((s : ℕ) → s < b .«slave_count» → Clear E (readTo b (b .«master_count») s 0) (slaveItem (b .slaves) s))
+        → ((k : ℕ) → k < 128 → getD (b .shares) k 0 ≢ 0
+        → Clear E (readTo b (b .«master_count») (b .«slave_count») k) (shareLine b k))
+        → E (run start (items b)) → run start (items b) ≡ record { number = 0; sharing = shared b; board = trimmed b }
+    unfolding items table run
+    read-items f g h =
+        let mc = b .«master_count» in
+        let sc = b .«slave_count» in
+        rw (read-none b, ← read-all b)
+        (leads-on
+        (walk (λ m. masterItem (b .masters) m ∷ []) (λ m. readTo b m 0 0) mc
+        (λ m l. record { on = λ e. read-master b m (f m l e) }))
+        (leads-on
+        (walk (λ s. slaveItem (b .slaves) s ∷ []) (λ s. readTo b mc s 0) sc
+        (λ s l. record { on = λ e. read-slave b mc s (g s l e) }))
+        (walk (shareItem (b .shares)) (λ k. readTo b mc sc k) 128 (λ k l. read-place mc sc k l (h k l))))
+        .on)

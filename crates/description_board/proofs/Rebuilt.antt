@@ -1,0 +1,81 @@
+-- A board's own lines, read again: an accepted board comes back with zeros behind its counts, and the board that some lines
+-- describe comes back as it is.
+-- Assumes nothing.
+use mathlib.Core.Path.{_≡_, refl, ap, _∙_}
+use mathlib.Core.Bool.{Bool, true, false, cond}
+use mathlib.Core.List.{List, [], _∷_}
+use Prim.Native.Nat.{ℕ, _+_, _/_, _%_, _≤_}
+use native.Mathlib.Omega.{arith}
+use lib.Dec.{eqb}
+use lib.ListN.{length, getD, length-append}
+use Rattle.common_laws.proofs.FrontLaws.{gather-same, table-same, length-gather, front, front-is, front-all}
+use Rattle.common_laws.proofs.TableLaws.{length-table}
+use Rattle.description_board.specs.declared.Board.{Board}
+use Rattle.description_board.specs.declared.Item.{Item}
+use Rattle.description_board.specs.declared.Item.the-variants.{ShareLine}
+use Rattle.description_board.specs.declared.Reading.{Reading}
+use Rattle.description_board.specs.Records.{noMaster, noSlave, masterAt, slaveAt}
+use Rattle.description_board.specs.Rules.{described}
+use Rattle.description_board.specs.Items.{masterItem, slaveItem, shareItem, items, checkBoard}
+use Rattle.description_board.specs.Rebuilt.{trimmed, shared}
+use Rattle.description_board.proofs.Sound.{Sound, described-sound, described-legal}
+use Rattle.description_board.proofs.Accepted.{trimmed-master, trimmed-slave, trimmed-share, accepted-legal, legal-described, legal-accepted}
+
+module _ (b : Board) (e : checkBoard b ≡ 0) where
+  pub rebuilt : described (items b) ≡ record { number = 0; sharing = shared b; board = trimmed b }
+  rebuilt = legal-described b (accepted-legal b e)
+
+  -- the trimmed board has the same lines
+  pub items-trimmed : items (trimmed b) ≡ items b
+  unfolding items trimmed masterItem slaveItem shareItem
+  items-trimmed =
+      let k = accepted-legal b e in
+      rw (
+        table-same (masterItem (trimmed b .masters)) (masterItem (b .masters)) (b .«master_count»)
+            (λ m l. rw (trimmed-master b (k .fewMasters) m l)),
+        table-same (slaveItem (trimmed b .slaves)) (slaveItem (b .slaves)) (b .«slave_count»)
+            (λ s l. rw (trimmed-slave b (k .fewSlaves) s l)),
+        gather-same (shareItem (trimmed b .shares)) (shareItem (b .shares)) 128 (λ i l. rw (trimmed-share b i l)),
+      )
+
+  pub trimmed-check : checkBoard (trimmed b) ≡ 0
+  unfolding checkBoard
+  trimmed-check = ap (λ (l : List Item). described l .number) items-trimmed ∙ e
+
+-- a board with zeros behind its counts
+trimmed-sound : (b : Board) → Sound b → trimmed b ≡ b
+unfolding trimmed front
+trimmed-sound b k =
+    rw (
+      ← front-is (masterAt b) noMaster 8 (b .masters) (b .«master_count») (k .masterPlaces) (λ m l h. refl) (λ m l h. k .masterEnd m l),
+      ← front-is (slaveAt b) noSlave 16 (b .slaves) (b .«slave_count») (k .slavePlaces) (λ s l h. refl) (λ s l h. k .slaveEnd s l),
+      ← front-all (λ i. getD (b .shares) i 0) 0 128,
+      ← front-is (λ i. getD (b .shares) i 0) 0 128 (b .shares) 128 (k .sharePlaces) (λ i l h. refl) (λ i l h. absurd (omega arith)),
+    )
+
+-- lines that are not refused: the check accepts their board, and its own lines describe it again
+module _ (xs : List Item) (e : described xs .number ≡ 0) where
+  pub described-accepted : checkBoard (described xs .board) ≡ 0
+  described-accepted = legal-accepted _ (described-legal xs e)
+
+  pub described-trimmed : trimmed (described xs .board) ≡ described xs .board
+  described-trimmed = trimmed-sound _ (described-sound xs e)
+
+  pub described-again : described (items (described xs .board)) .board ≡ described xs .board
+  described-again = ap (λ (r : Reading). r .board) (rebuilt _ described-accepted) ∙ described-trimmed
+
+-- the number of the writer's lines
+share-one : (shares : List ℕ) (i : ℕ) → length (shareItem shares i) ≤ 1
+unfolding shareItem
+share-one shares i = go (eqb (getD shares i 0) 0)
+  where
+    go : (c : Bool) → length (cond c [] (ShareLine (i / 16) (i % 16) (getD shares i 0) ∷ [])) ≤ 1
+    go true = omega arith
+    go false = omega arith
+
+pub length-items : (b : Board) → checkBoard b ≡ 0 → length (items b) ≤ 8 + 16 + 128
+unfolding items
+length-items b e =
+    let k = accepted-legal b e in
+    simp (length-append, length-table)
+    (omega (arith, length-gather (shareItem (b .shares)) 128 (share-one (b .shares)), k .fewMasters, k .fewSlaves))

@@ -1,0 +1,43 @@
+-- The legal boards: those whose description is not refused. `accepted-legal` and `legal-accepted` prove that the check accepts
+-- exactly these.
+-- Assumes nothing.
+use mathlib.Core.Path.{_≡_}
+use mathlib.Core.Bool.{true, false}
+use mathlib.Core.Logic.{_≢_}
+use Prim.Native.Nat.{ℕ, _/_, _%_, _≤_, _<_}
+use lib.ListN.{getD}
+use Rattle.common_laws.specs.Lists.{member}
+use Rattle.description_board.specs.declared.Master.{Master}
+use Rattle.description_board.specs.declared.Slave.{Slave}
+use Rattle.description_board.specs.declared.Board.{Board}
+use Rattle.description_board.specs.Records.{masterAt, slaveAt, memoryLength}
+use Rattle.description_board.specs.Rules.{widths, bursts, spans, meets}
+
+-- a master whose values are in their lists
+pub record LegalMaster (m : Master) : Type 0 where
+  pub width : member (m .width) widths ≡ true
+  pub burst : member (m .burst) bursts ≡ true
+
+-- a slave whose values are in their lists and ranges, with its base on a multiple of its span
+pub record LegalSlave (s : Slave) : Type 0 where
+  pub base : s .base ≤ 4294967295
+  pub span : member (s .span) spans ≡ true
+  pub width : member (s .width) widths ≡ true
+  pub burst : member (s .burst) bursts ≡ true
+  pub readWait : s .«read_wait» ≤ 255
+  pub writeWait : s .«write_wait» ≤ 255
+  pub aligned : s .base % s .span ≡ 0
+
+-- 1 to 8 masters and 1 to 16 slaves, each legal; no address in two spans; spans of at most 65,536 together; no share over 100,
+-- and none outside the counts
+pub record Legal (b : Board) : Type 0 where
+  pub someMaster : 0 < b .«master_count»
+  pub fewMasters : b .«master_count» ≤ 8
+  pub someSlave : 0 < b .«slave_count»
+  pub fewSlaves : b .«slave_count» ≤ 16
+  pub master : (m : ℕ) → m < b .«master_count» → LegalMaster (masterAt b m)
+  pub slave : (s : ℕ) → s < b .«slave_count» → LegalSlave (slaveAt b s)
+  pub apart : (s k : ℕ) → s < k → k < b .«slave_count» → meets (slaveAt b k .base) (slaveAt b k .span) (slaveAt b s) ≡ false
+  pub total : memoryLength b ≤ 65536
+  pub shares : (i : ℕ) → i < 128 → getD (b .shares) i 0 ≢ 0
+      → (getD (b .shares) i 0 ≤ 100) × (i / 16 < b .«master_count») × (i % 16 < b .«slave_count»)

@@ -1,0 +1,222 @@
+-- The tests of the fast accept, and what they say together: the board is legal.
+-- Assumes nothing.
+use mathlib.Core.Path.{_≡_, refl, sym, _∙_}
+use mathlib.Core.List.{List}
+use mathlib.Core.Bool.{Bool, true, false, cond, not, _&&_, _||_}
+use mathlib.Core.Logic.{_≢_}
+use Prim.Native.Nat.{ℕ, _+_, _-_, _*_, _/_, _%_, _^_, _≤_, _<_}
+use native.Mathlib.Nat.{div-add-mod', mod-lt}
+use native.Mathlib.Numerals.{add-one}
+use native.Mathlib.Omega.{arith}
+use lib.Bits.{bitAnd, bitOr, and-mask, and-le-l, and-le-r, or-add-and}
+use lib.Dec.{leb, ltb, eqb}
+use lib.ListN.{getD, take}
+use borrow.Author.Count.{below-none, below-more}
+use borrow.Author.Tests.{eqb-true, leb-true, ltb-true, ltb-false, le-ltb, le-leb, not-false}
+use Rattle.common_laws.specs.Lists.{member, agree}
+use Rattle.common_laws.proofs.Finite.{each, agree-eq}
+use Rattle.common_laws.proofs.Tests.{both, neither}
+use Rattle.description_board.specs.declared.Master.{Master}
+use Rattle.description_board.specs.declared.Slave.{Slave}
+use Rattle.description_board.specs.declared.Board.{Board}
+use Rattle.description_board.specs.Records.{noMaster, noSlave, totalSpan, startOf, memoryLength}
+use Rattle.description_board.specs.Rules.{widths, bursts, spans, slaveValues, meets, overlaps}
+use Rattle.description_board.specs.Items.{checkBoard}
+use Rattle.description_board.proofs.RuleLaws.{width-bound, burst-bound}
+use Rattle.description_board.proofs.SpanLaws.{apart-at, total-suc}
+use Rattle.description_board.proofs.Sound.{values-legal}
+use Rattle.description_board.proofs.Accepted.{legal-accepted}
+use Rattle.description_check.specs.Accept.{MastersFit, SlaveFits, Clear, SlavesFit}
+use Rattle.description_check.specs.Accept.{shareLimit, RowFits, RowEmpty, RowPasses, SharesFit}
+use Rattle.description_check.proofs.PowerLaws.{one-bit, listed-is}
+
+-- up to the largest of the list, one bit set
+pub width-is : (x low : ℕ) → low ≡ x - 1 → (leb x 8 && (ltb 0 x && eqb (bitAnd x low) 0)) ≡ member x widths
+unfolding member
+width-is x low e = rw e (listed-is widths 8 (λ n h. width-bound n h .1) tt x)
+
+pub burst-is : (x low : ℕ) → low ≡ x - 1 → (leb x 64 && (ltb 0 x && eqb (bitAnd x low) 0)) ≡ member x bursts
+unfolding member
+burst-is x low e = rw e (listed-is bursts 64 (λ n h. burst-bound n h .1) tt x)
+
+-- a span with one bit set, and a base that has none of the bits below it
+span-is : (j : ℕ) → j < 17 → leb 8 (2 ^ j) ≡ member (2 ^ j) spans
+unfolding member
+span-is j h = agree-eq _ _ (each (λ k. agree (leb 8 (2 ^ k)) (member (2 ^ k) spans)) 17 tt j h)
+
+pub span-tested : (base span low : ℕ) → low ≡ span - 1
+    → ((eqb (bitAnd span low) 0 && eqb (bitAnd base low) 0) && (leb 8 span && leb span 65536)) ≡ true
+    → (member span spans ≡ true) × (base % span ≡ 0)
+span-tested base span low l e =
+    let e1 = both (eqb (bitAnd span (span - 1)) 0 && eqb (bitAnd base (span - 1)) 0) _ (rw l at e) in
+    let e2 = both (eqb (bitAnd span (span - 1)) 0) _ (e1 .0) in
+    let e3 = both (leb 8 span) _ (e1 .1) in
+    let least : 8 ≤ span = leb-true _ _ (e3 .0) in
+    let most : span ≤ 65536 = leb-true _ _ (e3 .1) in
+    let p = one-bit 17 span (omega arith) (omega arith) (eqb-true _ _ (e2 .0)) in
+    let low : bitAnd base (2 ^ p .0 - 1) ≡ 0 = rw (p .2) at (eqb-true (bitAnd base (span - 1)) 0 (e2 .1)) in
+    let listed : leb 8 (2 ^ p .0) ≡ true = rw (p .2) at (e3 .0) in
+    (rw (p .2) (sym (span-is (p .0) (p .1)) ∙ listed), rw (p .2) (sym (and-mask base (p .0)) ∙ low))
+
+-- a share within the limit is 0, or at most 100 and inside the count
+limited : (x n s : ℕ) → x ≤ shareLimit s n → x ≢ 0 → (x ≤ 100) × (s < n)
+unfolding shareLimit
+limited x n s = go (ltb s n) refl
+  where
+    go : (b : Bool) → ltb s n ≡ b → x ≤ cond b 100 0 → x ≢ 0 → (x ≤ 100) × (s < n)
+    go true e h z = (h, ltb-true s n e)
+    go false e h z = absurd (z (omega arith))
+
+-- no bit in an OR: none in either part
+or-none : (a b : ℕ) → bitOr a b ≡ 0 → (a ≡ 0) × (b ≡ 0)
+or-none a b e = (omega (arith, or-add-and a b, and-le-r a b), omega (arith, or-add-and a b, and-le-l a b))
+
+-- one share more of a row
+pub row-next : (shares : List ℕ) (m n s : ℕ) (bad : Bool) (x most : ℕ) → x ≡ getD shares (16 * m + s) 0 → most ≡ shareLimit s n
+    → (bad ≡ false → RowFits shares m n s) → (bad || ltb most x) ≡ false → RowFits shares m n (s + 1)
+row-next shares m n s bad x most e l f q =
+    let p = neither bad _ q in
+    let w : x ≤ shareLimit s n = rw l at (ltb-false most x (p .1)) in
+    record { each = below-more _ s (f (p .0) .each) (rw e at (limited x n s w)) }
+
+pub row-empty-next : (shares : List ℕ) (m s used x : ℕ) → x ≡ getD shares (16 * m + s) 0
+    → (used ≡ 0 → RowEmpty shares m s) → bitOr used x ≡ 0 → RowEmpty shares m (s + 1)
+row-empty-next shares m s used x e f q =
+    let p = or-none used x q in
+    record { each = below-more _ s (f (p .0) .each) (sym e ∙ p .1) }
+
+pub row-inside : (shares : List ℕ) (m masters slaves : ℕ) → m < masters → RowFits shares m slaves 16
+    → RowPasses shares m masters slaves
+row-inside shares m masters slaves h r = record { each = λ s l z. let p = r .each s l z in (p .0, h, p .1) }
+
+pub row-outside : (shares : List ℕ) (m masters slaves : ℕ) → RowEmpty shares m 16 → RowPasses shares m masters slaves
+row-outside shares m masters slaves r = record { each = λ s l z. absurd (z (r .each s l)) }
+
+-- row by row, so share by share
+all-shares : (shares : List ℕ) (masters slaves : ℕ) → SharesFit shares masters slaves 8 → (i : ℕ) → i < 128 → getD shares i 0 ≢ 0
+    → (getD shares i 0 ≤ 100) × (i / 16 < masters) × (i % 16 < slaves)
+all-shares shares masters slaves f i h =
+    let m = i / 16 in
+    let s = i % 16 in
+    let e : i ≡ 16 * m + s = omega (arith, div-add-mod' i 16) in
+    let l : m < 8 = omega (arith, div-add-mod' i 16) in
+    let t : s < 16 = mod-lt i (omega arith) in
+    λ z. let p = f .row m l .each s t (rw (← e) z) in
+    (rw (← e) at (p .0), p .1, p .2)
+
+-- one master more
+pub master-next : (masters : List Master) (i : ℕ) (m : Master) (width burst : Bool) → m ≡ getD masters i noMaster
+    → width ≡ member (m .width) widths → burst ≡ member (m .burst) bursts → not (width && burst) ≡ false
+    → MastersFit masters i → MastersFit masters (i + 1)
+master-next masters i m width burst e w u t f =
+    let p = both width burst (not-false _ t) in
+    let q : (member (m .width) widths ≡ true) × (member (m .burst) bursts ≡ true) = (sym w ∙ p .0, sym u ∙ p .1) in
+    record { each = below-more _ i (f .each) (rw e at q) }
+
+-- a slave that passes every test
+pub slave-passed : (s : Slave) (span width burst : Bool) → s .base ≤ 4294967295
+    → (span ≡ true → (member (s .span) spans ≡ true) × (s .base % s .span ≡ 0)) → width ≡ member (s .width) widths
+    → burst ≡ member (s .burst) bursts
+    → (span && ((width && burst) && (leb (s .«read_wait») 255 && leb (s .«write_wait») 255))) ≡ true → SlaveFits s
+unfolding slaveValues
+slave-passed s span width burst base f w u e =
+    let e1 = both span _ e in
+    let e2 = both (width && burst) _ (e1 .1) in
+    let e3 = both width burst (e2 .0) in
+    let e4 = both (leb (s .«read_wait») 255) _ (e2 .1) in
+    let p = f (e1 .0) in
+    record {
+      values = rw (le-leb _ _ base, p .0, sym w ∙ e3 .0, sym u ∙ e3 .1, e4 .0, e4 .1);
+      aligned = p .1;
+    }
+
+-- a span from the last end on meets none, and one that overlaps none
+pub clear-behind : (base span last : ℕ) (slaves : List Slave) (n : ℕ)
+    → ((k : ℕ) → k < n → getD slaves k noSlave .base + getD slaves k noSlave .span ≤ last) → last ≤ base → Clear base span
+    slaves n
+unfolding meets
+clear-behind base span last slaves n f h = record {
+  each = λ k l. let w : getD slaves k noSlave .base + getD slaves k noSlave .span ≤ base = omega (arith, f k l) in
+      rw (le-ltb base _ w);
+}
+
+pub clear-apart : (base span : ℕ) (slaves : List Slave) (n : ℕ) → overlaps base span (take n slaves) ≡ false → Clear base span
+    slaves n
+clear-apart base span slaves n e = record { each = apart-at base span n slaves e }
+
+-- the first i slaves: what is known of each, and what the last end and the total keep of them
+pub record Passed (slaves : List Slave) (k : ℕ) : Type 0 where
+  pub fits : SlaveFits (getD slaves k noSlave)
+  pub apart : (j : ℕ) → j < k
+      → meets (getD slaves k noSlave .base) (getD slaves k noSlave .span) (getD slaves j noSlave) ≡ false
+
+pub record SoFar (slaves : List Slave) (last total i : ℕ) : Type 0 where
+  pub passed : (k : ℕ) → k < i → Passed slaves k
+  pub before : (k : ℕ) → k < i → getD slaves k noSlave .base + getD slaves k noSlave .span ≤ last
+  pub sum : total ≡ totalSpan (take i slaves)
+  pub small : total ≤ 4294967295 * i
+
+pub so-far-start : (slaves : List Slave) → SoFar slaves 0 0 0
+unfolding totalSpan
+so-far-start slaves = record { passed = below-none _; before = below-none _; sum = refl; small = omega arith }
+
+-- one slave more
+record Next (slaves : List Slave) (last total i r : ℕ) (s : Slave) : Type 0 where
+  fits : SlaveFits s
+  narrow : s .span ≤ 4294967295
+  clear : Clear (s .base) (s .span) slaves i
+  behind : (last ≤ r) × (s .base + s .span ≤ r)
+
+next : (slaves : List Slave) (last total i r : ℕ) → SoFar slaves last total i → Next slaves last total i r (getD slaves i noSlave)
+    → SoFar slaves r (total + getD slaves i noSlave .span) (i + 1)
+next slaves last total i r p q = record {
+  passed = below-more _ i (p .passed) (record { fits = q .fits; apart = q .clear .each });
+  before = below-more _ i (λ k h. omega (arith, p .before k h, q .behind .0)) (q .behind .1);
+  sum = rw (add-one i, total-suc slaves i) (omega (arith, p .sum));
+  small = omega (arith, p .small, q .narrow);
+}
+
+pub so-far-next : (slaves : List Slave) (last total i r : ℕ) (s : Slave) → s ≡ getD slaves i noSlave → SoFar slaves last total i
+    → SlaveFits s → s .span ≤ 4294967295 → Clear (s .base) (s .span) slaves i → (last ≤ r) × (s .base + s .span ≤ r)
+    → SoFar slaves r (total + s .span) (i + 1)
+so-far-next slaves last total i r s e p f w cl m =
+    let q : Next slaves last total i r s = record { fits = f; narrow = w; clear = cl; behind = m } in
+    rw e (next slaves last total i r p (rw e at q))
+
+pub so-far-end : (slaves : List Slave) (last total i n : ℕ) → SoFar slaves last total i → i ≡ n → total ≤ 65536 → SlavesFit
+    slaves n
+so-far-end slaves last total i n p e l = rw (← e) (record {
+  each = λ k h. p .passed k h .fits;
+  apart = λ j k g h. p .passed k h .apart j g;
+  total = omega (arith, p .sum);
+})
+
+-- a count that passes
+pub counted : (n most : ℕ) → (ltb n 1 || ltb most n) ≡ false → (0 < n) × (n ≤ most)
+counted n most e =
+    let p = neither (ltb n 1) _ e in
+    (ltb-false _ _ (p .0), ltb-false _ _ (p .1))
+
+-- a board whose parts pass is accepted
+parts-legal : (b : Board)
+    → (0 < b .«master_count») × (b .«master_count» ≤ 8) → (0 < b .«slave_count») × (b .«slave_count» ≤ 16)
+    → MastersFit (b .masters) (b .«master_count») → SlavesFit (b .slaves) (b .«slave_count»)
+    → SharesFit (b .shares) (b .«master_count») (b .«slave_count») 8 → checkBoard b ≡ 0
+unfolding memoryLength startOf
+parts-legal b m s masters slaves shares = legal-accepted b (record {
+  someMaster = m .0;
+  fewMasters = m .1;
+  someSlave = s .0;
+  fewSlaves = s .1;
+  master = λ k h. let p = masters .each k h in record { width = p .0; burst = p .1 };
+  slave = λ k h. let f = slaves .each k h in values-legal _ (f .values) (f .aligned);
+  apart = slaves .apart;
+  total = slaves .total;
+  shares = all-shares (b .shares) (b .«master_count») (b .«slave_count») shares;
+})
+
+-- the same, by counts that were read
+pub parts-accepted : (b : Board) (m s : ℕ) → m ≡ b .«master_count» → s ≡ b .«slave_count» → (0 < m) × (m ≤ 8) → (0 < s) × (s ≤ 16)
+    → MastersFit (b .masters) m → SlavesFit (b .slaves) s → SharesFit (b .shares) m s 8 → checkBoard b ≡ 0
+parts-accepted b m s e f hm hs masters slaves shares =
+    parts-legal b (rw e at hm) (rw f at hs) (rw e at masters) (rw f at slaves) (rw (e, f) at shares)

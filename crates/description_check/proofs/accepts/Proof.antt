@@ -1,0 +1,71 @@
+-- `board_check::accepts` meets its contract. What the tests say together makes the board legal, and a legal board is accepted.
+-- Assumes nothing.
+use mathlib.Core.Bool.{false≢true}
+use borrow.Author.Tests.{not-false}
+use borrow.Author.Needs.{needs}
+use Rattle.description_check.proofs.AcceptLaws.{counted, parts-accepted}
+use Rattle.description_check.proofs.accepts.Statement.{statement}
+use Rattle.description_check.proofs.accepts.Tie as tie
+
+master-count-requires : tie.Need-master-count-requires
+master-count-requires c κs = search needs
+
+slave-count-requires : tie.Need-slave-count-requires
+slave-count-requires c κs = search needs
+
+returns : tie.Need-returns
+returns c = λ e. absurd (false≢true e)
+
+returns-2 : tie.Need-returns-2
+returns-2 c = λ e. absurd (false≢true e)
+
+cast-masters-fit : tie.Need-cast-masters-fit
+cast-masters-fit c = search needs
+
+masters-fit-requires : tie.Need-masters-fit-requires
+masters-fit-requires c κs = counted _ 8 (c .before .if1 .left) .1
+
+returns-3 : tie.Need-returns-3
+returns-3 c = λ e. absurd (false≢true e)
+
+cast-slaves-fit : tie.Need-cast-slaves-fit
+cast-slaves-fit c = search needs
+
+slaves-fit-requires : tie.Need-slaves-fit-requires
+slaves-fit-requires c κs = counted _ 16 (c .before .before .if2 .left) .1
+
+returns-4 : tie.Need-returns-4
+returns-4 c = λ e. absurd (false≢true e)
+
+cast-shares-fit : tie.Need-cast-shares-fit
+cast-shares-fit c = search needs
+
+shares-fit-requires : tie.Need-shares-fit-requires
+shares-fit-requires c κs = search needs
+
+returns-5 : tie.Need-returns-5
+returns-5 c =
+    λ e. parts-accepted _ _ _ (c .before .before .before .before .before .before .before .before .master-count .ensures)
+    (c .before .before .before .before .before .before .before .slave-count .ensures)
+    (counted _ 8 (c .before .before .before .before .before .before .if1 .left))
+    (counted _ 16 (c .before .before .before .before .before .if2 .left))
+    (c .before .before .before .before .masters-fit .ensures (not-false _ (c .before .before .before .if3 .left)))
+    (c .before .before .slaves-fit .ensures (not-false _ (c .before .if4 .left))) (c .shares-fit .ensures e)
+
+pub accepts-spec : {M : Type 1} → statement M
+accepts-spec =
+    tie.close
+    (tie.spec
+    master-count-requires
+    slave-count-requires
+    returns
+    returns-2
+    cast-masters-fit
+    masters-fit-requires
+    returns-3
+    cast-slaves-fit
+    slaves-fit-requires
+    returns-4
+    cast-shares-fit
+    shares-fit-requires
+    returns-5)

@@ -1,0 +1,62 @@
+-- `board_check::row_fits` meets its contract. The loop's invariant: where nothing bad was met, each share passed is legal.
+-- Assumes nothing.
+use mathlib.Core.Path.{_≡_}
+use mathlib.Core.Bool.{false}
+use Prim.Native.Nat.{_≤_, _-_}
+use native.Mathlib.Omega.{arith}
+use borrow.Author.Count.{below-none}
+use borrow.Author.Tests.{not-true}
+use borrow.Author.Needs.{needs}
+use Rattle.description_check.proofs.AcceptLaws.{row-next}
+use Rattle.description_check.specs.Accept.{RowFits}
+use Rattle.description_layout.specs.Layout.{boardIn}
+use Rattle.description_check.proofs.row_fits.Statement.{statement}
+use Rattle.description_check.proofs.row_fits.Tie as tie
+
+abbrev Inv-loop : tie.InvT-loop
+Inv-loop board m n bad₀ s₀ bad s = (s ≤ 16) × (bad ≡ false → RowFits (boardIn board .shares) m n s)
+
+abbrev μ-loop : tie.MeasureT-loop
+μ-loop board m n bad₀ s₀ bad s = 16 - s
+
+loop-holds : tie.Need-loop-holds Inv-loop μ-loop
+loop-holds c = (omega arith, λ e. record { each = below-none _ })
+
+cast-share-at : tie.Need-cast-share-at Inv-loop μ-loop
+cast-share-at c = search needs
+
+share-at-requires : tie.Need-share-at-requires Inv-loop μ-loop
+share-at-requires c κs = search needs
+
+limit-requires : tie.Need-limit-requires Inv-loop μ-loop
+limit-requires c κs = search needs
+
+add-s : tie.Need-add-s Inv-loop μ-loop
+add-s c = search needs
+
+loop-less : tie.Need-loop-less Inv-loop μ-loop
+loop-less c = search needs
+
+loop-again : tie.Need-loop-again Inv-loop μ-loop
+loop-again c = (
+  omega arith,
+  row-next _ _ _ _ _ _ _ (c .before .share-at .ensures) (c .limit .ensures) (c .before .before .before .loop .inv .1),
+)
+
+returns : tie.Need-returns Inv-loop μ-loop
+returns c = λ e. record { each = λ s h. c .before .loop .inv .1 (not-true _ e) .each s (omega arith) }
+
+pub row-fits-spec : {M : Type 1} → statement M
+row-fits-spec =
+    tie.close
+    (tie.spec
+    Inv-loop
+    μ-loop
+    loop-holds
+    cast-share-at
+    share-at-requires
+    limit-requires
+    add-s
+    loop-less
+    loop-again
+    returns)

@@ -1,0 +1,57 @@
+-- What the parts of the fast accept find of a board's masters, slaves and shares.
+-- Assumes nothing.
+use mathlib.Core.Path.{_≡_}
+use mathlib.Core.Bool.{true, false, cond}
+use mathlib.Core.List.{List}
+use mathlib.Core.Logic.{_≢_}
+use Prim.Native.Nat.{ℕ, _+_, _*_, _%_, _≤_, _<_}
+use lib.Dec.{ltb}
+use lib.ListN.{getD, take}
+use Rattle.common_laws.specs.Lists.{member}
+use Rattle.description_board.specs.declared.Master.{Master}
+use Rattle.description_board.specs.declared.Slave.{Slave}
+use Rattle.description_board.specs.Records.{noMaster, noSlave, totalSpan}
+use Rattle.description_board.specs.Rules.{widths, bursts, slaveValues, meets}
+use Rattle.description_board.specs.Items.{slaveNumbers}
+
+-- the first n masters
+pub record MastersFit (masters : List Master) (n : ℕ) : Type 0 where
+  pub each : (m : ℕ) → m < n
+      → (member (getD masters m noMaster .width) widths ≡ true) × (member (getD masters m noMaster .burst) bursts ≡ true)
+
+-- one slave by itself
+pub record SlaveFits (s : Slave) : Type 0 where
+  pub values : slaveValues (slaveNumbers s) ≡ true
+  pub aligned : s .base % s .span ≡ 0
+
+-- the span at base meets none of the first n slaves
+pub record Clear (base span : ℕ) (slaves : List Slave) (n : ℕ) : Type 0 where
+  pub each : (k : ℕ) → k < n → meets base span (getD slaves k noSlave) ≡ false
+
+-- the first n slaves, each by itself and together
+pub record SlavesFit (slaves : List Slave) (n : ℕ) : Type 0 where
+  pub each : (k : ℕ) → k < n → SlaveFits (getD slaves k noSlave)
+  pub apart : (j k : ℕ) → j < k → k < n
+      → meets (getD slaves k noSlave .base) (getD slaves k noSlave .span) (getD slaves j noSlave) ≡ false
+  pub total : totalSpan (take n slaves) ≤ 65536
+
+-- the most shares at slave s of n
+unfoldable pub shareLimit : ℕ → ℕ → ℕ
+shareLimit s n = cond (ltb s n) 100 0
+
+-- the shares of master m at the first k slaves: at most 100, and none from slave n on
+pub record RowFits (shares : List ℕ) (m n k : ℕ) : Type 0 where
+  pub each : (s : ℕ) → s < k → getD shares (16 * m + s) 0 ≢ 0 → (getD shares (16 * m + s) 0 ≤ 100) × (s < n)
+
+-- no share of master m at the first k slaves
+pub record RowEmpty (shares : List ℕ) (m k : ℕ) : Type 0 where
+  pub each : (s : ℕ) → s < k → getD shares (16 * m + s) 0 ≡ 0
+
+-- the shares of master m on a board with so many masters and slaves
+pub record RowPasses (shares : List ℕ) (m masters slaves : ℕ) : Type 0 where
+  pub each : (s : ℕ) → s < 16 → getD shares (16 * m + s) 0 ≢ 0
+      → (getD shares (16 * m + s) 0 ≤ 100) × (m < masters) × (s < slaves)
+
+-- the shares of the first k masters
+pub record SharesFit (shares : List ℕ) (masters slaves k : ℕ) : Type 0 where
+  pub row : (m : ℕ) → m < k → RowPasses shares m masters slaves

@@ -1,0 +1,327 @@
+// What a board that did not come through the reader is refused for: refusals 2 to 7.
+// Tests are joined by & and |, not by && and ||: each part is safe by itself, and a proof meets the whole as one test.
+ghost use mathlib.Core.Path.{_≡_};
+ghost use mathlib.Core.Bool.{true};
+ghost use Prim.Native.Nat.{ℕ, _≤_, _<_, _+_, _-_, _%_};
+ghost use Rattle.common_laws.specs.Lists.{member};
+ghost use Rattle.description_board.specs.Records.{slaveAt};
+ghost use Rattle.description_board.specs.Rules.{widths, bursts, spans, run};
+ghost use Rattle.description_board.specs.Items.{masterItem, slaveNumbers, slaveItem, checkBoard};
+ghost use Rattle.description_layout.specs.Layout.{boardIn};
+ghost use Rattle.description_rules.specs.Readings.{readingOf};
+ghost use Rattle.description_check.specs.Lines.{pairItem, placeCount, lineAt, present};
+ghost use Rattle.description_check.specs.Accept.{MastersFit, SlaveFits, Clear, SlavesFit};
+ghost use Rattle.description_check.specs.Accept.{shareLimit, RowFits, RowEmpty, RowPasses, SharesFit};
+use description_board::Item;
+use description_board::Slave;
+use description_board::SlaveNumbers;
+use description_rules::Progress;
+
+// The line of master i; past the array, where the counts of a board that no reader made can lead, a line of zeros.
+fn master_item(board: &[u32; 242], i: usize) -> Item
+    ensures { λ x. ⌜ x ≡ masterItem (boardIn (now (board .entry)) .masters) i ⌝ }
+{
+    if i < 8 {
+        let m = description_layout::master_at(board, i);
+        return Item::MasterLine(m.width as u64, m.burst as u64);
+    }
+    Item::MasterLine(0, 0)
+}
+
+// The numbers of a slave's line.
+fn slave_numbers(s: Slave) -> SlaveNumbers
+    ensures { λ n. ⌜ n ≡ slaveNumbers s ⌝ }
+{
+    SlaveNumbers {
+        base: s.base as u64,
+        span: s.span as u64,
+        width: s.width as u64,
+        burst: s.burst as u64,
+        read_wait: s.read_wait as u64,
+        write_wait: s.write_wait as u64,
+    }
+}
+
+// The line of slave i; past the array a line of zeros.
+fn slave_item(board: &[u32; 242], i: usize) -> Item
+    ensures { λ x. ⌜ x ≡ slaveItem (boardIn (now (board .entry)) .slaves) i ⌝ }
+{
+    if i < 16 {
+        let s = description_layout::slave_at(board, i);
+        let n = slave_numbers(s);
+        return Item::SlaveLine(n);
+    }
+    let zeros = SlaveNumbers {
+        base: 0,
+        span: 0,
+        width: 0,
+        burst: 0,
+        read_wait: 0,
+        write_wait: 0,
+    };
+    Item::SlaveLine(zeros)
+}
+
+// The line at place i of the shares; Malformed where the pair is not connected.
+fn pair_item(board: &[u32; 242], i: u64) -> Item
+    ensures { λ x. ⌜ x ≡ pairItem (boardIn (now (board .entry)) .shares) i ⌝ }
+{
+    let n = description_rules::share_or_none(board, i);
+    if n == 0 {
+        return Item::Malformed;
+    }
+    Item::ShareLine(i / 16, i % 16, n as u64)
+}
+
+// How many places a board's lines have: its masters, its slaves, the pairs of a master and a slave.
+pub fn places(board: &[u32; 242]) -> usize
+    ensures { λ n. ⌜ n ≡ placeCount (boardIn (now (board .entry))) ⌝ }
+{
+    let m = description_layout::master_count(board) as usize;
+    let s = description_layout::slave_count(board) as usize;
+    m + s + 128
+}
+
+// The line at place k; Malformed, which no line of a board is, where there is none.
+pub fn line_at(board: &[u32; 242], k: usize) -> Item
+    ensures { λ x. ⌜ x ≡ lineAt (boardIn (now (board .entry))) k ⌝ }
+{
+    let m = description_layout::master_count(board) as usize;
+    let s = description_layout::slave_count(board) as usize;
+    if k < m {
+        return master_item(board, k);
+    }
+    let n = m + s;
+    if k < n {
+        return slave_item(board, k - m);
+    }
+    pair_item(board, (k - n) as u64)
+}
+
+// A place of a board more; one that has no line changes nothing.
+fn add_place(own: &mut [u32; 242], p: Progress, x: Item) -> Progress
+    ensures { λ r. ⌜ readingOf r (now (own .exit)) ≡ run (readingOf p (now (own .entry))) (present x) ⌝ }
+{
+    match x {
+        Item::Malformed => p,
+        _ => description_rules::add_item(own, p, x),
+    }
+}
+
+// The first refusal of a board's own lines, or 0. The board is built again, line by line, up to the first refusal: a later line
+// cannot change the answer, and the counts of a board that no reader made can be any number.
+pub fn check(board: &[u32; 242]) -> u32
+    ensures { λ n. ⌜ n ≡ checkBoard (boardIn (now (board .entry))) ⌝ }
+{
+    let n = places(board);
+    let mut own = [0u32; 242];
+    let mut p = description_rules::first_progress();
+    let mut k: usize = 0;
+    while k < n {
+        let x = line_at(board, k);
+        p = add_place(&mut own, p, x);
+        if p.number != 0 {
+            return p.number;
+        }
+        k += 1;
+    }
+    let last = description_rules::finished(&mut own, p);
+    last.number
+}
+
+// ---- a fast accept
+// check builds a board again from its lines: too much for every clock. These functions test the board where it stands. One that
+// passes is accepted; one that fails is left to check, which says what it is refused for.
+
+// One less, and 0 of 0: so the tests that follow need no return of their own at 0, which would be a branch for each number.
+fn below(x: u32) -> u32
+    ensures { λ r. ⌜ r ≡ x - 1 ⌝ }
+{
+    if x == 0 { 0 } else { x - 1 }
+}
+
+// Whether x is a legal width. Of a number with one bit set, and of no other but 0, no bit is left in x & (x - 1).
+fn width_fits(x: u32) -> bool
+    ensures { λ r. ⌜ r ≡ member x widths ⌝ }
+{
+    let low = below(x);
+    (x <= 8) & ((0 < x) & (x & low == 0))
+}
+
+// Whether x is a legal burst.
+fn burst_fits(x: u32) -> bool
+    ensures { λ r. ⌜ r ≡ member x bursts ⌝ }
+{
+    let low = below(x);
+    (x <= 64) & ((0 < x) & (x & low == 0))
+}
+
+// Whether span is legal and base a multiple of it. A legal span has one bit set, so the bits below that one do for a remainder.
+fn span_fits(base: u32, span: u32) -> bool
+    ensures { λ r. ⌜ (r ≡ true → (member span spans ≡ true) × (base % span ≡ 0)) ⌝ }
+{
+    let low = below(span);
+    ((span & low == 0) & (base & low == 0)) & ((8 <= span) & (span <= 65536))
+}
+
+// Whether each of the first n masters is legal.
+fn masters_fit(board: &[u32; 242], n: usize) -> bool
+    requires { ⌜ n ≤ 8 ⌝ }
+    ensures { λ r. ⌜ (r ≡ true → MastersFit (boardIn (now (board .entry)) .masters) n) ⌝ }
+{
+    let mut i: usize = 0;
+    while i < n {
+        let m = description_layout::master_at(board, i);
+        if !(width_fits(m.width) & burst_fits(m.burst)) {
+            return false;
+        }
+        i += 1;
+    }
+    true
+}
+
+// Whether a slave by itself is legal.
+fn slave_fits(s: Slave) -> bool
+    ensures { λ r. ⌜ (r ≡ true → SlaveFits s) ⌝ }
+{
+    let waits = (s.read_wait <= 255) & (s.write_wait <= 255);
+    let sizes = width_fits(s.width) & burst_fits(s.burst);
+    span_fits(s.base, s.span) & (sizes & waits)
+}
+
+// The larger of two ends.
+fn later(a: u64, b: u64) -> u64
+    ensures { λ r. ⌜ (a ≤ r) × (b ≤ r) ⌝ }
+{
+    if a < b { b } else { a }
+}
+
+// Whether the span at base meets none of the first n spans, of which the last ends at last. On a board whose slaves stand in the
+// order of their addresses base is never below that, and no span is looked at.
+fn clear_of(board: &[u32; 242], n: usize, base: u32, span: u32, last: u64) -> bool
+    requires { ⌜ n ≤ 16 ⌝ }
+    requires { ⌜ ((k : ℕ) → k < n → slaveAt (boardIn (now board)) k .base + slaveAt (boardIn (now board)) k .span ≤ last) ⌝ }
+    ensures { λ r. ⌜ (r ≡ true → Clear base span (boardIn (now (board .entry)) .slaves) n) ⌝ }
+{
+    if last <= base as u64 {
+        return true;
+    }
+    !description_rules::meets_any(board, n, base, span)
+}
+
+// Whether the first n slaves are legal, each by itself and together.
+fn slaves_fit(board: &[u32; 242], n: usize) -> bool
+    requires { ⌜ n ≤ 16 ⌝ }
+    ensures { λ r. ⌜ (r ≡ true → SlavesFit (boardIn (now (board .entry)) .slaves) n) ⌝ }
+{
+    let mut last: u64 = 0;
+    let mut total: u64 = 0;
+    let mut i: usize = 0;
+    while i < n {
+        let s = description_layout::slave_at(board, i);
+        if !slave_fits(s) {
+            return false;
+        }
+        if !clear_of(board, i, s.base, s.span, last) {
+            return false;
+        }
+        last = later(last, s.base as u64 + s.span as u64);
+        total += s.span as u64;
+        i += 1;
+    }
+    total <= 65536
+}
+
+// The most shares that a master can have at slave s of n.
+fn limit(s: u32, n: u32) -> u32
+    ensures { λ x. ⌜ x ≡ shareLimit s n ⌝ }
+{
+    if s < n { 100 } else { 0 }
+}
+
+// Whether every share of a master is at most 100 and none stands from slave n on. The loop has no early way out and each share
+// is compared once, so that it compiles to tests of several shares at a time.
+fn row_fits(board: &[u32; 242], m: usize, n: u32) -> bool
+    requires { ⌜ m < 8 ⌝ }
+    ensures { λ r. ⌜ (r ≡ true → RowFits (boardIn (now (board .entry)) .shares) m n 16) ⌝ }
+{
+    let mut bad = false;
+    let mut s: u32 = 0;
+    while s < 16 {
+        let x = description_layout::share_at(board, m, s as usize);
+        bad = bad | (limit(s, n) < x);
+        s += 1;
+    }
+    !bad
+}
+
+// Whether a master has no share. A bit of any share stays in used.
+fn row_empty(board: &[u32; 242], m: usize) -> bool
+    requires { ⌜ m < 8 ⌝ }
+    ensures { λ r. ⌜ (r ≡ true → RowEmpty (boardIn (now (board .entry)) .shares) m 16) ⌝ }
+{
+    let mut used: u32 = 0;
+    let mut s: usize = 0;
+    while s < 16 {
+        let x = description_layout::share_at(board, m, s);
+        used = used | x;
+        s += 1;
+    }
+    used == 0
+}
+
+// Whether the shares of master m are legal on a board with so many masters and slaves.
+fn row_passes(board: &[u32; 242], m: usize, masters: usize, slaves: u32) -> bool
+    requires { ⌜ m < 8 ⌝ }
+    ensures { λ r. ⌜ (r ≡ true → RowPasses (boardIn (now (board .entry)) .shares) m masters slaves) ⌝ }
+{
+    if m < masters {
+        return row_fits(board, m, slaves);
+    }
+    row_empty(board, m)
+}
+
+// Whether every share is at most 100 and none stands outside the counts.
+fn shares_fit(board: &[u32; 242], masters: usize, slaves: u32) -> bool
+    ensures { λ r. ⌜ (r ≡ true → SharesFit (boardIn (now (board .entry)) .shares) masters slaves 8) ⌝ }
+{
+    let mut m: usize = 0;
+    while m < 8 {
+        if !row_passes(board, m, masters, slaves) {
+            return false;
+        }
+        m += 1;
+    }
+    true
+}
+
+// Whether a board passes every test. Nothing is said of one that does not.
+fn accepts(board: &[u32; 242]) -> bool
+    ensures { λ r. ⌜ (r ≡ true → checkBoard (boardIn (now (board .entry))) ≡ 0) ⌝ }
+{
+    let m = description_layout::master_count(board);
+    let s = description_layout::slave_count(board);
+    if (m < 1) | (8 < m) {
+        return false;
+    }
+    if (s < 1) | (16 < s) {
+        return false;
+    }
+    if !masters_fit(board, m as usize) {
+        return false;
+    }
+    if !slaves_fit(board, s as usize) {
+        return false;
+    }
+    shares_fit(board, m as usize, s)
+}
+
+// What check says, at once where the board is accepted.
+pub fn refusal(board: &[u32; 242]) -> u32
+    ensures { λ n. ⌜ n ≡ checkBoard (boardIn (now (board .entry))) ⌝ }
+{
+    if accepts(board) {
+        return 0;
+    }
+    check(board)
+}

@@ -1,0 +1,60 @@
+-- Readings whose board is an array of numbers: the start, a refusal, each kind of line taken.
+-- Assumes nothing.
+use mathlib.Core.Path.{_≡_, refl, _∙_}
+use mathlib.Core.Bool.{true, false}
+use mathlib.Core.List.{List}
+use Prim.Native.Nat.{ℕ, _+_, _*_, _≤_}
+use native.Mathlib.Omega.{arith}
+use lib.ListN.{replicate}
+use lib.Seq.{set-out}
+use Rattle.description_board.specs.declared.Item.{Item}
+use Rattle.description_board.specs.declared.Item.the-variants.{MasterLine, SlaveLine, ShareLine}
+use Rattle.description_board.specs.declared.SlaveNumbers.{SlaveNumbers}
+use Rattle.description_board.specs.declared.Slave.{Slave}
+use Rattle.description_board.specs.Rules.{masterRefusal, slaveRefusal, shareRefusal, itemRefusal, isShare}
+use Rattle.description_board.specs.Rules.{withMaster, slaveOf, withSlave, withItem, refused, start, taken, step}
+use Rattle.description_board.proofs.RunLaws.{step-refused, step-taken}
+use Rattle.description_layout.specs.Layout.{boardIn, withShareAt}
+use Rattle.description_layout.proofs.PlaceLaws.{board-none, share-put-at, shares-length}
+use Rattle.description_rules.specs.declared.Progress.{Progress}
+use Rattle.description_rules.specs.Readings.{readingOf}
+
+pub of-zeros : (n : ℕ) (l : List ℕ) → l ≡ replicate 242 0 → readingOf (record { number = n; sharing = false }) l ≡ refused n
+unfolding readingOf refused
+of-zeros n l e = rw (e, board-none)
+
+pub of-start : readingOf (record { number = 0; sharing = false }) (replicate 242 0) ≡ start
+unfolding start
+of-start = of-zeros 0 (replicate 242 0) refl
+
+module _ (p : Progress) (l : List ℕ) where
+  pub line-refused : (x : Item) (q : Progress) (m : List ℕ) {n : ℕ} → p .number ≡ 0 → n ≡ itemRefusal (readingOf p l) x
+      → (n ≡ 0 → ⊥) → readingOf q m ≡ refused n → readingOf q m ≡ step (readingOf p l) x
+  unfolding readingOf
+  line-refused x q m none e h r = r ∙ step-refused (readingOf p l) x none e h
+
+  pub master-added : (w u : ℕ) (m : List ℕ) {n : ℕ} → p .number ≡ 0 → n ≡ masterRefusal (boardIn l) w u → n ≡ 0
+      → boardIn m ≡ withMaster (boardIn l) w u
+      → readingOf (record { number = 0; sharing = false }) m ≡ step (readingOf p l) (MasterLine w u)
+  unfolding readingOf itemRefusal taken withItem isShare
+  master-added w u m none e h b = rw b (step-taken (readingOf p l) (MasterLine w u) none e h)
+
+  pub slave-added : (k : SlaveNumbers) (s : Slave) (m : List ℕ) {n : ℕ} → p .number ≡ 0
+      → n ≡ slaveRefusal (boardIn l) (p .sharing) k → n ≡ 0 → s ≡ slaveOf k → boardIn m ≡ withSlave (boardIn l) s
+      → readingOf (record { number = 0; sharing = false }) m ≡ step (readingOf p l) (SlaveLine k)
+  unfolding readingOf itemRefusal taken withItem isShare
+  slave-added k s m none e h g b = rw (b, g) (step-taken (readingOf p l) (SlaveLine k) none e h)
+
+  pub share-added : (i j k : ℕ) (m : List ℕ) {n : ℕ} → p .number ≡ 0 → n ≡ shareRefusal (boardIn l) i j k → n ≡ 0
+      → boardIn m ≡ withShareAt (boardIn l) (16 * i + j) k
+      → readingOf (record { number = 0; sharing = true }) m ≡ step (readingOf p l) (ShareLine i j k)
+  unfolding readingOf itemRefusal taken withItem isShare
+  share-added i j k m none e h b =
+      rw (b, share-put-at (boardIn l) i j k) (step-taken (readingOf p l) (ShareLine i j k) none e h)
+
+  -- past the 128 places a share changes nothing
+  pub share-past : (i j k : ℕ) {n : ℕ} → p .number ≡ 0 → n ≡ shareRefusal (boardIn l) i j k → n ≡ 0 → 128 ≤ 16 * i + j
+      → readingOf (record { number = 0; sharing = true }) l ≡ step (readingOf p l) (ShareLine i j k)
+  unfolding withShareAt
+  share-past i j k none e h far = share-added i j k l none e h
+      (rw (set-out (boardIn l .shares) (16 * i + j) k (omega (arith, shares-length l))))

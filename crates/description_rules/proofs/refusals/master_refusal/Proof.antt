@@ -1,0 +1,64 @@
+-- `rules::master_refusal` meets its contract. Each way out answers the definition's tests in their order.
+-- Assumes nothing.
+use borrow.Author.Needs.{needs}
+use Rattle.description_board.specs.Rules.{masterRefusal}
+use Rattle.description_rules.proofs.refusals.master_refusal.Statement.{statement}
+use Rattle.description_rules.proofs.refusals.master_refusal.Tie as tie
+
+master-count-requires : tie.Need-master-count-requires
+master-count-requires c κs = search needs
+
+slave-count-requires : tie.Need-slave-count-requires
+slave-count-requires c κs = search needs
+
+returns : tie.Need-returns
+unfolding masterRefusal
+returns c = rw (← c .before .before .master-count .ensures, ← c .before .slave-count .ensures, c .if1 .taken)
+
+slice-aggregate-listed : tie.Need-slice-aggregate-listed
+slice-aggregate-listed c = search needs
+
+listed-requires : tie.Need-listed-requires
+listed-requires c κs = search needs
+
+slice-aggregate-listed-2 : tie.Need-slice-aggregate-listed-2
+slice-aggregate-listed-2 c = search needs
+
+listed-requires-2 : tie.Need-listed-requires-2
+listed-requires-2 c κs = search needs
+
+returns-2 : tie.Need-returns-2
+unfolding masterRefusal
+returns-2 c = rw (
+  ← c .before .before .before .before .before .before .before .master-count .ensures,
+  ← c .before .before .before .before .before .before .slave-count .ensures,
+  c .before .before .before .before .before .if1 .left,
+  ← c .before .before .before .listed .ensures,
+  ← c .before .listed2 .ensures,
+  c .if2 .taken,
+)
+
+returns-3 : tie.Need-returns-3
+unfolding masterRefusal
+returns-3 c = rw (
+  ← c .before .before .before .before .before .before .before .master-count .ensures,
+  ← c .before .before .before .before .before .before .slave-count .ensures,
+  c .before .before .before .before .before .if1 .left,
+  ← c .before .before .before .listed .ensures,
+  ← c .before .listed2 .ensures,
+  c .if2 .left,
+)
+
+pub master-refusal-spec : {M : Type 1} → statement M
+master-refusal-spec =
+    tie.close
+    (tie.spec
+    master-count-requires
+    slave-count-requires
+    returns
+    slice-aggregate-listed
+    listed-requires
+    slice-aggregate-listed-2
+    listed-requires-2
+    returns-2
+    returns-3)

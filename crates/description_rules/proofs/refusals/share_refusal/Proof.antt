@@ -1,0 +1,97 @@
+-- `rules::share_refusal` meets its contract. Each way out answers the definition's tests in their order.
+-- Assumes nothing.
+use mathlib.Core.Path.{_≡_}
+use mathlib.Core.Bool.{cond, _||_}
+use lib.Dec.{leb, ltb}
+use borrow.Author.Tests.{eq-eqb, ne-eqb, le-leb, lt-leb, lt-ltb, le-ltb}
+use borrow.Author.Needs.{needs}
+use Rattle.description_board.specs.Rules.{shareRefusal}
+use Rattle.description_board.specs.Records.{sharesAt}
+use Rattle.description_layout.specs.Layout.{boardIn}
+use Rattle.description_rules.proofs.refusals.share_refusal.Statement.{statement}
+use Rattle.description_rules.proofs.refusals.share_refusal.Tie as tie
+
+master-count-requires : tie.Need-master-count-requires
+master-count-requires c κs = search needs
+
+slave-count-requires : tie.Need-slave-count-requires
+slave-count-requires c κs = search needs
+
+returns : tie.Need-returns
+unfolding shareRefusal
+returns c = rw (← c .before .slave-count .ensures, eq-eqb _ _ (c .if1 .taken))
+
+returns-2 : tie.Need-returns-2
+unfolding shareRefusal
+returns-2 c = rw (← c .before .before .slave-count .ensures, ne-eqb _ _ (c .before .if1 .left), c .if2 .taken)
+
+cast-if3 : tie.Need-cast-if3
+cast-if3 c = search needs
+
+-- what is left of the definition behind the share's value, and behind the counts
+legal : (c : tie.Else2) → let a = c .before .before .before .before .args in
+    let b = boardIn (a .board .now) in
+    shareRefusal b (a .m) (a .s) (a .shares)
+    ≡ cond (leb (b .«master_count») (a .m) || (leb (b .«slave_count») (a .s) || ltb 0 (sharesAt b (a .m) (a .s)))) 7 0
+unfolding shareRefusal
+legal c = rw (← c .before .before .slave-count .ensures, ne-eqb _ _ (c .before .if1 .left), c .if2 .left)
+
+there : (c : tie.Else4) → let a = c .before .before .before .before .before .before .args in
+    let b = boardIn (a .board .now) in
+    shareRefusal b (a .m) (a .s) (a .shares) ≡ cond (ltb 0 (sharesAt b (a .m) (a .s))) 7 0
+there c =
+    rw (
+      legal (c .before .before),
+      ← c .before .before .before .before .before .master-count .ensures,
+      ← c .before .before .before .before .slave-count .ensures,
+      lt-leb _ _ (c .before .if3 .left),
+      lt-leb _ _ (c .if4 .left),
+    )
+
+returns-3 : tie.Need-returns-3
+returns-3 c = rw (legal (c .before), ← c .before .before .before .before .master-count .ensures, le-leb _ _ (c .if3 .taken))
+
+cast-if4 : tie.Need-cast-if4
+cast-if4 c = search needs
+
+returns-4 : tie.Need-returns-4
+returns-4 c = rw (
+  legal (c .before .before),
+  ← c .before .before .before .before .before .master-count .ensures,
+  ← c .before .before .before .before .slave-count .ensures,
+  lt-leb _ _ (c .before .if3 .left),
+  le-leb _ _ (c .if4 .taken),
+)
+
+mul-share-or-none : tie.Need-mul-share-or-none
+mul-share-or-none c = search needs
+
+add-share-or-none : tie.Need-add-share-or-none
+add-share-or-none c = search needs
+
+share-or-none-requires : tie.Need-share-or-none-requires
+share-or-none-requires c κs = search needs
+
+returns-5 : tie.Need-returns-5
+returns-5 c = rw (there (c .before .before), ← c .before .share-or-none .ensures, lt-ltb _ _ (c .if5 .taken))
+
+returns-6 : tie.Need-returns-6
+returns-6 c = rw (there (c .before .before), ← c .before .share-or-none .ensures, le-ltb _ _ (c .if5 .left))
+
+pub share-refusal-spec : {M : Type 1} → statement M
+share-refusal-spec =
+    tie.close
+    (tie.spec
+    master-count-requires
+    slave-count-requires
+    returns
+    returns-2
+    cast-if3
+    returns-3
+    cast-if4
+    returns-4
+    mul-share-or-none
+    add-share-or-none
+    share-or-none-requires
+    returns-5
+    returns-6)

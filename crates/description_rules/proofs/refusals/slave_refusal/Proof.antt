@@ -1,0 +1,152 @@
+-- `rules::slave_refusal` meets its contract. Each way out answers the definition's tests in their order.
+-- Assumes nothing.
+use mathlib.Core.Path.{_∙_, sym, _≡_}
+use mathlib.Core.Bool.{cond, not}
+use Prim.Native.Nat.{_<_, _+_, _%_}
+use native.Mathlib.Omega.{arith}
+use lib.ListN.{take}
+use lib.Dec.{ltb, eqb}
+use borrow.Author.Tests.{eq-eqb, ne-eqb, le-ltb, lt-ltb, not-false, leb-false}
+use borrow.Author.Needs.{needs}
+use Rattle.common_laws.proofs.Tests.{neither}
+use Rattle.description_board.proofs.RuleLaws.{Values, values-fit}
+use Rattle.description_board.specs.Rules.{overlaps, slaveRefusal}
+use Rattle.description_board.specs.Records.{totalSpan}
+use Rattle.description_layout.specs.Layout.{boardIn}
+use Rattle.description_rules.proofs.refusals.slave_refusal.Statement.{statement}
+use Rattle.description_rules.proofs.refusals.slave_refusal.Tie as tie
+
+-- the number of slaves, and the values, once they passed their tests
+room : (c : tie.Else1) → boardIn (c .before .before .before .args .board .now) .«slave_count» < 16
+room c =
+    let masters = c .before .before .master-count .result in
+    let slaves = c .before .slave-count .result in
+    let order = neither (eqb masters 0) _ (c .if1 .left) in
+    let l : slaves < 16 = leb-false 16 slaves (neither (c .before .before .before .args .sharing) _ (order .1) .1) in
+    omega (arith, c .before .slave-count .ensures)
+
+fits : (c : tie.Else2) → Values (c .before .before .before .before .before .args .n)
+fits c = values-fit _ (sym (c .before .slave-values .ensures) ∙ not-false _ (c .if2 .left))
+
+-- what is left of the definition behind the values, and behind the overlap
+legal : (c : tie.Else2) → let a = c .before .before .before .before .before .args in
+    let b = boardIn (a .board .now) in
+    let earlier = take (b .«slave_count») (b .slaves) in
+    slaveRefusal b (a .sharing) (a .n)
+    ≡ cond (not (eqb (a .n .base % a .n .span) 0)) 4
+    (cond (overlaps (a .n .base) (a .n .span) earlier) 5 (cond (ltb 65536 (totalSpan earlier + a .n .span)) 6 0))
+unfolding slaveRefusal
+legal c =
+    let e = c .before .before .if1 .left in
+    rw (
+      ← c .before .before .before .before .master-count .ensures,
+      ← c .before .before .before .slave-count .ensures,
+      e,
+      ← c .before .slave-values .ensures,
+      c .if2 .left,
+    )
+
+apart : (c : tie.Else4) →
+    let a = c .before .before .before .before .before .before .before .before .before .before .before .args in
+    let b = boardIn (a .board .now) in
+    slaveRefusal b (a .sharing) (a .n)
+    ≡ cond (ltb 65536 (totalSpan (take (b .«slave_count») (b .slaves)) + a .n .span)) 6 0
+apart c =
+    rw (
+      legal (c .before .before .before .before .before .before),
+      eq-eqb _ _ (c .before .before .before .before .if3 .left),
+      ← c .before .before .before .before .before .before .before .before .before .slave-count .ensures,
+      ← c .before .meets-any .ensures,
+      c .if4 .left,
+    )
+
+master-count-requires : tie.Need-master-count-requires
+master-count-requires c κs = search needs
+
+slave-count-requires : tie.Need-slave-count-requires
+slave-count-requires c κs = search needs
+
+returns : tie.Need-returns
+unfolding slaveRefusal
+returns c = rw (← c .before .before .master-count .ensures, ← c .before .slave-count .ensures, c .if1 .taken)
+
+slave-values-requires : tie.Need-slave-values-requires
+slave-values-requires c κs = search needs
+
+returns-2 : tie.Need-returns-2
+unfolding slaveRefusal
+returns-2 c = rw (
+  ← c .before .before .before .before .master-count .ensures,
+  ← c .before .before .before .slave-count .ensures,
+  c .before .before .if1 .left,
+  ← c .before .slave-values .ensures,
+  c .if2 .taken,
+)
+
+rem-if3 : tie.Need-rem-if3
+rem-if3 c = let v = fits (c .before) in omega arith
+
+returns-3 : tie.Need-returns-3
+returns-3 c = rw (legal (c .before .before), ne-eqb _ _ (c .if3 .taken))
+
+cast-meets-any : tie.Need-cast-meets-any
+cast-meets-any c = search needs
+
+cast-meets-any-2 : tie.Need-cast-meets-any-2
+cast-meets-any-2 c = let v = fits (c .before .before .before) in omega arith
+
+cast-meets-any-3 : tie.Need-cast-meets-any-3
+cast-meets-any-3 c = let v = fits (c .before .before .before .before) in omega arith
+
+meets-any-requires : tie.Need-meets-any-requires
+meets-any-requires c κs = let l = room (c .before .before .before .before .before .before) in omega arith
+
+returns-4 : tie.Need-returns-4
+returns-4 c = rw (
+  legal (c .before .before .before .before .before .before),
+  eq-eqb _ _ (c .before .before .before .before .if3 .left),
+  ← c .before .before .before .before .before .before .before .before .before .slave-count .ensures,
+  ← c .before .meets-any .ensures,
+  c .if4 .taken,
+)
+
+cast-span-total : tie.Need-cast-span-total
+cast-span-total c = search needs
+
+cast-span-total-2 : tie.Need-cast-span-total-2
+cast-span-total-2 c = let v = fits (c .before .before .before .before .before .before .before) in omega arith
+
+span-total-requires : tie.Need-span-total-requires
+span-total-requires c κs = let l = room (c .before .before .before .before .before .before .before .before .before) in omega arith
+
+returns-5 : tie.Need-returns-5
+returns-5 c =
+    let count = c .before .before .before .before .before .before .before .before .before .before .before .before .slave-count in
+    rw (apart (c .before .before .before), ← count .ensures, ← c .before .span-total .ensures, lt-ltb _ _ (c .if5 .taken))
+
+returns-6 : tie.Need-returns-6
+returns-6 c =
+    let count = c .before .before .before .before .before .before .before .before .before .before .before .before .slave-count in
+    rw (apart (c .before .before .before), ← count .ensures, ← c .before .span-total .ensures, le-ltb _ _ (c .if5 .left))
+
+pub slave-refusal-spec : {M : Type 1} → statement M
+slave-refusal-spec =
+    tie.close
+    (tie.spec
+    master-count-requires
+    slave-count-requires
+    returns
+    slave-values-requires
+    returns-2
+    rem-if3
+    returns-3
+    cast-meets-any
+    cast-meets-any-2
+    cast-meets-any-3
+    meets-any-requires
+    returns-4
+    cast-span-total
+    cast-span-total-2
+    span-total-requires
+    returns-5
+    returns-6)

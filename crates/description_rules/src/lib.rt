@@ -1,0 +1,153 @@
+// What has been read of a description, line by line: the fold that the reader and the check of a board share. The board so far
+// is a lent array of numbers, to which each line that is not refused is added.
+mod refusals;
+
+use description_board::Item;
+use description_board::Slave;
+use description_board::SlaveNumbers;
+ghost use mathlib.Core.Path.{_≡_};
+ghost use mathlib.Core.Bool.{true};
+ghost use Prim.Native.Nat.{_+_, _*_};
+ghost use lib.Dec.{ltb};
+ghost use lib.ListN.{replicate};
+ghost use Rattle.description_board.specs.declared.Item.the-variants.{MasterLine, SlaveLine, ShareLine};
+ghost use Rattle.description_board.specs.Rules.{slaveValues, slaveOf, refused, start, step, finish};
+ghost use Rattle.description_rules.specs.Readings.{readingOf};
+pub use refusals::meets_any;
+pub use refusals::share_or_none;
+pub use refusals::span_total;
+
+// The refusal's number or 0, and whether a share line was read.
+pub struct Progress {
+    pub number: u32,
+    pub sharing: bool,
+}
+
+// The slave of a line whose values are in their lists and ranges.
+fn slave_of(n: SlaveNumbers) -> Slave
+    requires { ⌜ slaveValues n ≡ true ⌝ }
+    ensures { λ s. ⌜ s ≡ slaveOf n ⌝ }
+{
+    Slave {
+        base: n.base as u32,
+        span: n.span as u32,
+        width: n.width as u32,
+        burst: n.burst as u32,
+        read_wait: n.read_wait as u32,
+        write_wait: n.write_wait as u32,
+    }
+}
+
+// A refusal: its number, and a board that is all zero.
+fn refuse(board: &mut [u32; 242], number: u32) -> Progress
+    ensures { λ r. ⌜ readingOf r (now (board .exit)) ≡ refused number ⌝ }
+{
+    description_layout::clear(board);
+    Progress {
+        number: number,
+        sharing: false,
+    }
+}
+
+// Before the first line. The board is an array of zeros then.
+pub fn first_progress() -> Progress
+    ensures { λ r. ⌜ readingOf r (replicate 242 0) ≡ start ⌝ }
+{
+    Progress {
+        number: 0,
+        sharing: false,
+    }
+}
+
+// A master line after lines of which none was refused.
+fn add_master(board: &mut [u32; 242], p: Progress, width: u64, burst: u64) -> Progress
+    requires { ⌜ p .number ≡ 0 ⌝ }
+    ensures { λ r. ⌜ readingOf r (now (board .exit)) ≡ step (readingOf p (now (board .entry))) (MasterLine width burst) ⌝ }
+{
+    let number = refusals::master_refusal(board, width, burst);
+    if number != 0 {
+        return refuse(board, number);
+    }
+    description_layout::put_master(board, width as u32, burst as u32);
+    Progress {
+        number: 0,
+        sharing: false,
+    }
+}
+
+// A slave line after lines of which none was refused.
+fn add_slave(board: &mut [u32; 242], p: Progress, n: SlaveNumbers) -> Progress
+    requires { ⌜ p .number ≡ 0 ⌝ }
+    ensures { λ r. ⌜ readingOf r (now (board .exit)) ≡ step (readingOf p (now (board .entry))) (SlaveLine n) ⌝ }
+{
+    let number = refusals::slave_refusal(board, p.sharing, n);
+    if number != 0 {
+        return refuse(board, number);
+    }
+    description_layout::put_slave(board, slave_of(n));
+    Progress {
+        number: 0,
+        sharing: false,
+    }
+}
+
+// Whether the share of master m at slave s has one of the 128 places. The first two tests keep the sum in a u64.
+fn in_table(m: u64, s: u64) -> bool
+    ensures { λ r. ⌜ r ≡ ltb (16 * m + s) 128 ⌝ }
+{
+    if 8 <= m {
+        return false;
+    }
+    if 128 <= s {
+        return false;
+    }
+    16 * m + s < 128
+}
+
+// A share line after lines of which none was refused. A place past the 128 holds no share, as in share_or_none.
+fn add_share(board: &mut [u32; 242], p: Progress, m: u64, s: u64, shares: u64) -> Progress
+    requires { ⌜ p .number ≡ 0 ⌝ }
+    ensures { λ r. ⌜ readingOf r (now (board .exit)) ≡ step (readingOf p (now (board .entry))) (ShareLine m s shares) ⌝ }
+{
+    let number = refusals::share_refusal(board, m, s, shares);
+    if number != 0 {
+        return refuse(board, number);
+    }
+    if in_table(m, s) {
+        description_layout::put_share(board, (16 * m + s) as usize, shares as u32);
+    }
+    Progress {
+        number: 0,
+        sharing: true,
+    }
+}
+
+// One line more; a refusal stays.
+pub fn add_item(board: &mut [u32; 242], p: Progress, x: Item) -> Progress
+    ensures { λ r. ⌜ readingOf r (now (board .exit)) ≡ step (readingOf p (now (board .entry))) x ⌝ }
+{
+    if p.number != 0 {
+        return p;
+    }
+    match x {
+        Item::Malformed => refuse(board, 1),
+        Item::MasterLine(width, burst) => add_master(board, p, width, burst),
+        Item::SlaveLine(n) => add_slave(board, p, n),
+        Item::ShareLine(m, s, shares) => add_share(board, p, m, s, shares),
+    }
+}
+
+// After the last line: a board has a master and a slave.
+pub fn finished(board: &mut [u32; 242], p: Progress) -> Progress
+    ensures { λ r. ⌜ readingOf r (now (board .exit)) ≡ finish (readingOf p (now (board .entry))) ⌝ }
+{
+    if p.number != 0 {
+        return p;
+    }
+    let masters = description_layout::master_count(board);
+    let slaves = description_layout::slave_count(board);
+    if (masters == 0) | (slaves == 0) {
+        return refuse(board, 2);
+    }
+    p
+}

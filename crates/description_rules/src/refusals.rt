@@ -1,0 +1,171 @@
+// What a line of a description is refused for after what has been read: refusals 2 to 7.
+// Tests are joined by & and |, not by && and ||: each part is safe by itself, and a proof meets the whole as one test.
+// The board read so far is lent as its array of numbers: see board_layout.
+use description_board::Slave;
+use description_board::SlaveNumbers;
+ghost use mathlib.Core.Path.{_≡_};
+ghost use Prim.Native.Nat.{_≤_, _+_};
+ghost use lib.ListN.{take, getD};
+ghost use Rattle.common_laws.specs.Lists.{member};
+ghost use Rattle.description_board.specs.Records.{totalSpan};
+ghost use Rattle.description_board.specs.Rules.{slaveValues, meets, overlaps, masterRefusal, slaveRefusal, shareRefusal};
+ghost use Rattle.description_layout.specs.Layout.{boardIn};
+
+// The legal widths, in bytes. These lists are of u64, as the numbers of a line are.
+const WIDTHS: [u64; 4] = [1, 2, 4, 8];
+
+// The legal bursts, in words.
+const BURSTS: [u64; 7] = [1, 2, 4, 8, 16, 32, 64];
+
+// The legal spans, in bytes.
+const SPANS: [u64; 14] = [
+    8,
+    16,
+    32,
+    64,
+    128,
+    256,
+    512,
+    1024,
+    2048,
+    4096,
+    8192,
+    16384,
+    32768,
+    65536,
+];
+
+// Whether x is in the list.
+fn listed(x: u64, list: &[u64]) -> bool
+    ensures { λ r. ⌜ r ≡ member x (now (list .entry)) ⌝ }
+{
+    let mut i = 0;
+    while i < list.len() {
+        if list[i] == x {
+            return true;
+        }
+        i += 1;
+    }
+    false
+}
+
+// Whether every value of a slave line is in its list or range.
+fn slave_values(n: SlaveNumbers) -> bool
+    ensures { λ r. ⌜ r ≡ slaveValues n ⌝ }
+{
+    let lists = listed(n.width, &WIDTHS)
+        & (listed(n.burst, &BURSTS) & ((n.read_wait <= 255) & (n.write_wait <= 255)));
+    (n.base <= 4294967295) & (listed(n.span, &SPANS) & lists)
+}
+
+// Whether the span at base and that of slave s share an address. An end can pass the last address, so it is a u64.
+fn meets_one(base: u32, span: u32, s: Slave) -> bool
+    ensures { λ r. ⌜ r ≡ meets base span s ⌝ }
+{
+    let s_end = s.base as u64 + s.span as u64;
+    let end = base as u64 + span as u64;
+    ((base as u64) < s_end) & ((s.base as u64) < end)
+}
+
+// Whether the span at base overlaps that of one of the first n slaves.
+pub fn meets_any(board: &[u32; 242], n: usize, base: u32, span: u32) -> bool
+    requires { ⌜ n ≤ 16 ⌝ }
+    ensures { λ r. ⌜ r ≡ overlaps base span (take n (boardIn (now (board .entry)) .slaves)) ⌝ }
+{
+    let mut i: usize = 0;
+    while i < n {
+        if meets_one(base, span, description_layout::slave_at(board, i)) {
+            return true;
+        }
+        i += 1;
+    }
+    false
+}
+
+// The spans of the first n slaves, and one span more, together: at most 17 u32, so no sum wraps.
+pub fn span_total(board: &[u32; 242], n: usize, span: u32) -> u64
+    requires { ⌜ n ≤ 16 ⌝ }
+    ensures { λ r. ⌜ r ≡ totalSpan (take n (boardIn (now (board .entry)) .slaves)) + span ⌝ }
+{
+    let mut total = span as u64;
+    let mut i: usize = 0;
+    while i < n {
+        let s = description_layout::slave_at(board, i);
+        total += s.span as u64;
+        i += 1;
+    }
+    total
+}
+
+// What a master line is refused for, or 0.
+pub fn master_refusal(board: &[u32; 242], width: u64, burst: u64) -> u32
+    ensures { λ r. ⌜ r ≡ masterRefusal (boardIn (now (board .entry))) width burst ⌝ }
+{
+    let masters = description_layout::master_count(board);
+    let slaves = description_layout::slave_count(board);
+    if (0 < slaves) | (8 <= masters) {
+        return 2;
+    }
+    if !(listed(width, &WIDTHS) & listed(burst, &BURSTS)) {
+        return 3;
+    }
+    0
+}
+
+// What a slave line is refused for after lines of which the last was a share line or not, or 0.
+pub fn slave_refusal(board: &[u32; 242], sharing: bool, n: SlaveNumbers) -> u32
+    ensures { λ r. ⌜ r ≡ slaveRefusal (boardIn (now (board .entry))) sharing n ⌝ }
+{
+    let masters = description_layout::master_count(board);
+    let slaves = description_layout::slave_count(board);
+    if (masters == 0) | (sharing | (16 <= slaves)) {
+        return 2;
+    }
+    if !slave_values(n) {
+        return 3;
+    }
+    if n.base % n.span != 0 {
+        return 4;
+    }
+    if meets_any(board, slaves as usize, n.base as u32, n.span as u32) {
+        return 5;
+    }
+    if 65536 < span_total(board, slaves as usize, n.span as u32) {
+        return 6;
+    }
+    0
+}
+
+// The shares at a place of the 128; 0 past them, where the counts of a board that no reader made can lead.
+pub fn share_or_none(board: &[u32; 242], at: u64) -> u32
+    ensures { λ r. ⌜ r ≡ getD (boardIn (now (board .entry)) .shares) at 0 ⌝ }
+{
+    if at < 128 {
+        return description_layout::share_in(board, at as usize);
+    }
+    0
+}
+
+// What a share line is refused for, or 0.
+pub fn share_refusal(board: &[u32; 242], m: u64, s: u64, shares: u64) -> u32
+    ensures { λ r. ⌜ r ≡ shareRefusal (boardIn (now (board .entry))) m s shares ⌝ }
+{
+    let masters = description_layout::master_count(board);
+    let slaves = description_layout::slave_count(board);
+    if slaves == 0 {
+        return 2;
+    }
+    if (shares < 1) | (100 < shares) {
+        return 3;
+    }
+    if masters as u64 <= m {
+        return 7;
+    }
+    if slaves as u64 <= s {
+        return 7;
+    }
+    if 0 < share_or_none(board, 16 * m + s) {
+        return 7;
+    }
+    0
+}

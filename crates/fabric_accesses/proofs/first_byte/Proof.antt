@@ -1,0 +1,27 @@
+-- `geometry::first_byte` meets its contract: a product of two numbers of 32 bits fits 64.
+-- Assumes nothing.
+use mathlib.Core.Path.{ap}
+use Prim.Native.Nat.{ℕ, _*_}
+use native.Mathlib.Omega.{arith}
+use borrow.Author.Needs.{needs}
+use Rattle.common_laws.proofs.Arithmetic.{product-le}
+use Rattle.fabric_accesses.specs.Accesses.{firstByte}
+use Rattle.fabric_accesses.proofs.first_byte.Statement.{statement}
+use Rattle.fabric_accesses.proofs.first_byte.Tie as tie
+
+access-width-requires : tie.Need-access-width-requires
+access-width-requires c κs = tt
+
+cast-result : tie.Need-cast-result
+cast-result c = search needs
+
+mul-result : tie.Need-mul-result
+mul-result c =
+    omega (arith, product-le (c .before .args .a) (c .access-width .result) 4294967295 4294967295 (omega arith) (omega arith))
+
+returns : tie.Need-returns
+unfolding firstByte
+returns c = ap (λ (x : ℕ). c .before .args .a * x) (c .access-width .ensures)
+
+pub first-byte-spec : {M : Type 1} → statement M
+first-byte-spec = tie.close (tie.spec access-width-requires cast-result mul-result returns)

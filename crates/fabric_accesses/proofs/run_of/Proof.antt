@@ -1,0 +1,63 @@
+-- `geometry::run_of` meets its contract.
+-- Assumes nothing.
+use mathlib.Core.Path.{_≡_}
+use Prim.Native.Nat.{min}
+use native.Mathlib.Omega.{arith}
+use borrow.Author.Needs.{needs}
+use Rattle.fabric_accesses.specs.Runs.{runOf}
+use Rattle.fabric_accesses.proofs.RunLaws.{place-le, run-from}
+use Rattle.fabric_accesses.proofs.run_of.Statement.{statement}
+use Rattle.fabric_accesses.proofs.run_of.Tie as tie
+
+run-limit-requires : tie.Need-run-limit-requires
+run-limit-requires c κs = tt
+
+place-of-requires : tie.Need-place-of-requires
+place-of-requires c κs = c .before .pre .burst
+
+sub-start : tie.Need-sub-start
+sub-start c = place-le _ _ _ _ (c .place-of .ensures)
+
+access-count-requires : tie.Need-access-count-requires
+access-count-requires c κs = c .before .before .pre .wide
+
+cast-difference : tie.Need-cast-difference
+cast-difference c = search needs
+
+difference-requires : tie.Need-difference-requires
+difference-requires c κs = tt
+
+cast-if1 : tie.Need-cast-if1
+cast-if1 c = search needs
+
+cast-result : tie.Need-cast-result
+cast-result c = search needs
+
+gives : (c : tie.After-difference)
+    → min (c .before .before .before .run-limit .result) (c .difference .result)
+    ≡ runOf (c .before .before .before .before .args .ma) (c .before .before .before .before .args .sl)
+    (c .before .before .before .before .args .t) (c .before .before .before .before .args .a)
+gives c =
+    run-from _ _ _ _ _ _ _ _ (c .before .before .before .run-limit .ensures) (c .before .before .place-of .ensures)
+    (c .before .access-count .ensures) (c .difference .ensures)
+
+returns : tie.Need-returns
+returns c = omega (arith, gives (c .before))
+
+returns-2 : tie.Need-returns-2
+returns-2 c = omega (arith, gives (c .before))
+
+pub run-of-spec : {M : Type 1} → statement M
+run-of-spec =
+    tie.close
+    (tie.spec
+    run-limit-requires
+    place-of-requires
+    sub-start
+    access-count-requires
+    cast-difference
+    difference-requires
+    cast-if1
+    cast-result
+    returns
+    returns-2)

@@ -1,0 +1,194 @@
+// One pair of master and slave: accesses, lanes, runs; address decoding. Widths, bursts and spans are powers of two, so that
+// shifts and masks take the place of divisions.
+use description_board::Master;
+use description_board::Slave;
+ghost use mathlib.Core.Path.{_≡_};
+ghost use mathlib.Core.Bool.{true};
+ghost use Prim.Native.Nat.{_*_, _-_, _/_, _%_, _≤_};
+ghost use Rattle.common_laws.specs.Lists.{member};
+ghost use Rattle.description_board.specs.Rules.{widths, bursts};
+ghost use Rattle.fabric_accesses.specs.Decoding.{agrees, Span};
+ghost use Rattle.fabric_accesses.specs.Accesses.{ratio, accesses, accessBytes, firstByte, accessOffset, wordOffset};
+ghost use Rattle.fabric_accesses.specs.Accesses.{writeLanes, slaveLanes, InWord, waitOf, ownLength};
+ghost use Rattle.fabric_accesses.specs.Runs.{runLimit, placeOf, runOf};
+ghost use Rattle.fabric_accesses.specs.Pairs.{Widths, LegalPair};
+
+// What a master posted. Where `held` is false the master is idle and the other fields say nothing; a reset and a finish leave
+// the zero record.
+pub struct Transfer {
+    pub held: bool,
+    pub write: bool,
+    pub address: u32,
+    pub lanes: u32,
+    pub beats: u32,
+}
+
+// The words of this width in so many bytes.
+pub fn quotient(bytes: u32, width: u32) -> u32
+    requires { ⌜ member width widths ≡ true ⌝ }
+    ensures { λ r. ⌜ r ≡ bytes / width ⌝ }
+{
+    bytes >> u32::trailing_zeros(width)
+}
+
+// What is over a multiple of this width.
+fn over_width(at: u64, width: u32) -> u64
+    requires { ⌜ member width widths ≡ true ⌝ }
+    ensures { λ r. ⌜ r ≡ at % width ⌝ }
+{
+    at & (width - 1) as u64
+}
+
+// A difference stops at 0, as that of the definitions does: no caller has to rule out an address below the base.
+fn difference(a: u64, b: u64) -> u64
+    ensures { λ r. ⌜ r ≡ a - b ⌝ }
+{
+    if a < b { 0 } else { a - b }
+}
+
+// The bits of a number above a span, which is a power of two: those below it are masked out.
+fn above_span(n: u32, span: u32) -> u32
+    requires { ⌜ Span span ⌝ }
+    ensures { λ r. ⌜ r ≡ n / span * span ⌝ }
+{
+    n - (n & (span - 1))
+}
+
+// Whether an address agrees with the slave's base above the span.
+pub fn address_agrees(sl: Slave, address: u32) -> bool
+    requires { ⌜ Span (sl .span) ⌝ }
+    ensures { λ r. ⌜ r ≡ agrees sl address ⌝ }
+{
+    above_span(address, sl.span) == above_span(sl.base, sl.span)
+}
+
+// The bytes of one access.
+pub fn access_width(ma: Master, sl: Slave) -> u32
+    ensures { λ r. ⌜ r ≡ accessBytes ma sl ⌝ }
+{
+    if ma.width <= sl.width {
+        ma.width
+    } else {
+        sl.width
+    }
+}
+
+// The accesses of one beat.
+pub fn width_ratio(ma: Master, sl: Slave) -> u32
+    requires { ⌜ Widths ma sl ⌝ }
+    ensures { λ r. ⌜ r ≡ ratio ma sl ⌝ }
+{
+    let bytes = access_width(ma, sl);
+    quotient(ma.width, bytes)
+}
+
+// The accesses of a transfer.
+pub fn access_count(ma: Master, sl: Slave, t: Transfer) -> u64
+    requires { ⌜ Widths ma sl ⌝ }
+    ensures { λ r. ⌜ r ≡ accesses ma sl t ⌝ }
+{
+    let each = width_ratio(ma, sl);
+    (t.beats as u64) * (each as u64)
+}
+
+// Where the bytes of access a begin among those of the transfer.
+pub fn first_byte(ma: Master, sl: Slave, a: u32) -> u64
+    ensures { λ r. ⌜ r ≡ firstByte ma sl a ⌝ }
+{
+    let bytes = access_width(ma, sl);
+    (a as u64) * (bytes as u64)
+}
+
+// Where access a begins within the slave.
+pub fn access_offset(ma: Master, sl: Slave, t: Transfer, a: u32) -> u64
+    ensures { λ r. ⌜ r ≡ accessOffset ma sl t a ⌝ }
+{
+    let start = difference(t.address as u64, sl.base as u64);
+    let moved = first_byte(ma, sl, a);
+    start + moved
+}
+
+// Where the slave word of access a begins within the slave.
+pub fn word_offset(ma: Master, sl: Slave, t: Transfer, a: u32) -> u64
+    requires { ⌜ Widths ma sl ⌝ }
+    ensures { λ r. ⌜ r ≡ wordOffset ma sl t a ⌝ }
+{
+    let at = access_offset(ma, sl, t, a);
+    let over = over_width(at, sl.width);
+    at - over
+}
+
+// The lanes of the master's word that access a writes, on the slave's lanes.
+fn write_lanes(ma: Master, sl: Slave, t: Transfer, a: u32) -> u32
+    requires { ⌜ (Widths ma sl) × (InWord ma sl t a) ⌝ }
+    ensures { λ r. ⌜ r ≡ writeLanes ma sl t a ⌝ }
+{
+    let bytes = access_width(ma, sl);
+    let first = first_byte(ma, sl, a);
+    let at = access_offset(ma, sl, t, a);
+    let from = over_width(first, ma.width);
+    let to = over_width(at, sl.width);
+    let mask = fabric_lanes::all_lanes(bytes);
+    ((t.lanes >> from) & mask) << to
+}
+
+// The slave's lanes in access a: a read fetches the whole slave word.
+pub fn lanes_of(ma: Master, sl: Slave, t: Transfer, a: u32) -> u32
+    requires { ⌜ (Widths ma sl) × (InWord ma sl t a) ⌝ }
+    ensures { λ r. ⌜ r ≡ slaveLanes ma sl t a ⌝ }
+{
+    if t.write {
+        return write_lanes(ma, sl, t, a);
+    }
+    fabric_lanes::all_lanes(sl.width)
+}
+
+// The wait of the transfer's direction.
+pub fn wait_of(sl: Slave, t: Transfer) -> u32
+    ensures { λ r. ⌜ r ≡ waitOf sl t ⌝ }
+{
+    if t.write { sl.write_wait } else { sl.read_wait }
+}
+
+// The clocks that a transfer takes once it has its first cycle: every access has the wait.
+pub fn own_length(ma: Master, sl: Slave, t: Transfer) -> u64
+    requires { ⌜ (Widths ma sl) × (waitOf sl t ≤ 255) ⌝ }
+    ensures { λ r. ⌜ r ≡ ownLength ma sl t ⌝ }
+{
+    let count = access_count(ma, sl, t);
+    let wait = wait_of(sl, t);
+    count * (1 + wait as u64)
+}
+
+// The most accesses of one run.
+pub fn run_limit(ma: Master, sl: Slave) -> u32
+    ensures { λ r. ⌜ r ≡ runLimit ma sl ⌝ }
+{
+    if ma.width < sl.width { 1 } else { sl.burst }
+}
+
+// The place of access a in its run.
+pub fn place_of(ma: Master, sl: Slave, a: u32) -> u32
+    requires { ⌜ member (sl .burst) bursts ≡ true ⌝ }
+    ensures { λ r. ⌜ r ≡ placeOf ma sl a ⌝ }
+{
+    let limit = run_limit(ma, sl);
+    a & (limit - 1)
+}
+
+// The length of the run that access a is in: the last one has what is left.
+pub fn run_of(ma: Master, sl: Slave, t: Transfer, a: u32) -> u32
+    requires { ⌜ LegalPair ma sl ⌝ }
+    ensures { λ r. ⌜ r ≡ runOf ma sl t a ⌝ }
+{
+    let limit = run_limit(ma, sl);
+    let place = place_of(ma, sl, a);
+    let start = a - place;
+    let total = access_count(ma, sl, t);
+    let rest = difference(total, start as u64);
+    if (limit as u64) <= rest {
+        limit
+    } else {
+        rest as u32
+    }
+}

@@ -1,0 +1,66 @@
+use Rattle.fabric_arbiter.proofs.ChoiceLaws.{tried-none, turn-on, turn-found}
+use Rattle.fabric_arbiter.specs.Choosing.{above, tried, chosen}
+use Rattle.common_laws.specs.Bits.{bit}
+use mathlib.Core.Path.{_≡_, refl, sym, _∙_}
+use borrow.Author.Needs.{needs}
+use Rattle.fabric_arbiter.proofs.first_requester.Statement.{statement}
+use Rattle.fabric_arbiter.proofs.first_requester.Tie as tie
+
+abbrev Inv-loop : tie.InvT-loop
+Inv-loop requests n owner m₀ left₀ m left = tried (bit requests) n (above n owner) n ≡ tried (bit requests) n (above n m) left
+
+abbrev μ-loop : tie.MeasureT-loop
+μ-loop requests n owner m₀ left₀ m left = left
+
+-- src/lib.rt:54:9
+loop-holds : tie.Need-loop-holds Inv-loop μ-loop
+loop-holds c = refl
+
+-- src/lib.rt:58:9
+next-master-requires : tie.Need-next-master-requires Inv-loop μ-loop
+next-master-requires c κs = search needs
+
+-- src/lib.rt:59:12
+is-requesting-requires : tie.Need-is-requesting-requires Inv-loop μ-loop
+is-requesting-requires c κs = search needs
+
+-- src/lib.rt:62:9
+sub-left : tie.Need-sub-left Inv-loop μ-loop
+sub-left c = search needs
+
+-- src/lib.rt:54:9
+loop-less : tie.Need-loop-less Inv-loop μ-loop
+loop-less c = search needs
+
+-- src/lib.rt:54:9
+loop-again : tie.Need-loop-again Inv-loop μ-loop
+loop-again c = let a = c .before .before in
+    turn-on _ _ _ _ _ _ (a .before .before .loop .inv) (a .before .if1 .left) (a .next-master .ensures)
+    (sym (c .before .is-requesting .ensures) ∙ c .if2 .left)
+
+-- src/lib.rt:49:1
+returns : tie.Need-returns Inv-loop μ-loop
+unfolding chosen
+returns c = sym (c .before .loop .inv ∙ tried-none _ _ _ _ (c .if1 .taken))
+
+-- src/lib.rt:49:1
+returns-2 : tie.Need-returns-2 Inv-loop μ-loop
+unfolding chosen
+returns-2 c = let a = c .before .before in
+    turn-found _ _ _ _ _ _ (a .before .before .loop .inv) (a .before .if1 .left) (a .next-master .ensures)
+    (sym (c .before .is-requesting .ensures) ∙ c .if2 .taken)
+
+pub first-requester-spec : {M : Type 1} → statement M
+first-requester-spec =
+    tie.close
+    (tie.spec
+    Inv-loop
+    μ-loop
+    loop-holds
+    next-master-requires
+    is-requesting-requires
+    sub-left
+    loop-less
+    loop-again
+    returns
+    returns-2)

@@ -1,0 +1,145 @@
+// Arbitration by shares at one slave.
+ghost use mathlib.Core.Path.{_≡_};
+ghost use Prim.Native.Nat.{_-_};
+ghost use Rattle.common_laws.specs.Bits.{bit};
+ghost use Rattle.fabric_arbiter.specs.Choosing.{above, chosen};
+ghost use Rattle.fabric_arbiter.specs.Granting.{kept, arbiterAfter};
+ghost use Rattle.fabric_arbiter.specs.Winning.{winner, grantBy};
+
+// What a slave remembers of its grants: the last owner, and the grants remaining to it.
+pub struct Arbiter {
+    pub owner: u32,
+    pub remaining: u32,
+}
+
+// The first requester, or that none requests.
+pub enum Choice {
+    Requester(u32),
+    Nobody,
+}
+
+// Who is granted, before shares and beats are read: the last owner by a grant remaining to it, another by its shares, nobody.
+pub enum Winner {
+    Again,
+    First(u32),
+    NoOne,
+}
+
+// The master granted with the grants that then remain to it, or no grant.
+pub enum Grant {
+    Granted(u32, u32),
+    Silent,
+}
+
+// Whether bit m of the mask of requests is 1.
+fn is_requesting(requests: u32, m: u32) -> bool
+    ensures { λ r. ⌜ r ≡ bit requests m ⌝ }
+{
+    if 32 <= m {
+        return false;
+    }
+    (requests >> m) % 2 == 1
+}
+
+// The master above m, round past the highest of n.
+fn next_master(n: u32, m: u32) -> u32
+    ensures { λ r. ⌜ r ≡ above n m ⌝ }
+{
+    if n <= m {
+        return 0;
+    }
+    let up = m + 1;
+    if up < n { up } else { 0 }
+}
+
+// Masters are tried upward from the last owner, round past the highest, the last owner last.
+fn first_requester(requests: u32, n: u32, owner: u32) -> Choice
+    ensures { λ r. ⌜ r ≡ chosen (bit requests) n owner ⌝ }
+{
+    let mut m = owner;
+    let mut left = n;
+    let first = loop {
+        if left == 0 {
+            break Choice::Nobody;
+        }
+        m = next_master(n, m);
+        if is_requesting(requests, m) {
+            break Choice::Requester(m);
+        }
+        left -= 1;
+    };
+    first
+}
+
+// Who is granted a slave that is not serving. Most slaves of a large board are idle: an empty mask is not searched.
+pub fn choose(n: u32, requests: u32, a: Arbiter) -> Winner
+    ensures { λ r. ⌜ r ≡ winner n (bit requests) a ⌝ }
+{
+    if requests == 0 {
+        return Winner::NoOne;
+    }
+    if is_requesting(requests, a.owner) {
+        if 0 < a.remaining {
+            return Winner::Again;
+        }
+    }
+    let first = first_requester(requests, n, a.owner);
+    match first {
+        Choice::Nobody => Winner::NoOne,
+        Choice::Requester(m) => Winner::First(m),
+    }
+}
+
+// A granted burst of two or more beats leaves no grants.
+fn kept_grants(beats: u32, remaining: u32) -> u32
+    ensures { λ r. ⌜ r ≡ kept beats remaining ⌝ }
+{
+    if 1 < beats { 0 } else { remaining }
+}
+
+// One less, from 1 on.
+fn less_one(n: u32) -> u32
+    ensures { λ r. ⌜ r ≡ n - 1 ⌝ }
+{
+    if n == 0 { 0 } else { n - 1 }
+}
+
+// The grant of the winner, by its shares at this slave and the beats of its transfer.
+fn grant_by(a: Arbiter, w: Winner, shares: u32, beats: u32) -> Grant
+    ensures { λ r. ⌜ r ≡ grantBy a w shares beats ⌝ }
+{
+    match w {
+        Winner::Again => Grant::Granted(a.owner, kept_grants(beats, less_one(a.remaining))),
+        Winner::First(m) => Grant::Granted(m, kept_grants(beats, less_one(shares))),
+        Winner::NoOne => Grant::Silent,
+    }
+}
+
+// The slave's record after the grant; with none, no grants remain.
+fn record_after(a: Arbiter, g: Grant) -> Arbiter
+    ensures { λ r. ⌜ r ≡ arbiterAfter a g ⌝ }
+{
+    match g {
+        Grant::Granted(m, remaining) => Arbiter {
+            owner: m,
+            remaining: remaining,
+        },
+        Grant::Silent => Arbiter {
+            owner: a.owner,
+            remaining: 0,
+        },
+    }
+}
+
+// Rule 1 on the slave's own record: "One clock changes a slave's last owner and remaining grants by these rules."
+// The record is lent; the record after the winner's grant is stored in the place of the old one.
+pub fn arbitrate_record(a: &mut Arbiter, w: Winner, shares: u32, beats: u32) -> Grant
+    ensures answer { λ r. ⌜ r ≡ grantBy (now (a .entry)) w shares beats ⌝ }
+    ensures record { λ _. ⌜ now (a .exit) ≡ arbiterAfter (now (a .entry)) (grantBy (now (a .entry)) w shares beats) ⌝ }
+{
+    let last = *a;
+    let g = grant_by(last, w, shares, beats);
+    let next = record_after(last, g);
+    *a = next;
+    g
+}

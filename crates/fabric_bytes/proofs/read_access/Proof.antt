@@ -1,0 +1,56 @@
+-- `moves::read_access` meets its contract. The part that was lent comes back with the bytes of the access.
+-- Assumes nothing.
+use borrow.Author.Needs.{needs}
+use mathlib.Core.Path.{ap, _∙_}
+use mathlib.Core.List.{List, _++_}
+use denote.Ref.{now}
+use Prim.Native.Nat.{ℕ, _+_, _*_, _-_}
+use native.Mathlib.Omega.{arith}
+use lib.ListN.{take, drop}
+use Rattle.fabric_bytes.specs.Moving.{all}
+use Rattle.fabric_bytes.proofs.PartLaws.{move-back}
+use Rattle.fabric_bytes.proofs.read_access.Statement.{statement}
+use Rattle.fabric_bytes.proofs.read_access.Tie as tie
+
+mul-start : tie.Need-mul-start
+mul-start c = search needs
+
+add-end : tie.Need-add-end
+add-end c = search needs
+
+sub-store-words : tie.Need-sub-store-words
+sub-store-words c = search needs
+
+part-store-words-start : tie.Need-part-store-words-start
+part-store-words-start c = search needs
+
+part-store-words-end : tie.Need-part-store-words-end
+part-store-words-end c = search needs
+
+store-words-requires : tie.Need-store-words-requires
+store-words-requires c κs = search needs
+
+same-length : tie.Need-same-length
+same-length c = search needs
+
+returns : tie.Need-returns
+returns c =
+    let s = c .before .before .before .before .before .before in
+    let d = now (s .args .buffer) in
+    let a = 512 * s .args .m in
+    ap (λ (ys : List ℕ). take a d ++ (ys ++ drop (a + 512 - a) (drop a d))) (c .before .before .store-words .ensures)
+    ∙ move-back all (now (s .args .memory)) (s .args .from) (s .args .first) (s .args .count) a (a + 512 - a) d
+    (omega (arith, s .pre))
+
+pub read-access-spec : {M : Type 1} → statement M
+read-access-spec =
+    tie.close
+    (tie.spec
+    mul-start
+    add-end
+    sub-store-words
+    part-store-words-start
+    part-store-words-end
+    store-words-requires
+    same-length
+    returns)

@@ -1,0 +1,143 @@
+// Bytes of a post and of an access. Each master's words live in its own 512 bytes of the buffer: the functions that move bytes
+// are lent that part alone.
+use description_board::Master;
+use description_board::Slave;
+use fabric_accesses::Transfer;
+ghost use mathlib.Core.Path.{_≡_};
+ghost use mathlib.Core.Bool.{true};
+ghost use Prim.Native.Nat.{_+_, _%_, _≤_, _<_};
+ghost use lib.ListN.{length};
+ghost use Rattle.common_laws.specs.Bits.{bit};
+ghost use Rattle.common_laws.specs.Lists.{member};
+ghost use Rattle.description_board.specs.Rules.{widths};
+ghost use Rattle.fabric_bytes.specs.Moving.{all, move};
+ghost use Rattle.fabric_bytes.specs.Bytes.{bufferLength, partOf, posted, accessed};
+ghost use Rattle.fabric_bytes.specs.Reaching.{Reached};
+
+// The words of a post, to the front of the part.
+fn take_words(part: &mut [u8], words: &[u8])
+    requires { ⌜ length (now words) ≤ length (now part) ⌝ }
+    ensures { λ r. ⌜ now (part .exit) ≡ move all (now (words .entry)) 0 0 0 (length (now (words .entry))) (now (part .entry)) ⌝ }
+{
+    let n = words.len();
+    let mut k = 0;
+    while k < n {
+        part[k] = words[k];
+        k += 1;
+    }
+}
+
+// The words of a post, to the part of master m.
+pub fn post_words(buffer: &mut [u8], m: usize, words: &[u8])
+    requires { ⌜ (length (now buffer) ≡ bufferLength) × (m < 8) × (length (now words) ≤ 512) ⌝ }
+    ensures { λ r. ⌜ now (buffer .exit) ≡ posted m (now (words .entry)) (now (buffer .entry)) ⌝ }
+{
+    let start = 512 * m;
+    let end = start + 512;
+    take_words(&mut buffer[start..end], words);
+}
+
+// A read access: bytes first up to first + count of the transfer, whose place in memory is `from`.
+fn store_words(memory: &[u8], from: usize, part: &mut [u8], first: usize, count: usize)
+    requires { ⌜ (from + (first + count) ≤ length (now memory)) × (first + count ≤ length (now part)) ⌝ }
+    ensures { λ r. ⌜ now (part .exit) ≡ move all (now (memory .entry)) from 0 first count (now (part .entry)) ⌝ }
+{
+    let mut k = 0;
+    while k < count {
+        let i = first + k;
+        part[i] = memory[from + i];
+        k += 1;
+    }
+}
+
+// A read access of master m.
+fn read_access(memory: &[u8], from: usize, buffer: &mut [u8], m: usize, first: usize, count: usize)
+    requires { ⌜ (length (now buffer) ≡ bufferLength) × (m < 8) × (first + count ≤ 512)
+        × (from + (first + count) ≤ length (now memory)) ⌝ }
+    ensures { λ r. ⌜ now (buffer .exit) ≡ move all (now (memory .entry)) from (partOf m) first count (now (buffer .entry)) ⌝ }
+{
+    let start = 512 * m;
+    let end = start + 512;
+    store_words(memory, from, &mut buffer[start..end], first, count);
+}
+
+// Whether lane k is enabled.
+fn lane_on(lanes: u32, k: usize) -> bool
+    requires { ⌜ k < 8 ⌝ }
+    ensures { λ r. ⌜ r ≡ bit lanes k ⌝ }
+{
+    (lanes >> k) % 2 == 1
+}
+
+// A write access. Its bytes lie in one word of the master, so that their lanes count on from that of the first one.
+fn write_words(
+    memory: &mut [u8],
+    at: usize,
+    part: &[u8],
+    first: usize,
+    count: usize,
+    lanes: u32,
+    width: u32,
+)
+    requires { ⌜ (at + (first + count) ≤ length (now memory)) × (first + count ≤ length (now part))
+        × (member width widths ≡ true) × (first % width + count ≤ width) ⌝ }
+    ensures { λ r. ⌜ now (memory .exit)
+        ≡ move (λ i. bit lanes (i % width)) (now (part .entry)) 0 at first count (now (memory .entry)) ⌝ }
+{
+    let lane = first & (width - 1) as usize;
+    let mut k = 0;
+    while k < count {
+        let i = first + k;
+        if lane_on(lanes, lane + k) {
+            memory[at + i] = part[i];
+        }
+        k += 1;
+    }
+}
+
+// A write access of master m.
+fn write_access(
+    memory: &mut [u8],
+    at: usize,
+    buffer: &[u8],
+    m: usize,
+    first: usize,
+    count: usize,
+    lanes: u32,
+    width: u32,
+)
+    requires { ⌜ (length (now buffer) ≡ bufferLength) × (m < 8) × (first + count ≤ 512)
+        × (at + (first + count) ≤ length (now memory))
+        × (member width widths ≡ true) × (first % width + count ≤ width) ⌝ }
+    ensures { λ r. ⌜ now (memory .exit)
+        ≡ move (λ i. bit lanes (i % width)) (now (buffer .entry)) (partOf m) at first count (now (memory .entry)) ⌝ }
+{
+    let start = 512 * m;
+    let end = start + 512;
+    write_words(memory, at, &buffer[start..end], first, count, lanes, width);
+}
+
+// Access a of the transfer that master m holds, at a slave whose span starts at `start`.
+pub fn carry_access(
+    ma: Master,
+    sl: Slave,
+    t: Transfer,
+    m: usize,
+    start: usize,
+    a: u32,
+    memory: &mut [u8],
+    buffer: &mut [u8],
+)
+    requires { ⌜ Reached ma sl t m start a (record { memory = now memory; buffer = now buffer }) ⌝ }
+    ensures { λ r. ⌜ record { memory = now (memory .exit); buffer = now (buffer .exit) }
+        ≡ accessed ma sl t m start a (record { memory = now (memory .entry); buffer = now (buffer .entry) }) ⌝ }
+{
+    let place = start + ((t.address - sl.base) as usize);
+    let first = fabric_accesses::first_byte(ma, sl, a) as usize;
+    let count = fabric_accesses::access_width(ma, sl) as usize;
+    if t.write {
+        write_access(memory, place, buffer, m, first, count, t.lanes, ma.width);
+        return;
+    }
+    read_access(memory, place, buffer, m, first, count);
+}

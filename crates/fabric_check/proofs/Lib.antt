@@ -1,0 +1,3 @@
+pub mod TargetLaws
+pub mod RefusalLaws
+pub mod CheckLaws

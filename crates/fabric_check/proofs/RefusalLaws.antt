@@ -1,0 +1,65 @@
+-- What a transfer is refused for, by the parts that the code has, is the definition's.
+-- Assumes nothing.
+use mathlib.Core.Path.{_≡_, refl, _∙_}
+use mathlib.Core.Bool.{Bool, true, false}
+use mathlib.Core.List.{List}
+use Prim.Native.Nat.{ℕ, _*_, _%_, _≤_, _<_}
+use native.Mathlib.Nat.{mod-eq-of-lt}
+use native.Mathlib.Omega.{arith}
+use lib.Dec.{eqb}
+use lib.ListN.{getD}
+use borrow.Author.Tests.{eqb-false}
+use Rattle.common_laws.specs.Lists.{member}
+use Rattle.common_laws.proofs.TableLaws.{member-each}
+use Rattle.common_laws.proofs.Arithmetic.{product-le}
+use Rattle.description_board.specs.declared.Master.{Master}
+use Rattle.description_board.specs.declared.Slave.{Slave}
+use Rattle.description_board.specs.declared.Board.{Board}
+use Rattle.description_board.specs.Records.{noSlave, masterAt, slaveAt}
+use Rattle.description_board.specs.Rules.{widths}
+use Rattle.description_board.specs.Items.{checkBoard}
+use Rattle.description_board.proofs.Accepted.{accepted-legal}
+use Rattle.fabric_accesses.specs.declared.Transfer.{Transfer}
+use Rattle.fabric_accesses.specs.Decoding.{targetOf}
+use Rattle.fabric_state.specs.Posting.{unmapped, refusalAt, transferRefusal}
+use Rattle.fabric_accesses.proofs.SelectLaws.{target-first}
+
+pub width-some : (width : ℕ) → member width widths ≡ true → 0 < width
+width-some width e = member-each (λ w. 0 < w) width widths (omega arith) e
+
+pub width-most : (width : ℕ) → member width widths ≡ true → width ≤ 8
+width-most width e = member-each (λ w. w ≤ 8) width widths (omega arith) e
+
+-- the bytes of a transfer, whatever its beats, fit 64 bits with room for an address
+pub bytes-most : (beats width : ℕ) → beats ≤ 4294967295 → member width widths ≡ true → beats * width ≤ 34359738360
+bytes-most beats width h e = product-le beats width 4294967295 8 h (width-most width e)
+
+-- a transfer for no slave is not refused for its slave: 16 stands before 17
+refusal-slave : (ma : Master) (slaves : List Slave) (t : Transfer) (target count : ℕ) → target ≤ count → count ≤ 16
+    → refusalAt ma (getD slaves (target % 16) noSlave) t target count ≡ refusalAt ma (getD slaves target noSlave) t target count
+unfolding refusalAt unmapped
+refusal-slave ma slaves t target count h l = go (eqb target count) refl
+  where
+    go : (c : Bool) → eqb target count ≡ c
+        → refusalAt ma (getD slaves (target % 16) noSlave) t target count
+        ≡ refusalAt ma (getD slaves target noSlave) t target count
+    go true e = rw e
+    go false e =
+        let none = eqb-false target count e in
+        let small : target < 16 = omega arith in
+        rw (mod-eq-of-lt small)
+
+-- the code has read the master, the slave at the target's remainder by 16, and the count of slaves
+pub refusal-parts : (b : Board) → checkBoard b ≡ 0 → (m : ℕ) (t : Transfer) (target : ℕ) {ma : Master} {sl : Slave} {count : ℕ}
+    → target ≡ targetOf b m (t .address) → ma ≡ masterAt b m → sl ≡ slaveAt b (target % 16) → count ≡ b .«slave_count»
+    → refusalAt ma sl t target count ≡ transferRefusal b m t
+unfolding transferRefusal
+refusal-parts b ok m t target e f g h =
+    rw (f, g, h)
+    (refusal-slave (masterAt b m) (b .slaves) t target (b .«slave_count»)
+    (rw e (target-first b m (t .address) .within)) (accepted-legal b ok .fewSlaves)
+    ∙ same target e)
+  where
+    same : (x : ℕ) → x ≡ targetOf b m (t .address)
+        → refusalAt (masterAt b m) (slaveAt b x) t x (b .«slave_count») ≡ transferRefusal b m t
+    same x q = rw q

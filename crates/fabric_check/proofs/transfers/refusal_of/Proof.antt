@@ -1,0 +1,48 @@
+-- `transfers::refusal_of` meets its contract.
+-- Assumes nothing.
+use mathlib.Core.Path.{_∙_}
+use native.Mathlib.Omega.{arith}
+use borrow.Author.Needs.{needs}
+use Rattle.description_board.proofs.Accepted.{accepted-legal}
+use Rattle.fabric_check.proofs.TargetLaws.{decodes}
+use Rattle.fabric_check.proofs.RefusalLaws.{refusal-parts}
+use Rattle.fabric_check.proofs.transfers.refusal_of.Statement.{statement}
+use Rattle.fabric_check.proofs.transfers.refusal_of.Tie as tie
+
+target-requires : tie.Need-target-requires
+target-requires c κs = (decodes _ (c .pre .0), omega (arith, accepted-legal _ (c .pre .0) .fewMasters))
+
+cast-slave-at : tie.Need-cast-slave-at
+cast-slave-at c = search needs
+
+slave-at-requires : tie.Need-slave-at-requires
+slave-at-requires c κs = search needs
+
+master-at-requires : tie.Need-master-at-requires
+master-at-requires c κs = let start = c .before .before in omega (arith, accepted-legal _ (start .pre .0) .fewMasters)
+
+slave-count-requires : tie.Need-slave-count-requires
+slave-count-requires c κs = search needs
+
+transfer-refusal-requires : tie.Need-transfer-refusal-requires
+transfer-refusal-requires c κs = let start = c .before .before .before .before in
+    rw (c .before .master-at .ensures) (accepted-legal _ (start .pre .0) .master _ (start .pre .1) .width)
+
+returns : tie.Need-returns
+returns c =
+    let at = c .before .before .before .before in
+    c .transfer-refusal .ensures
+    ∙ refusal-parts _ (at .before .pre .0) _ _ _ (at .target .ensures) (c .before .before .master-at .ensures)
+    (c .before .before .before .slave-at .ensures) (c .before .slave-count .ensures)
+
+pub refusal-of-spec : {M : Type 1} → statement M
+refusal-of-spec =
+    tie.close
+    (tie.spec
+    target-requires
+    cast-slave-at
+    slave-at-requires
+    master-at-requires
+    slave-count-requires
+    transfer-refusal-requires
+    returns)

@@ -1,0 +1,100 @@
+// Transfers: which slave each is for, who requests a slave, and what a transfer is refused for.
+// Tests are joined by & and |, not by && and ||: each part is safe by itself, and a proof meets the whole as one test.
+use description_board::Master;
+use description_board::Slave;
+use fabric_accesses::Transfer;
+ghost use mathlib.Core.Path.{_≡_};
+ghost use mathlib.Core.Bool.{true, cond};
+ghost use Prim.Native.Nat.{_^_, _<_};
+ghost use lib.ListN.{replicate};
+ghost use Rattle.common_laws.specs.Lists.{member, table};
+ghost use Rattle.description_board.specs.Rules.{widths};
+ghost use Rattle.description_board.specs.Items.{checkBoard};
+ghost use Rattle.fabric_accesses.specs.Decoding.{targetOf};
+ghost use Rattle.fabric_state.specs.Posting.{refusalAt, transferRefusal};
+ghost use Rattle.description_layout.specs.Layout.{boardIn};
+ghost use Rattle.fabric_check.specs.Targets.{requestMask};
+ghost use Rattle.fabric_check.specs.Decoded.{Decodes};
+
+// The first slave that an address selects for master m, or the count of slaves. Most slaves are ruled out by their address, so
+// that shares are read only where it agrees.
+pub fn target(board: &[u32; 242], m: usize, address: u32) -> u32
+    requires { ⌜ Decodes (boardIn (now board)) × m < 8 ⌝ }
+    ensures { λ r. ⌜ r ≡ targetOf (boardIn (now (board .entry))) m address ⌝ }
+{
+    let count = description_layout::slave_count(board);
+    let mut s: u32 = 0;
+    while s < count {
+        let i = s as usize;
+        let sl = description_layout::slave_at(board, i);
+        if fabric_accesses::address_agrees(sl, address) {
+            if 0 < description_layout::share_at(board, m, i) {
+                return s;
+            }
+        }
+        s += 1;
+    }
+    count
+}
+
+// The bit of master m in a mask, where it is on.
+pub fn weight_of(on: bool, m: u32) -> u32
+    requires { ⌜ m < 8 ⌝ }
+    ensures { λ r. ⌜ r ≡ cond on (2 ^ m) 0 ⌝ }
+{
+    if on { 1 << m } else { 0 }
+}
+
+// The requests for each slave: bit m is 1 where the transfer of master m is for it. One pass over the masters adds them all to an
+// array of zeros; a target that is no slave adds 0, so that the pass has no branch.
+pub fn request_masks(targets: &[u32; 8], out: &mut [u32; 16])
+    requires { ⌜ now out ≡ replicate 16 0 ⌝ }
+    ensures { λ _. ⌜ now (out .exit) ≡ table (requestMask (now (targets .entry))) 16 ⌝ }
+{
+    let mut m: u32 = 0;
+    while m < 8 {
+        let target = targets[m as usize];
+        let i = (target % 16) as usize;
+        let before = out[i];
+        out[i] = before + weight_of(target < 16, m);
+        m += 1;
+    }
+}
+
+// What a transfer is refused for (13 to 17), or 0: of the master, the slave that it is for, that slave's number, or the count
+// of slaves where it is for none. A width is a power of two, so that a mask leaves what is over a multiple of it.
+pub fn transfer_refusal(ma: Master, sl: Slave, t: Transfer, target: u32, count: u32) -> u32
+    requires { ⌜ member (ma .width) widths ≡ true ⌝ }
+    ensures { λ r. ⌜ r ≡ refusalAt ma sl t target count ⌝ }
+{
+    if (t.beats == 0) | (ma.burst < t.beats) {
+        return 13;
+    }
+    if t.address & (ma.width - 1) != 0 {
+        return 14;
+    }
+    if !fabric_lanes::lanes_postable(ma.width, t.lanes, t.beats) {
+        return 15;
+    }
+    if target == count {
+        return 16;
+    }
+    // an end can pass the last address, so it is a u64
+    let bytes = t.beats as u64 * ma.width as u64;
+    if sl.base as u64 + (sl.span as u64) < t.address as u64 + bytes {
+        return 17;
+    }
+    0
+}
+
+// What the transfer t of master m is refused for, or 0.
+pub fn refusal_of(board: &[u32; 242], m: usize, t: Transfer) -> u32
+    requires { ⌜ (checkBoard (boardIn (now board)) ≡ 0) × (m < boardIn (now board) .«master_count») ⌝ }
+    ensures { λ r. ⌜ r ≡ transferRefusal (boardIn (now (board .entry))) m t ⌝ }
+{
+    let at = target(board, m, t.address);
+    // the number of slaves can be 16: what stands for no slave is looked up, and not used
+    let sl = description_layout::slave_at(board, (at % 16) as usize);
+    let ma = description_layout::master_at(board, m);
+    transfer_refusal(ma, sl, t, at, description_layout::slave_count(board))
+}

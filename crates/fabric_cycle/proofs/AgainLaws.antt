@@ -1,0 +1,52 @@
+-- One clock after another: the next one may run too, and where nobody is finished the requests are those of before.
+-- Assumes nothing.
+use mathlib.Core.Path.{_≡_, sym, ap, _∙_}
+use mathlib.Core.Bool.{false}
+use mathlib.Core.List.{List}
+use Prim.Native.Nat.{ℕ, _<_}
+use native.Mathlib.Omega.{arith}
+use lib.ListN.{length}
+use Rattle.common_laws.specs.Bits.{bit}
+use Rattle.common_laws.specs.Lists.{table}
+use Rattle.common_laws.proofs.BitLaws.{bit-above}
+use Rattle.common_laws.proofs.FillLaws.{table-is}
+use Rattle.description_board.specs.declared.Board.{Board}
+use Rattle.fabric_accesses.specs.Accesses.{noTransfer}
+use Rattle.fabric_bytes.specs.Bytes.{Store}
+use Rattle.fabric_state.specs.declared.State.{State}
+use Rattle.fabric_state.specs.declared.Line.{Line}
+use Rattle.fabric_state.specs.Control.{finished, maskOf, transferAfter, stateAfter}
+use Rattle.fabric_state.proofs.StateLaws.{mask-bit, transfer-kept}
+use Rattle.fabric_state.proofs.SoundLaws.{sound-test, clock-sound}
+use Rattle.fabric_check.specs.Targets.{targetsIn, requestMask}
+use Rattle.fabric_cycle.specs.Cycles.{Runs, Clocks}
+use Rattle.fabric_cycle.proofs.PassLaws.{runs-legal, runs-sound}
+
+-- for a state of 8 transfers
+module _ (b : Board) (u : State) (l : length (u .transfers) ≡ 8) where
+  none-finished : maskOf b u ≡ 0 → (m : ℕ) → m < 8 → finished b u m ≡ false
+  none-finished e m h =
+      sym (mask-bit b u m h) ∙ ap (λ (x : ℕ). bit x m) e ∙ bit-above 0 0 m (omega arith) (omega arith)
+
+  pub transfers-kept : maskOf b u ≡ 0 → stateAfter b u .transfers ≡ u .transfers
+  unfolding stateAfter
+  transfers-kept e =
+      sym (table-is (transferAfter b u) 8 noTransfer (u .transfers) l (λ m h. sym (transfer-kept b u m (none-finished e m h))))
+
+-- the state v, the mask r and the bytes e that a clock leaves of the state u and the bytes d
+module _ (b : Board) (u v : State) (shown : List Line) (r : ℕ) (d e : Store) (l : length (u .transfers) ≡ 8)
+    (c : Clocks b u v shown r d e) where
+  pub runs-again : length (u .slots) ≡ 16 → Runs b u → Runs b v
+  runs-again k p = record {
+    board = p .board;
+    state = rw (c .state)
+        (sound-test b (stateAfter b u) (runs-legal b u l k p)
+        (clock-sound b u (runs-legal b u l k p) (runs-sound b u l k p)));
+  }
+
+  pub same-transfers : r ≡ 0 → v .transfers ≡ u .transfers
+  same-transfers z = ap (λ (x : State). x .transfers) (c .state) ∙ transfers-kept b u l (sym (c .mask) ∙ z)
+
+  pub same-requests : {masks : List ℕ} → r ≡ 0 → masks ≡ table (requestMask (targetsIn b (u .transfers))) 16
+      → masks ≡ table (requestMask (targetsIn b (v .transfers))) 16
+  same-requests z q = q ∙ rw (same-transfers z)

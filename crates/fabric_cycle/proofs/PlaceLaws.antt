@@ -1,0 +1,101 @@
+-- Where the accesses of a sound state lie: in the slave's words, in the lent memory, in the master's part and words.
+-- Assumes nothing.
+use mathlib.Core.Path.{_≡_}
+use mathlib.Core.Bool.{true}
+use Prim.Native.Nat.{ℕ, _+_, _-_, _*_, _≤_, _<_}
+use native.Mathlib.Numerals.{add-one}
+use native.Mathlib.Omega.{arith}
+use lib.ListN.{length}
+use Rattle.common_laws.proofs.Arithmetic.{product-le}
+use Rattle.description_board.specs.declared.Board.{Board}
+use Rattle.description_board.specs.Records.{masterAt, slaveAt, startOf, memoryLength}
+use Rattle.description_board.specs.Legal.{Legal}
+use Rattle.description_board.proofs.RuleLaws.{burst-bound, span-bound}
+use Rattle.description_board.proofs.StartLaws as board
+use Rattle.fabric_accesses.specs.declared.Transfer.{Transfer}
+use Rattle.fabric_accesses.specs.Accesses.{accesses}
+use Rattle.fabric_accesses.proofs.DecodeLaws.{span-of}
+use Rattle.fabric_accesses.proofs.AccessLaws.{width-pos, width-le, base-aligned, first-in-word, first-byte-within}
+use Rattle.fabric_accesses.proofs.AccessLaws.{word-within, in-word, ratio-le, accesses-le}
+use Rattle.fabric_accesses.proofs.PowerLaws.{legal-pair}
+use Rattle.fabric_bytes.specs.Bytes.{Store, bufferLength, memoryPlace}
+use Rattle.fabric_bytes.specs.Reaching.{Reached}
+use Rattle.fabric_state.specs.declared.State.{State}
+use Rattle.fabric_state.specs.Records.{transferAt}
+use Rattle.fabric_state.specs.Control.{slotAfterGrant}
+use Rattle.fabric_cycle.specs.Serving.{Placed}
+use Rattle.fabric_state.proofs.Sound.{Sound}
+use Rattle.fabric_state.proofs.DecodeLaws.{Accepted}
+use Rattle.fabric_state.proofs.SoundLaws.{requester, grant-sound}
+
+-- the spans one after another, as a loop counts the slaves
+pub start-next : (b : Board) (s : ℕ) → startOf b (s + 1) ≡ startOf b s + slaveAt b s .span
+start-next b s = rw (add-one s) (board.start-next b s)
+
+-- access a of a transfer of master m that is not refused, at the slave s that it is for
+module _ (b : Board) (legal : Legal b) (m s : ℕ) (t : Transfer) (known : m < b .«master_count») (ok : Accepted b m t s)
+    (a : ℕ) (more : a < accesses (masterAt b m) (slaveAt b s) t) where
+  ends : t .address - slaveAt b s .base + t .beats * masterAt b m .width ≤ slaveAt b s .span
+  ends = omega (arith, ok .low, ok .end)
+
+  pub accepted-placed : Placed (masterAt b m) (slaveAt b s) t a
+  accepted-placed =
+      let wm = legal .master m known .width in
+      let sl = legal .slave s (ok .within) in
+      let span = span-of (slaveAt b s .span) (sl .span) in
+      let far : slaveAt b s .span ≤ 65536 = span-bound (slaveAt b s .span) (sl .span) .1 in
+      let burst : masterAt b m .burst ≤ 64 = burst-bound (masterAt b m .burst) (legal .master m known .burst) .1 in
+      let each = ratio-le (masterAt b m) (slaveAt b s) 8 (omega arith) (width-le (masterAt b m .width) wm) in
+      let most = accesses-le (masterAt b m) (slaveAt b s) t 64 (omega (arith, ok .few)) in
+      record {
+        pair = legal-pair (masterAt b m) (slaveAt b s) (legal .master m known) sl;
+        left = more;
+        few = omega arith;
+        word = in-word (masterAt b m) (slaveAt b s) wm (sl .width) t a (ok .aligned)
+            (base-aligned (slaveAt b s .base) (slaveAt b s .span) (slaveAt b s .width) (sl .aligned) (sl .span) (sl .width));
+        offset = omega (
+          arith,
+          word-within (masterAt b m) (slaveAt b s) wm (sl .width) t a more ends span,
+          width-pos (slaveAt b s .width) (sl .width),
+        );
+      }
+
+  pub accepted-reached : (d : Store) → b .«master_count» ≤ 8 → length (d .memory) ≡ memoryLength b
+      → length (d .buffer) ≡ bufferLength → Reached (masterAt b m) (slaveAt b s) t m (startOf b s) a d
+  unfolding memoryPlace
+  accepted-reached d few p q =
+      let wm = legal .master m known .width in
+      let ws = legal .slave s (ok .within) .width in
+      let burst : masterAt b m .burst ≤ 64 = burst-bound (masterAt b m .burst) (legal .master m known .burst) .1 in
+      let words : t .beats * masterAt b m .width ≤ 64 * 8
+      = product-le (t .beats) (masterAt b m .width) 64 8 (omega (arith, ok .few)) (width-le (masterAt b m .width) wm) in
+      let inside = first-byte-within (masterAt b m) (slaveAt b s) wm ws t a more in
+      record {
+        master = omega arith;
+        buffer = q;
+        part = omega arith;
+        address = ok .low;
+        memory = omega (arith, ends, board.end-inside b s (ok .within));
+        width = wm;
+        word = first-in-word (masterAt b m) (slaveAt b s) wm ws a;
+      }
+
+-- so is the access of a slave that serves after rule 1
+module _ (b : Board) (st : State) (legal : Legal b) (x : Sound b st) (s : ℕ) (h : s < b .«slave_count»)
+    (on : slotAfterGrant b st s .serving ≡ true) where
+  pub grant-placed : Placed (masterAt b (slotAfterGrant b st s .owner)) (slaveAt b s)
+      (transferAt st (slotAfterGrant b st s .owner)) (slotAfterGrant b st s .done)
+  grant-placed =
+      let v = grant-sound b st legal x s h .serving on in
+      let r = requester b st legal x s (slotAfterGrant b st s .owner) (v .asks) in
+      accepted-placed b legal (slotAfterGrant b st s .owner) s (transferAt st (slotAfterGrant b st s .owner)) (r .0) (r .1) _
+      (v .done)
+
+  pub grant-reached : (d : Store) → length (d .memory) ≡ memoryLength b → length (d .buffer) ≡ bufferLength
+      → Reached (masterAt b (slotAfterGrant b st s .owner)) (slaveAt b s) (transferAt st (slotAfterGrant b st s .owner))
+      (slotAfterGrant b st s .owner) (startOf b s) (slotAfterGrant b st s .done) d
+  grant-reached d p q =
+      let v = grant-sound b st legal x s h .serving on in
+      let r = requester b st legal x s (slotAfterGrant b st s .owner) (v .asks) in
+      accepted-reached b legal (slotAfterGrant b st s .owner) s (transferAt st (slotAfterGrant b st s .owner)) (r .0) (r .1) _
+      (v .done) d (legal .fewMasters) p q

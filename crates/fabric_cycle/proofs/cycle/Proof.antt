@@ -1,0 +1,151 @@
+-- `cycles::cycle` meets its contract: the pass over the slaves, then the lines of no slave.
+-- Assumes nothing.
+use mathlib.Core.Path.{_≡_}
+use Prim.Native.Nat.{_-_, _<_}
+use native.Mathlib.Omega.{arith}
+use lib.ListN.{getD}
+use borrow.Author.Needs.{needs}
+use Rattle.description_board.specs.declared.Board.{Board}
+use Rattle.fabric_state.specs.declared.State.{State}
+use Rattle.description_layout.specs.Layout.{boardIn}
+use Rattle.fabric_layout.specs.Layout.{stateIn, linesIn}
+use Rattle.fabric_layout.proofs.StateLaws.{transfers-length, slots-length, lines-length}
+use Rattle.fabric_check.specs.Targets.{targetsIn, requestMask}
+use Rattle.fabric_check.proofs.TargetLaws.{mask-at}
+use Rattle.fabric_cycle.proofs.PassLaws.{Pass, runs-legal, pass-begin, pass-ready, pass-fits, start-fits, pass-next, pass-end}
+use Rattle.fabric_cycle.proofs.cycle.Statement.{statement}
+use Rattle.fabric_cycle.proofs.cycle.Tie as tie
+
+abbrev Inv-loop : tie.InvT-loop
+Inv-loop board st₀ requests lines₀ memory₀ buffer₀ count finished₀ start₀ s₀ st lines memory buffer finished start s =
+    Pass (boardIn board) (stateIn st₀) (stateIn st) s start (linesIn lines₀) (linesIn lines) finished
+    (record { memory = memory₀; buffer = buffer₀ }) (record { memory = memory; buffer = buffer })
+
+abbrev μ-loop : tie.MeasureT-loop
+μ-loop board st₀ requests lines₀ memory₀ buffer₀ count finished₀ start₀ s₀ st lines memory buffer finished start s =
+    boardIn board .«slave_count» - s
+
+-- from a turn back to the function's start, and from its end back to its beginning
+abbrev start : tie.In-loop Inv-loop μ-loop → tie.Start Inv-loop μ-loop
+start c = c .before .before .before .before .before
+
+abbrev turned : tie.After-struct-known Inv-loop μ-loop → tie.After-turn Inv-loop μ-loop
+turned c = c .before .before .before .before .before .before
+
+abbrev top : tie.After-turn Inv-loop μ-loop → tie.In-loop Inv-loop μ-loop
+top c = c .before .before .before .before .before .before
+
+abbrev board : tie.Start Inv-loop μ-loop → Board
+board c = boardIn (c .args .board .now)
+
+abbrev before : tie.Start Inv-loop μ-loop → State
+before c = stateIn (c .args .st .now)
+
+-- the slave of a turn is one of the board, and its mask is that of its requests
+slave-in : (c : tie.In-loop Inv-loop μ-loop) → c .before .loop .s < board (start c) .«slave_count»
+slave-in c = omega (arith, c .loop-test .taken, c .before .before .slave-count .ensures)
+
+place-in : (c : tie.In-loop Inv-loop μ-loop) → c .before .loop .s < 16
+place-in c = omega (arith, slave-in c, runs-legal _ _ (transfers-length _) (slots-length _) (start c .pre .0) .fewSlaves)
+
+mask-is : (c : tie.In-loop Inv-loop μ-loop)
+    → getD (start c .args .requests .now) (c .before .loop .s) 0
+    ≡ requestMask (targetsIn (board (start c)) (before (start c) .transfers)) (c .before .loop .s)
+mask-is c = mask-at _ _ (place-in c) (start c .pre .1)
+
+slave-count-requires : tie.Need-slave-count-requires Inv-loop μ-loop
+slave-count-requires c κs = search needs
+
+cast-count : tie.Need-cast-count Inv-loop μ-loop
+cast-count c = search needs
+
+loop-holds : tie.Need-loop-holds Inv-loop μ-loop
+loop-holds c = pass-begin _ _ _ _ (transfers-length _) (slots-length _) (lines-length _)
+
+mul-turn : tie.Need-mul-turn Inv-loop μ-loop
+mul-turn c = search needs
+
+element-copy-out-turn : tie.Need-element-copy-out-turn Inv-loop μ-loop
+element-copy-out-turn c = place-in (c .before)
+
+turn-requires : tie.Need-turn-requires Inv-loop μ-loop
+turn-requires c κs = let a = c .before .before .before .before .before in
+    let o = start a in
+    pass-ready _ _ (transfers-length _) (slots-length _) (o .pre .0) _ (slave-in a) _ _ (a .before .loop .inv) _ (mask-is a)
+    (o .pre .2) (o .pre .3)
+
+add-finished : tie.Need-add-finished Inv-loop μ-loop
+add-finished c = let t = c .before .before .before .before in
+    let a = top t in
+    omega (
+      arith,
+      pass-fits _ _ (transfers-length _) (slots-length _) (start a .pre .0) _ (slave-in a) _ _ (a .before .loop .inv) _
+          (mask-is a) _ (t .turn .ensures),
+    )
+
+slave-at-requires : tie.Need-slave-at-requires Inv-loop μ-loop
+slave-at-requires c κs = place-in (top (c .before .before .before .before))
+
+cast-start : tie.Need-cast-start Inv-loop μ-loop
+cast-start c = search needs
+
+add-start : tie.Need-add-start Inv-loop μ-loop
+add-start c = let a = top (turned c) in
+    omega (
+      arith,
+      start-fits _ _ (transfers-length _) (slots-length _) (start a .pre .0) _ (slave-in a) _ _ (a .before .loop .inv) _
+          (mask-is a) (c .before .slave-at .ensures),
+    )
+
+add-s : tie.Need-add-s Inv-loop μ-loop
+add-s c = omega (arith, place-in (top (turned c)))
+
+loop-less : tie.Need-loop-less Inv-loop μ-loop
+loop-less c = omega (arith, slave-in (top (turned c)))
+
+loop-again : tie.Need-loop-again Inv-loop μ-loop
+loop-again c = let t = turned c in
+    let a = top t in
+    let k = t .turn .kept .1 .1 .1 .1 .1 .1 in
+    pass-next _ _ (transfers-length _) (slots-length _) (start a .pre .0) _ (slave-in a) _ _ (a .before .loop .inv) _ (mask-is a)
+    _ (t .turn .ensures) (c .before .slave-at .ensures) (k .0) (k .1 .0)
+
+clear-lines-requires : tie.Need-clear-lines-requires Inv-loop μ-loop
+clear-lines-requires c κs = search needs
+
+same-length : tie.Need-same-length Inv-loop μ-loop
+same-length c = c .before .before .before .loop .inv .memory
+
+same-length-2 : tie.Need-same-length-2 Inv-loop μ-loop
+same-length-2 c = c .before .before .before .loop .inv .buffer
+
+returns : tie.Need-returns Inv-loop μ-loop
+returns c = let a = c .before .before .before in
+    let n = a .before .slave-count .ensures in
+    let b = boardIn (a .before .before .before .before .args .board .now) in
+    let e : a .loop .s ≡ b .«slave_count» = omega (arith, n, c .before .before .loop-test .left, a .loop .inv .within) in
+    pass-end _ _ _ _ _ _ _ _ _ _ (a .loop .inv) e n (c .clear-lines .ensures)
+
+pub cycle-spec : {M : Type 1} → statement M
+cycle-spec =
+    tie.close
+    (tie.spec
+    Inv-loop
+    μ-loop
+    slave-count-requires
+    cast-count
+    loop-holds
+    mul-turn
+    element-copy-out-turn
+    turn-requires
+    add-finished
+    slave-at-requires
+    cast-start
+    add-start
+    add-s
+    loop-less
+    loop-again
+    clear-lines-requires
+    same-length
+    same-length-2
+    returns)

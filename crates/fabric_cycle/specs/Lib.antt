@@ -1,0 +1,3 @@
+pub mod Serving
+pub mod Cycles
+pub mod Turns

@@ -1,0 +1,165 @@
+// One clock of an accepted board in a state that breaks no rule, slave by slave: the three rules and the bytes. The state is
+// changed in place.
+mod slave;
+
+use fabric_accesses::Transfer;
+use fabric_arbiter::Winner;
+use fabric_state::Line;
+use fabric_state::Slot;
+ghost use mathlib.Core.Path.{_≡_};
+ghost use mathlib.Core.Bool.{false};
+ghost use Prim.Native.Nat.{_<_};
+ghost use lib.ListN.{length};
+ghost use Rattle.common_laws.specs.Lists.{table};
+ghost use Rattle.description_board.specs.Records.{memoryLength};
+ghost use Rattle.fabric_bytes.specs.Bytes.{bufferLength};
+ghost use Rattle.description_layout.specs.Layout.{boardIn};
+ghost use Rattle.fabric_layout.specs.Layout.{stateIn, linesIn};
+ghost use Rattle.fabric_check.specs.Targets.{targetsIn, requestMask};
+ghost use Rattle.fabric_cycle.specs.Cycles.{Runs, Clocks};
+ghost use Rattle.fabric_cycle.specs.Turns.{slotAsked, ended, Ready, Serving, Turned};
+
+// Rule 1 at slave s, by a mask of who requests it: shares and beats are read once it is known whose.
+fn grant_at(board: &[u32; 242], st: &[u32; 120], s: usize, mask: u32) -> Slot
+    requires { ⌜ (s < 16) × (mask < 256) ⌝ }
+    ensures { λ r. ⌜ r ≡ slotAsked (boardIn (now (board .entry))) (stateIn (now (st .entry))) s mask ⌝ }
+{
+    let slot = fabric_layout::slot_at(st, s);
+    if slot.serving {
+        return slot;
+    }
+    let last = slave::record_of(slot);
+    let w = fabric_arbiter::choose(description_layout::master_count(board), mask, last);
+    match w {
+        Winner::Again => slave::slot_ruled(
+            slot,
+            w,
+            0,
+            fabric_layout::beats_at(st, last.owner as usize),
+        ),
+        Winner::First(m) => slave::slot_ruled(
+            slot,
+            w,
+            description_layout::share_at(board, m as usize, s),
+            fabric_layout::beats_at(st, m as usize),
+        ),
+        Winner::NoOne => slave::slot_ruled(slot, w, 0, 0),
+    }
+}
+
+// The transfer of a finished master ends.
+fn end_transfer(st: &mut [u32; 120], m: usize, finished: bool)
+    requires { ⌜ m < 8 ⌝ }
+    ensures { λ _. ⌜ stateIn (now (st .exit)) ≡ ended (stateIn (now (st .entry))) m finished ⌝ }
+{
+    if finished {
+        let idle = Transfer {
+            held: false,
+            write: false,
+            address: 0,
+            lanes: 0,
+            beats: 0,
+        };
+        fabric_layout::put_transfer(st, m, idle);
+    }
+}
+
+// Rules 2 and 3 at slave s, which serves: `slot` is its slot after rule 1. Answers the bit of its owner, where it is finished.
+fn serve_at(
+    board: &[u32; 242],
+    st: &mut [u32; 120],
+    s: usize,
+    slot: Slot,
+    start: usize,
+    lines: &mut [u32; 96],
+    memory: &mut [u8],
+    buffer: &mut [u8],
+) -> u32
+    requires { ⌜ Serving (boardIn (now board)) (stateIn (now st)) s slot start
+        (record { memory = now memory; buffer = now buffer }) ⌝ }
+    ensures { λ r. ⌜ Turned (boardIn (now (board .entry))) (stateIn (now (st .entry))) (stateIn (now (st .exit))) s slot start
+        (linesIn (now (lines .entry))) (linesIn (now (lines .exit))) r
+        (record { memory = now (memory .entry); buffer = now (buffer .entry) })
+        (record { memory = now (memory .exit); buffer = now (buffer .exit) }) ⌝ }
+{
+    let o = slot.owner as usize;
+    let ma = description_layout::master_at(board, o);
+    let sl = description_layout::slave_at(board, s);
+    let t = fabric_layout::transfer_at(st, o);
+    let step = slave::serve(ma, sl, t, slot, start, memory, buffer);
+    let next = step.slot;
+    let line = step.line;
+    fabric_layout::put_slot(st, s, next);
+    fabric_layout::put_line(lines, s, line);
+    end_transfer(st, o, step.finished);
+    fabric_check::weight_of(step.finished, slot.owner)
+}
+
+// Slave s in one clock; its span starts at `start`. Answers the bit of the master that it finishes. A slave that does not
+// serve shows nothing.
+fn turn(
+    board: &[u32; 242],
+    st: &mut [u32; 120],
+    s: usize,
+    mask: u32,
+    start: usize,
+    lines: &mut [u32; 96],
+    memory: &mut [u8],
+    buffer: &mut [u8],
+) -> u32
+    requires { ⌜ Ready (boardIn (now board)) (stateIn (now st)) s mask start
+        (record { memory = now memory; buffer = now buffer }) ⌝ }
+    ensures { λ r. ⌜ Turned (boardIn (now (board .entry))) (stateIn (now (st .entry))) (stateIn (now (st .exit))) s
+        (slotAsked (boardIn (now (board .entry))) (stateIn (now (st .entry))) s mask) start
+        (linesIn (now (lines .entry))) (linesIn (now (lines .exit))) r
+        (record { memory = now (memory .entry); buffer = now (buffer .entry) })
+        (record { memory = now (memory .exit); buffer = now (buffer .exit) }) ⌝ }
+{
+    let slot = grant_at(board, st, s, mask);
+    if slot.serving {
+        return serve_at(board, st, s, slot, start, lines, memory, buffer);
+    }
+    let idle = Line {
+        phase: 0,
+        owner: 0,
+        offset: 0,
+        lanes: 0,
+        run: 0,
+        place: 0,
+    };
+    fabric_layout::put_slot(st, s, slot);
+    fabric_layout::put_line(lines, s, idle);
+    0
+}
+
+// A clock that is not refused, in one pass over the slaves; `requests` are the masks of who requests each of them before the
+// clock. A slave's slot is read at its own turn only, and a transfer that a slave is to serve is for that slave alone: so what
+// a slave reads in the state that is being changed stood there before the clock. Answers the mask of masters finished.
+pub fn cycle(
+    board: &[u32; 242],
+    st: &mut [u32; 120],
+    requests: &[u32; 16],
+    lines: &mut [u32; 96],
+    memory: &mut [u8],
+    buffer: &mut [u8],
+) -> u32
+    requires { ⌜ Runs (boardIn (now board)) (stateIn (now st))
+        × (now requests ≡ table (requestMask (targetsIn (boardIn (now board)) (stateIn (now st) .transfers))) 16)
+        × (length (now memory) ≡ memoryLength (boardIn (now board))) × (length (now buffer) ≡ bufferLength) ⌝ }
+    ensures { λ r. ⌜ Clocks (boardIn (now (board .entry))) (stateIn (now (st .entry))) (stateIn (now (st .exit)))
+        (linesIn (now (lines .exit))) r (record { memory = now (memory .entry); buffer = now (buffer .entry) })
+        (record { memory = now (memory .exit); buffer = now (buffer .exit) }) ⌝ }
+{
+    let count = description_layout::slave_count(board) as usize;
+    let mut finished: u32 = 0;
+    let mut start: usize = 0;
+    let mut s: usize = 0;
+    while s < count {
+        finished += turn(board, st, s, requests[s], start, lines, memory, buffer);
+        let sl = description_layout::slave_at(board, s);
+        start += sl.span as usize;
+        s += 1;
+    }
+    fabric_layout::clear_lines(lines, count);
+    finished
+}

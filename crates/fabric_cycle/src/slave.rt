@@ -1,0 +1,168 @@
+// One slave's clock: the grant, the wait or the access, and the line that it shows.
+use description_board::Master;
+use description_board::Slave;
+use fabric_accesses::Transfer;
+use fabric_arbiter::Arbiter;
+use fabric_arbiter::Grant;
+use fabric_arbiter::Winner;
+use fabric_state::Line;
+use fabric_state::Slot;
+use fabric_state::Step;
+ghost use mathlib.Core.Path.{_≡_};
+ghost use mathlib.Core.Bool.{true};
+ghost use Rattle.fabric_arbiter.specs.Winning.{grantBy};
+ghost use Rattle.fabric_bytes.specs.Reaching.{Reached};
+ghost use Rattle.fabric_state.specs.Records.{recordOf};
+ghost use Rattle.fabric_state.specs.Control.{slotBy, slotGranted, lineOf, waits, served};
+ghost use Rattle.fabric_cycle.specs.Serving.{Placed, Serves, Served, carriedFrom};
+
+// The slave's arbiter record.
+pub fn record_of(slot: Slot) -> Arbiter
+    ensures { λ r. ⌜ r ≡ recordOf slot ⌝ }
+{
+    Arbiter {
+        owner: slot.owner,
+        remaining: slot.remaining,
+    }
+}
+
+// The slot by its record after a grant, or after none.
+fn slot_by(slot: Slot, a: Arbiter, g: Grant) -> Slot
+    ensures { λ r. ⌜ r ≡ slotBy slot a g ⌝ }
+{
+    let owner = a.owner;
+    let remaining = a.remaining;
+    match g {
+        Grant::Granted(m, left) => Slot {
+            owner: owner,
+            remaining: remaining,
+            serving: true,
+            done: 0,
+            waited: 0,
+        },
+        Grant::Silent => Slot {
+            owner: owner,
+            remaining: remaining,
+            serving: false,
+            done: slot.done,
+            waited: slot.waited,
+        },
+    }
+}
+
+// Rule 1 at a slave that is not serving, by the winner's shares at it and the beats of the winner's transfer: the slave's
+// record is lent to the rule, and stands in the slot after it.
+pub fn slot_ruled(slot: Slot, w: Winner, shares: u32, beats: u32) -> Slot
+    ensures { λ r. ⌜ r ≡ slotGranted slot (grantBy (recordOf slot) w shares beats) ⌝ }
+{
+    let mut a = record_of(slot);
+    let g = fabric_arbiter::arbitrate_record(&mut a, w, shares, beats);
+    slot_by(slot, a, g)
+}
+
+// What the slave shows of the access in hand.
+fn line_of(ma: Master, sl: Slave, t: Transfer, slot: Slot, phase: u32) -> Line
+    requires { ⌜ Placed ma sl t (slot .done) ⌝ }
+    ensures { λ r. ⌜ r ≡ lineOf ma sl t slot phase ⌝ }
+{
+    let a = slot.done;
+    let offset = fabric_accesses::word_offset(ma, sl, t, a);
+    let lanes = fabric_accesses::lanes_of(ma, sl, t, a);
+    let run = fabric_accesses::run_of(ma, sl, t, a);
+    let place = fabric_accesses::place_of(ma, sl, a);
+    Line {
+        phase: phase,
+        owner: slot.owner,
+        offset: offset as u32,
+        lanes: lanes,
+        run: run,
+        place: place,
+    }
+}
+
+// Rule 2: whether the access in hand has still to wait. Each access waits anew: waits passed return to 0 with it.
+fn still_waits(sl: Slave, t: Transfer, slot: Slot) -> bool
+    ensures { λ r. ⌜ r ≡ waits sl t slot ⌝ }
+{
+    let waited = slot.waited;
+    waited < fabric_accesses::wait_of(sl, t)
+}
+
+// Rules 2 and 3 at a slave that serves.
+fn served_step(ma: Master, sl: Slave, t: Transfer, slot: Slot, waiting: bool) -> Step
+    requires { ⌜ (Placed ma sl t (slot .done)) × (waiting ≡ waits sl t slot) ⌝ }
+    ensures { λ r. ⌜ r ≡ served ma sl t slot ⌝ }
+{
+    let mut after = slot;
+    after.serving = true;
+    if waiting {
+        after.waited = slot.waited + 1;
+        let shown = line_of(ma, sl, t, slot, 1);
+        return Step {
+            slot: after,
+            line: shown,
+            finished: false,
+        };
+    }
+    let line = line_of(ma, sl, t, slot, 2);
+    let total = fabric_accesses::access_count(ma, sl, t);
+    let done = slot.done + 1;
+    after.waited = 0;
+    if (done as u64) < total {
+        after.done = done;
+        return Step {
+            slot: after,
+            line: line,
+            finished: false,
+        };
+    }
+    after.serving = false;
+    after.done = 0;
+    Step {
+        slot: after,
+        line: line,
+        finished: true,
+    }
+}
+
+// The bytes of the access that the slave carries out in this clock, if it does; its span starts at `start`.
+fn carry_slot(
+    ma: Master,
+    sl: Slave,
+    t: Transfer,
+    slot: Slot,
+    waiting: bool,
+    start: usize,
+    memory: &mut [u8],
+    buffer: &mut [u8],
+)
+    requires { ⌜ (waiting ≡ waits sl t slot) × (slot .serving ≡ true)
+        × Reached ma sl t (slot .owner) start (slot .done) (record { memory = now memory; buffer = now buffer }) ⌝ }
+    ensures { λ r. ⌜ record { memory = now (memory .exit); buffer = now (buffer .exit) }
+        ≡ carriedFrom ma sl t slot start (record { memory = now (memory .entry); buffer = now (buffer .entry) }) ⌝ }
+{
+    if waiting {
+        return;
+    }
+    let m = slot.owner as usize;
+    fabric_bytes::carry_access(ma, sl, t, m, start, slot.done, memory, buffer);
+}
+
+// One clock of a slave that serves. Whether it still waits is asked once, for its step and for its bytes.
+pub fn serve(
+    ma: Master,
+    sl: Slave,
+    t: Transfer,
+    slot: Slot,
+    start: usize,
+    memory: &mut [u8],
+    buffer: &mut [u8],
+) -> Step
+    requires { ⌜ Serves ma sl t slot start (record { memory = now memory; buffer = now buffer }) ⌝ }
+    ensures { λ r. ⌜ Served ma sl t slot start (record { memory = now (memory .entry); buffer = now (buffer .entry) })
+        (record { memory = now (memory .exit); buffer = now (buffer .exit) }) r ⌝ }
+{
+    let waiting = still_waits(sl, t, slot);
+    carry_slot(ma, sl, t, slot, waiting, start, memory, buffer);
+    served_step(ma, sl, t, slot, waiting)
+}

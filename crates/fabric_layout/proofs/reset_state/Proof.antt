@@ -1,0 +1,66 @@
+-- `state_layout::reset_state` meets its contract. The loop's invariant: no transfer is held, and the first s slots are those of a
+-- reset.
+-- Assumes nothing.
+use mathlib.Core.Path.{_≡_, _∙_}
+use Prim.Native.Nat.{_≤_, _-_}
+use native.Mathlib.Omega.{arith}
+use lib.ListN.{replicate}
+use borrow.Author.Needs.{needs}
+use Rattle.common_laws.proofs.FillLaws.{filled, filled-next, filled-all}
+use Rattle.fabric_accesses.specs.Accesses.{noTransfer}
+use Rattle.fabric_state.specs.Records.{slotAt}
+use Rattle.fabric_layout.specs.Layout.{stateIn, resetSlot}
+use Rattle.fabric_layout.proofs.StateLaws.{slots-begin, slots-put, transfers-left, reset-end}
+use Rattle.fabric_layout.proofs.reset_state.Statement.{statement}
+use Rattle.fabric_layout.proofs.reset_state.Tie as tie
+
+abbrev Inv-loop : tie.InvT-loop
+Inv-loop st₀ owner n s₀ st s = (s ≤ 16) × (stateIn st .transfers ≡ replicate 8 noTransfer)
+    × (stateIn st .slots ≡ filled (resetSlot owner n) (slotAt (stateIn st₀)) 16 s)
+
+abbrev μ-loop : tie.MeasureT-loop
+μ-loop st₀ owner n s₀ st s = 16 - s
+
+clear-transfers-requires : tie.Need-clear-transfers-requires Inv-loop μ-loop
+clear-transfers-requires c κs = search needs
+
+loop-holds : tie.Need-loop-holds Inv-loop μ-loop
+loop-holds c = (omega arith, c .clear-transfers .ensures, slots-begin _ _)
+
+slot-at-reset-requires : tie.Need-slot-at-reset-requires Inv-loop μ-loop
+slot-at-reset-requires c κs = search needs
+
+put-slot-requires : tie.Need-put-slot-requires Inv-loop μ-loop
+put-slot-requires c κs = search needs
+
+add-s : tie.Need-add-s Inv-loop μ-loop
+add-s c = search needs
+
+loop-less : tie.Need-loop-less Inv-loop μ-loop
+loop-less c = search needs
+
+loop-again : tie.Need-loop-again Inv-loop μ-loop
+loop-again c = (
+  omega arith,
+  transfers-left _ _ _ _ (c .put-slot .ensures) ∙ c .before .before .before .before .loop .inv .1,
+  slots-put _ _ _ _ (c .put-slot .ensures)
+      ∙ filled-next _ _ 16 _ (c .before .before .before .before .loop .inv .2) (c .before .slot-at-reset .ensures),
+)
+
+returns : tie.Need-returns Inv-loop μ-loop
+returns c = reset-end _ _ _ (c .before .loop .inv .1) (filled-all _ _ 16 _ (omega arith) (c .before .loop .inv .2))
+
+pub reset-state-spec : {M : Type 1} → statement M
+reset-state-spec =
+    tie.close
+    (tie.spec
+    Inv-loop
+    μ-loop
+    clear-transfers-requires
+    loop-holds
+    slot-at-reset-requires
+    put-slot-requires
+    add-s
+    loop-less
+    loop-again
+    returns)

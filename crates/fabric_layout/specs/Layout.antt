@@ -1,0 +1,71 @@
+-- A state and a clock's lines as arrays of numbers, one u32 for each field. Every array of numbers is a state, or lines: what
+-- the numbers mean is said for each of them, and the rules refuse what is out of range.
+-- Assumes nothing.
+use mathlib.Core.Bool.{Bool, cond, not}
+use mathlib.Core.List.{List}
+use Prim.Native.Nat.{ℕ, _+_, _*_}
+use lib.Dec.{ltb, eqb}
+use lib.ListN.{getD, set}
+use Rattle.common_laws.specs.Lists.{table}
+use Rattle.fabric_accesses.specs.declared.Transfer.{Transfer}
+use Rattle.fabric_state.specs.declared.Slot.{Slot}
+use Rattle.fabric_state.specs.declared.State.{State}
+use Rattle.fabric_state.specs.declared.Line.{Line}
+use Rattle.fabric_state.specs.Records.{noLine, noSlot}
+
+-- a mark: 0 is no, every other number is yes
+abbrev pub marked : ℕ → Bool
+marked n = not (eqb n 0)
+
+-- five numbers from place p on are a transfer, or a slot
+unfoldable pub transferFrom : List ℕ → ℕ → Transfer
+transferFrom l p = record {
+  held = marked (getD l p 0);
+  write = marked (getD l (p + 1) 0);
+  address = getD l (p + 2) 0;
+  lanes = getD l (p + 3) 0;
+  beats = getD l (p + 4) 0;
+}
+
+unfoldable pub slotFrom : List ℕ → ℕ → Slot
+slotFrom l p = record {
+  owner = getD l p 0;
+  remaining = getD l (p + 1) 0;
+  serving = marked (getD l (p + 2) 0);
+  done = getD l (p + 3) 0;
+  waited = getD l (p + 4) 0;
+}
+
+-- the state in 120 numbers: 8 transfers, then 16 slots
+unfoldable pub stateIn : List ℕ → State
+stateIn l = record {
+  transfers = table (λ m. transferFrom l (5 * m)) 8;
+  slots = table (λ s. slotFrom l (40 + 5 * s)) 16;
+}
+
+-- a state with one slot set. With a transfer set: `Posting.stateWith`
+unfoldable pub withSlot : State → ℕ → Slot → State
+withSlot st s x = record { transfers = st .transfers; slots = set (st .slots) s x }
+
+-- six numbers from place p on are a line; the lines in 96 numbers
+unfoldable pub lineFrom : List ℕ → ℕ → Line
+lineFrom l p = record {
+  phase = getD l p 0;
+  owner = getD l (p + 1) 0;
+  offset = getD l (p + 2) 0;
+  lanes = getD l (p + 3) 0;
+  run = getD l (p + 4) 0;
+  place = getD l (p + 5) 0;
+}
+
+unfoldable pub linesIn : List ℕ → List Line
+linesIn l = table (λ s. lineFrom l (6 * s)) 16
+
+-- of 16 lines, those from n on show nothing
+unfoldable pub firstLines : ℕ → List Line → List Line
+firstLines n lines = table (λ s. cond (ltb s n) (getD lines s noLine) noLine) 16
+
+-- the slot of slave s after a reset: the owner is the last at the first n slaves
+unfoldable pub resetSlot : ℕ → ℕ → ℕ → Slot
+resetSlot owner n s =
+    cond (ltb s n) (record { owner = owner; remaining = 0; serving = Bool.false; done = 0; waited = 0 }) noSlot

@@ -1,0 +1,160 @@
+// A state and a clock's lines in lent arrays of numbers: their records read and put by their place.
+use fabric_accesses::Transfer;
+use fabric_state::Line;
+use fabric_state::Slot;
+ghost use mathlib.Core.Path.{_≡_};
+ghost use mathlib.Core.Bool.{cond};
+ghost use Prim.Native.Nat.{_<_};
+ghost use lib.ListN.{set, replicate};
+ghost use Rattle.fabric_accesses.specs.Accesses.{noTransfer};
+ghost use Rattle.fabric_state.specs.Records.{transferAt, slotAt};
+ghost use Rattle.fabric_state.specs.Posting.{stateWith};
+ghost use Rattle.fabric_state.specs.Resetting.{ownedBy};
+ghost use Rattle.fabric_layout.specs.Layout.{stateIn, withSlot, linesIn, firstLines, resetSlot};
+
+fn mark_of(b: bool) -> u32
+    ensures { λ r. ⌜ r ≡ cond b 1 0 ⌝ }
+{
+    if b { 1 } else { 0 }
+}
+
+pub fn transfer_at(st: &[u32; 120], m: usize) -> Transfer
+    requires { ⌜ m < 8 ⌝ }
+    ensures { λ r. ⌜ r ≡ transferAt (stateIn (now (st .entry))) m ⌝ }
+{
+    let p = 5 * m;
+    Transfer {
+        held: st[p] != 0,
+        write: st[p + 1] != 0,
+        address: st[p + 2],
+        lanes: st[p + 3],
+        beats: st[p + 4],
+    }
+}
+
+// The beats of master m's transfer.
+pub fn beats_at(st: &[u32; 120], m: usize) -> u32
+    requires { ⌜ m < 8 ⌝ }
+    ensures { λ r. ⌜ r ≡ transferAt (stateIn (now (st .entry))) m .beats ⌝ }
+{
+    st[5 * m + 4]
+}
+
+pub fn slot_at(st: &[u32; 120], s: usize) -> Slot
+    requires { ⌜ s < 16 ⌝ }
+    ensures { λ r. ⌜ r ≡ slotAt (stateIn (now (st .entry))) s ⌝ }
+{
+    let p = 40 + 5 * s;
+    Slot {
+        owner: st[p],
+        remaining: st[p + 1],
+        serving: st[p + 2] != 0,
+        done: st[p + 3],
+        waited: st[p + 4],
+    }
+}
+
+pub fn put_transfer(st: &mut [u32; 120], m: usize, t: Transfer)
+    requires { ⌜ m < 8 ⌝ }
+    ensures { λ _. ⌜ stateIn (now (st .exit)) ≡ stateWith (stateIn (now (st .entry))) m t ⌝ }
+{
+    description_layout::count(st);
+    let p = 5 * m;
+    st[p] = mark_of(t.held);
+    st[p + 1] = mark_of(t.write);
+    st[p + 2] = t.address;
+    st[p + 3] = t.lanes;
+    st[p + 4] = t.beats;
+}
+
+pub fn put_slot(st: &mut [u32; 120], s: usize, x: Slot)
+    requires { ⌜ s < 16 ⌝ }
+    ensures { λ _. ⌜ stateIn (now (st .exit)) ≡ withSlot (stateIn (now (st .entry))) s x ⌝ }
+{
+    description_layout::count(st);
+    let p = 40 + 5 * s;
+    st[p] = x.owner;
+    st[p + 1] = x.remaining;
+    st[p + 2] = mark_of(x.serving);
+    st[p + 3] = x.done;
+    st[p + 4] = x.waited;
+}
+
+pub fn put_line(lines: &mut [u32; 96], s: usize, x: Line)
+    requires { ⌜ s < 16 ⌝ }
+    ensures { λ _. ⌜ linesIn (now (lines .exit)) ≡ set (linesIn (now (lines .entry))) s x ⌝ }
+{
+    description_layout::count(lines);
+    let p = 6 * s;
+    lines[p] = x.phase;
+    lines[p + 1] = x.owner;
+    lines[p + 2] = x.offset;
+    lines[p + 3] = x.lanes;
+    lines[p + 4] = x.run;
+    lines[p + 5] = x.place;
+}
+
+// The lines from n on show nothing.
+pub fn clear_lines(lines: &mut [u32; 96], n: usize)
+    ensures { λ _. ⌜ linesIn (now (lines .exit)) ≡ firstLines n (linesIn (now (lines .entry))) ⌝ }
+{
+    let blank = Line {
+        phase: 0,
+        owner: 0,
+        offset: 0,
+        lanes: 0,
+        run: 0,
+        place: 0,
+    };
+    let mut s = n;
+    while s < 16 {
+        put_line(lines, s, blank);
+        s += 1;
+    }
+}
+
+// The slot of slave s after a reset, where the first n slaves have an owner.
+fn slot_at_reset(owner: u32, n: u32, s: usize) -> Slot
+    ensures { λ r. ⌜ r ≡ resetSlot owner n s ⌝ }
+{
+    let mut x = Slot {
+        owner: 0,
+        remaining: 0,
+        serving: false,
+        done: 0,
+        waited: 0,
+    };
+    if s < n as usize {
+        x.owner = owner;
+    }
+    x
+}
+
+fn clear_transfers(st: &mut [u32; 120])
+    ensures { λ _. ⌜ stateIn (now (st .exit)) .transfers ≡ replicate 8 noTransfer ⌝ }
+{
+    let idle = Transfer {
+        held: false,
+        write: false,
+        address: 0,
+        lanes: 0,
+        beats: 0,
+    };
+    let mut m: usize = 0;
+    while m < 8 {
+        put_transfer(st, m, idle);
+        m += 1;
+    }
+}
+
+// The state after a reset where `owner` is the last at the first n slaves. What stood in the array before does not matter.
+pub fn reset_state(st: &mut [u32; 120], owner: u32, n: u32)
+    ensures { λ _. ⌜ stateIn (now (st .exit)) ≡ ownedBy owner n ⌝ }
+{
+    clear_transfers(st);
+    let mut s: usize = 0;
+    while s < 16 {
+        put_slot(st, s, slot_at_reset(owner, n, s));
+        s += 1;
+    }
+}

@@ -1,0 +1,98 @@
+-- Which slave a transfer is for: on an accepted board one, and what is true there of a transfer that post takes.
+-- Assumes nothing.
+use mathlib.Core.Path.{_≡_, refl}
+use mathlib.Core.Bool.{true, false}
+use Prim.Native.Nat.{ℕ, _+_, _*_, _%_, _≤_, _<_}
+use native.Mathlib.Omega.{arith}
+use lib.Dec.{ltb, eqb}
+use borrow.Author.Tests.{ltb-false, eqb-true, eqb-false, not-false}
+use Rattle.common_laws.proofs.Tests.{both, neither, passed}
+use Rattle.description_board.specs.declared.Board.{Board}
+use Rattle.description_board.specs.Records.{masterAt, slaveAt, sharesAt}
+use Rattle.description_board.specs.Legal.{Legal}
+use Rattle.fabric_accesses.specs.declared.Transfer.{Transfer}
+use Rattle.fabric_lanes.specs.Lanes.{postLanes}
+use Rattle.fabric_accesses.specs.Decoding.{selects, targetOf}
+use Rattle.fabric_accesses.specs.Accesses.{accesses}
+use Rattle.fabric_accesses.proofs.SelectLaws.{target-first, selects-facts, selects-one, selects-target}
+use Rattle.fabric_accesses.proofs.AccessLaws.{width-pos, accesses-pos}
+use Rattle.fabric_state.specs.declared.State.{State}
+use Rattle.fabric_state.specs.Records.{transferAt}
+use Rattle.fabric_state.specs.Posting.{wrongBeats, unaligned, wrongLanes, unmapped, passesEnd, refusalAt, transferRefusal}
+use Rattle.fabric_state.specs.Soundness.{requests}
+
+-- a requester holds a transfer whose address selects the slave
+module _ (b : Board) (st : State) (s m : ℕ) where
+  pub requests-held : requests b st s m ≡ true → transferAt st m .held ≡ true
+  unfolding requests
+  requests-held e = both (transferAt st m .held) (selects b m (transferAt st m .address) s) e .0
+
+  pub requests-selects : requests b st s m ≡ true → selects b m (transferAt st m .address) s ≡ true
+  unfolding requests
+  requests-selects e = both (transferAt st m .held) (selects b m (transferAt st m .address) s) e .1
+
+  pub requests-of : transferAt st m .held ≡ true → selects b m (transferAt st m .address) s ≡ true → requests b st s m ≡ true
+  unfolding requests
+  requests-of h e = rw (h, e)
+
+  pub requests-not : transferAt st m .held ≡ false → requests b st s m ≡ false
+  unfolding requests
+  requests-not h = rw h
+
+  -- and requests that slave alone
+  pub requests-target : Legal b → requests b st s m ≡ true → targetOf b m (transferAt st m .address) ≡ s
+  requests-target legal e = selects-target b legal m (transferAt st m .address) s (requests-selects e)
+
+pub requests-one : (b : Board) (st : State) (m s k : ℕ) → Legal b → requests b st s m ≡ true → requests b st k m ≡ true → s ≡ k
+requests-one b st m s k legal e f =
+    selects-one b legal m m (transferAt st m .address) s k (requests-selects b st s m e) (requests-selects b st k m f)
+
+-- what is true of a transfer of master m that is not refused, at the slave s that it is for
+pub record Accepted (b : Board) (m : ℕ) (t : Transfer) (s : ℕ) : Type 0 where
+  pub some : 1 ≤ t .beats
+  pub few : t .beats ≤ masterAt b m .burst
+  pub aligned : t .address % masterAt b m .width ≡ 0
+  pub lanes : postLanes (masterAt b m .width) (t .lanes) (t .beats) ≡ true
+  pub target : targetOf b m (t .address) ≡ s
+  pub within : s < b .«slave_count»
+  pub selected : selects b m (t .address) s ≡ true
+  pub shares : 1 ≤ sharesAt b m s
+  pub low : slaveAt b s .base ≤ t .address
+  pub end : t .address + t .beats * masterAt b m .width ≤ slaveAt b s .base + slaveAt b s .span
+  pub accesses : 1 ≤ accesses (masterAt b m) (slaveAt b s) t
+
+module _ (b : Board) (legal : Legal b) (m : ℕ) (t : Transfer) (ok : transferRefusal b m t ≡ 0) where
+  -- it is for a slave
+  pub accepted : Accepted b m t (targetOf b m (t .address))
+  unfolding transferRefusal refusalAt wrongBeats unaligned wrongLanes unmapped passesEnd
+  accepted =
+      let s = targetOf b m (t .address) in
+      let p = passed (wrongBeats (masterAt b m) t) 12 _ ok in
+      let q = passed (unaligned (masterAt b m) t) 13 _ (p .1) in
+      let r = passed (wrongLanes (masterAt b m) t) 14 _ (q .1) in
+      let u = passed (unmapped s (b .«slave_count»)) 15 _ (r .1) in
+      let v = passed (passesEnd (masterAt b m) (slaveAt b s) t) 16 _ (u .1) in
+      let f = target-first b m (t .address) in
+      let none = eqb-false s (b .«slave_count») (u .0) in
+      let within : s < b .«slave_count» = omega (arith, f .within) in
+      let x = selects-facts b legal m (t .address) s (f .found within) in
+      let beats = neither (eqb (t .beats) 0) (ltb (masterAt b m .burst) (t .beats)) (p .0) in
+      let nothing = eqb-false (t .beats) 0 (beats .0) in
+      let some : 1 ≤ t .beats = omega arith in
+      record {
+        some = some;
+        few = ltb-false (masterAt b m .burst) (t .beats) (beats .1);
+        aligned = eqb-true (t .address % masterAt b m .width) 0 (not-false (eqb (t .address % masterAt b m .width) 0) (q .0));
+        lanes = not-false (postLanes (masterAt b m .width) (t .lanes) (t .beats)) (r .0);
+        target = refl;
+        within = within;
+        selected = f .found within;
+        shares = x .shares;
+        low = x .inside .low;
+        end = ltb-false (slaveAt b s .base + slaveAt b s .span) (t .address + t .beats * masterAt b m .width) (v .0);
+        accesses = accesses-pos (masterAt b m) (slaveAt b s) t (width-pos _ (legal .slave s within .width)) some;
+      }
+
+  -- and for each that it selects
+  pub accepted-at : (s : ℕ) → selects b m (t .address) s ≡ true → Accepted b m t s
+  accepted-at s e = rw (selects-target b legal m (t .address) s e) at accepted

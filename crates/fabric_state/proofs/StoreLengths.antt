@@ -1,0 +1,49 @@
+-- A clock moves bytes and changes no length.
+-- Assumes nothing.
+use mathlib.Core.Path.{_≡_, refl, _∙_}
+use mathlib.Core.Bool.{Bool, true, false, cond}
+use Prim.Native.Nat.{ℕ, zero, suc}
+use lib.ListN.{length}
+use Rattle.description_board.specs.declared.Board.{Board}
+use Rattle.description_board.specs.Records.{masterAt, slaveAt, startOf}
+use Rattle.fabric_bytes.specs.Bytes.{Store, accessed}
+use Rattle.fabric_bytes.proofs.StoreLaws.{length-memory, length-buffer}
+use Rattle.fabric_state.specs.declared.Slot.{Slot}
+use Rattle.fabric_state.specs.declared.State.{State}
+use Rattle.fabric_state.specs.Records.{transferAt}
+use Rattle.fabric_state.specs.Control.{slotAfterGrant}
+use Rattle.fabric_state.specs.Carrying.{carriesOut, carried, carriedBy, storeAfter}
+
+-- both lengths are those of another store
+abbrev pub SameLengths : Store → Store → Type 0
+SameLengths e d = (length (e .memory) ≡ length (d .memory)) × (length (e .buffer) ≡ length (d .buffer))
+
+carried-one : (b : Board) (st : State) (s : ℕ) (d : Store) → SameLengths (carried b st s d) d
+unfolding carried
+carried-one b st s d = go (carriesOut b st s (slotAfterGrant b st s))
+  where
+    slot : Slot
+    slot = slotAfterGrant b st s
+
+    -- the access of this clock, or none
+    then : Bool → Store
+    then c =
+        cond c
+        (accessed (masterAt b (slot .owner)) (slaveAt b s) (transferAt st (slot .owner)) (slot .owner) (startOf b s) (slot .done) d)
+        d
+
+    go : (c : Bool) → SameLengths (then c) d
+    go true = (length-memory _ _ _ _ _ _ d, length-buffer _ _ _ _ _ _ d)
+    go false = (refl, refl)
+
+carried-length : (b : Board) (st : State) (n : ℕ) (d : Store) → SameLengths (carriedBy b st n d) d
+unfolding carriedBy
+carried-length b st zero d = (refl, refl)
+carried-length b st (suc n) d =
+    let x = carried-one b st n (carriedBy b st n d) in
+    let y = carried-length b st n d in
+    (x .0 ∙ y .0, x .1 ∙ y .1)
+
+pub store-length : (b : Board) (st : State) (d : Store) → SameLengths (storeAfter b st d) d
+unfolding storeAfter
+store-length b st d = carried-length b st (b .«slave_count») d

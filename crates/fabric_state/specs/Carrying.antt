@@ -1,0 +1,32 @@
+-- One clock's bytes: the accesses that are carried out, by slave number.
+-- Assumes nothing.
+use mathlib.Core.Bool.{Bool, cond, not, _&&_}
+use Prim.Native.Nat.{ℕ, zero, suc}
+use Rattle.description_board.specs.declared.Board.{Board}
+use Rattle.description_board.specs.Records.{masterAt, slaveAt, startOf}
+use Rattle.fabric_bytes.specs.Bytes.{Store, accessed}
+use Rattle.fabric_state.specs.declared.Slot.{Slot}
+use Rattle.fabric_state.specs.declared.State.{State}
+use Rattle.fabric_state.specs.Records.{transferAt}
+use Rattle.fabric_state.specs.Control.{slotAfterGrant, waits}
+
+-- slave s, after rule 1, carries out an access in this clock
+unfoldable pub carriesOut : Board → State → ℕ → Slot → Bool
+carriesOut b st s slot = slot .serving && not (waits (slaveAt b s) (transferAt st (slot .owner)) slot)
+
+-- the bytes of slave s in this clock
+unfoldable pub carried : Board → State → ℕ → Store → Store
+carried b st s d =
+    let slot = slotAfterGrant b st s in
+    cond (carriesOut b st s slot)
+    (accessed (masterAt b (slot .owner)) (slaveAt b s) (transferAt st (slot .owner)) (slot .owner) (startOf b s) (slot .done) d)
+    d
+
+-- the bytes of the first n slaves
+unfoldable pub carriedBy : Board → State → ℕ → Store → Store
+carriedBy b st zero d = d
+carriedBy b st (suc n) d = carried b st n (carriedBy b st n d)
+
+-- the lent bytes after the clock
+unfoldable pub storeAfter : Board → State → Store → Store
+storeAfter b st d = carriedBy b st (b .«slave_count») d

@@ -1,0 +1,121 @@
+-- One clock without the bytes: slots, lines, the mask of masters finished.
+-- Assumes nothing.
+use mathlib.Core.Bool.{Bool, true, false, cond, _&&_}
+use mathlib.Core.List.{List}
+use Prim.Native.Nat.{ℕ, _+_, _^_}
+use lib.Dec.{ltb, eqb}
+use Rattle.common_laws.specs.Lists.{table, sum, some}
+use Rattle.description_board.specs.declared.Master.{Master}
+use Rattle.description_board.specs.declared.Slave.{Slave}
+use Rattle.description_board.specs.declared.Board.{Board}
+use Rattle.description_board.specs.Records.{masterAt, slaveAt, sharesAt}
+use Rattle.fabric_accesses.specs.declared.Transfer.{Transfer}
+use Rattle.fabric_accesses.specs.Accesses.{noTransfer, accesses, wordOffset, slaveLanes, waitOf}
+use Rattle.fabric_accesses.specs.Runs.{runOf, placeOf}
+use Rattle.fabric_arbiter.specs.declared.Arbiter.{Arbiter}
+use Rattle.fabric_arbiter.specs.declared.Grant.{Grant}
+use Rattle.fabric_arbiter.specs.declared.Grant.the-variants.{Granted, Silent}
+use Rattle.fabric_arbiter.specs.Granting.{granted, arbiterAfter}
+use Rattle.fabric_state.specs.declared.Slot.{Slot}
+use Rattle.fabric_state.specs.declared.State.{State}
+use Rattle.fabric_state.specs.declared.Line.{Line}
+use Rattle.fabric_state.specs.declared.Step.{Step}
+use Rattle.fabric_state.specs.Records.{noLine, transferAt, slotAt, recordOf}
+use Rattle.fabric_state.specs.Soundness.{requests}
+
+-- Rule 1. The grant of slave s, which is not serving
+unfoldable pub grantAt : Board → State → ℕ → Grant
+grantAt b st s =
+    granted (b .«master_count») (requests b st s) (λ m. sharesAt b m s) (λ m. transferAt st m .beats)
+    (recordOf (slotAt st s))
+
+-- the slot by its arbiter record a after the grant g: a grant begins a service, with none the slave does not serve
+unfoldable pub slotBy : Slot → Arbiter → Grant → Slot
+slotBy slot a (Granted m r) = record { owner = a .owner; remaining = a .remaining; serving = true; done = 0; waited = 0 }
+slotBy slot a Silent =
+    record { owner = a .owner; remaining = a .remaining; serving = false; done = slot .done; waited = slot .waited }
+
+-- "One clock changes a slave's last owner and remaining grants by these rules."
+unfoldable pub slotGranted : Slot → Grant → Slot
+slotGranted slot g = slotBy slot (arbiterAfter (recordOf slot) g) g
+
+-- "The grant and the first cycle fall in the same clock.": slave s after rule 1, before rules 2 and 3
+unfoldable pub slotAfterGrant : Board → State → ℕ → Slot
+slotAfterGrant b st s = cond (slotAt st s .serving) (slotAt st s) (slotGranted (slotAt st s) (grantAt b st s))
+
+-- "phase (0 idle, 1 waiting, 2 access), owner, byte offset of the access within the slave, .., slave lanes, run length, place
+-- in the run": of the access in hand
+unfoldable pub lineOf : Master → Slave → Transfer → Slot → ℕ → Line
+lineOf ma sl t slot phase = record {
+  phase = phase;
+  owner = slot .owner;
+  offset = wordOffset ma sl t (slot .done);
+  lanes = slaveLanes ma sl t (slot .done);
+  run = runOf ma sl t (slot .done);
+  place = placeOf ma sl (slot .done);
+}
+
+-- Rule 2. "while waits passed is below the read or write wait, it rises by 1"
+unfoldable pub waits : Slave → Transfer → Slot → Bool
+waits sl t slot = ltb (slot .waited) (waitOf sl t)
+
+unfoldable pub slotWaiting : Slot → Slot
+slotWaiting slot =
+    record { owner = slot .owner; remaining = slot .remaining; serving = true; done = slot .done; waited = slot .waited + 1 }
+
+-- "Otherwise one access is carried out and waits passed returns to 0."
+unfoldable pub slotAccessed : Slot → Slot
+slotAccessed slot =
+    record { owner = slot .owner; remaining = slot .remaining; serving = true; done = slot .done + 1; waited = 0 }
+
+-- Rule 3. "After the last access the slave no longer serves, its accesses done return to 0"
+unfoldable pub slotFinished : Slot → Slot
+slotFinished slot = record { owner = slot .owner; remaining = slot .remaining; serving = false; done = 0; waited = 0 }
+
+-- rules 2 and 3 at a slave that serves
+unfoldable pub served : Master → Slave → Transfer → Slot → Step
+served ma sl t slot =
+    cond (waits sl t slot)
+    (record { slot = slotWaiting slot; line = lineOf ma sl t slot 1; finished = false })
+    (cond (ltb (slot .done + 1) (accesses ma sl t))
+    (record { slot = slotAccessed slot; line = lineOf ma sl t slot 2; finished = false })
+    (record { slot = slotFinished slot; line = lineOf ma sl t slot 2; finished = true }))
+
+-- one clock of slave s
+unfoldable pub stepOf : Board → State → ℕ → Step
+stepOf b st s =
+    let slot = slotAfterGrant b st s in
+    cond (slot .serving)
+    (served (masterAt b (slot .owner)) (slaveAt b s) (transferAt st (slot .owner)) slot)
+    (record { slot = slot; line = noLine; finished = false })
+
+-- the line of slave s; 0 for what is no slave of the board
+unfoldable pub lineAfter : Board → State → ℕ → Line
+lineAfter b st s = cond (ltb s (b .«slave_count»)) (stepOf b st s .line) noLine
+
+-- the slot of slave s after the clock
+unfoldable pub slotAfter : Board → State → ℕ → Slot
+slotAfter b st s = cond (ltb s (b .«slave_count»)) (stepOf b st s .slot) (slotAt st s)
+
+-- slave s finishes master m in this clock
+unfoldable pub finishes : Board → State → ℕ → ℕ → Bool
+finishes b st m s = stepOf b st s .finished && eqb (stepOf b st s .line .owner) m
+
+-- "a mask of masters finished"
+unfoldable pub finished : Board → State → ℕ → Bool
+finished b st m = some (finishes b st m) (b .«slave_count»)
+
+unfoldable pub maskOf : Board → State → ℕ
+maskOf b st = sum (λ m. cond (finished b st m) (2 ^ m) 0) 8
+
+-- "the master is idle and may post before the next clock"
+unfoldable pub transferAfter : Board → State → ℕ → Transfer
+transferAfter b st m = cond (finished b st m) noTransfer (transferAt st m)
+
+-- the state after the clock
+unfoldable pub stateAfter : Board → State → State
+stateAfter b st = record { transfers = table (transferAfter b st) 8; slots = table (slotAfter b st) 16 }
+
+-- what the slaves show in the clock
+unfoldable pub linesOf : Board → State → List Line
+linesOf b st = table (lineAfter b st) 16

@@ -1,0 +1,93 @@
+// What the programs have in common: what the words behind a program's name ask for, the version, and the line on standard error
+// that tells of output that could not be written.
+ghost use mathlib.Core.Path.{_≡_};
+ghost use Rattle.program_options.specs.Options.{optionOf};
+use libc::STDOUT_FILENO;
+
+// What a program is asked for: its help, its version, or to run on the words from a place on. Wrong: none of these.
+pub enum Mode {
+    Help,
+    Version,
+    Run(usize),
+    Wrong,
+}
+
+// An option, the end of the options, or a word that is neither.
+enum Word {
+    Help,
+    Version,
+    End,
+    Unknown,
+}
+
+// To run on `operands` words, which stand from `first` on; the program's name is word 0.
+fn run_from(first: usize, operands: usize) -> Mode {
+    let count = os::arg_count();
+    if first <= count {
+        if count - first == operands {
+            return Mode::Run(first);
+        }
+    }
+    Mode::Wrong
+}
+
+// An option that is asked for by itself.
+fn alone(mode: Mode) -> Mode {
+    if os::arg_count() == 2 {
+        return mode;
+    }
+    Mode::Wrong
+}
+
+// What a word says that begins with `-`.
+fn option_of(word: &[u8]) -> Word
+    ensures { λ r. ⌜ r ≡ optionOf (now (word .entry)) ⌝ }
+{
+    if common_text::same_bytes(word, b"-h") | common_text::same_bytes(word, b"--help") {
+        return Word::Help;
+    }
+    if common_text::same_bytes(word, b"--version") {
+        return Word::Version;
+    }
+    if common_text::same_bytes(word, b"--") {
+        return Word::End;
+    }
+    Word::Unknown
+}
+
+// What the words ask of a program that runs on so many of them. A first word that begins with `-` is an option, and `--` ends the
+// options. Of a word that is too long to be handed out the first byte still tells that it is one.
+pub fn asked(operands: usize) -> Mode {
+    let mut word = io::buffer();
+    let length = os::arg(1, &mut word);
+    if word[0] != b'-' {
+        return run_from(1, operands);
+    }
+    let option = option_of(&word[..length]);
+    match option {
+        Word::Help => alone(Mode::Help),
+        Word::Version => alone(Mode::Version),
+        Word::End => run_from(2, operands),
+        Word::Unknown => Mode::Wrong,
+    }
+}
+
+// Tells, straight after what was to be printed, where standard output did not take it.
+pub fn printed(program: &[u8], taken: bool) -> bool {
+    if !taken {
+        program_streams::report(program, b"standard output");
+    }
+    taken
+}
+
+// Prints bytes on standard output.
+pub fn print(program: &[u8], bytes: &[u8]) -> bool {
+    printed(program, program_streams::write_all(STDOUT_FILENO, bytes))
+}
+
+pub fn print_version(program: &[u8]) {
+    let taken = print(program, program);
+    if taken {
+        print(program, b" (Zelgwy) 1.0\n");
+    }
+}

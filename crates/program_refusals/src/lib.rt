@@ -1,0 +1,124 @@
+// What each refusal means, in document 01's words, for programs that explain one on standard error. What can be asked for on
+// standard output too answers whether all of it was written.
+use description::Refusal;
+use libc::STDERR_FILENO;
+use libc::STDOUT_FILENO;
+
+fn say_decimal(fd: i32, n: u64) -> bool {
+    let mut digits = [0u8; 20];
+    let length = io::decimal(n, &mut digits);
+    program_streams::write_all(fd, &digits[..length])
+}
+
+// 1 or 2 where the text as a whole is to blame.
+fn say_of_text(fd: i32, number: u32) -> bool {
+    match number {
+        1 => program_streams::write_all(fd, b"text over 8192 bytes"),
+        _ => program_streams::write_all(fd, b"at the end, no master or no slave"),
+    }
+}
+
+// 1 to 7 where a line is to blame.
+fn say_of_line(fd: i32, number: u32) -> bool {
+    match number {
+        1 => program_streams::write_all(
+            fd,
+            b"no final line feed, unknown first word, wrong count of fields, or bad number",
+        ),
+        2 => program_streams::write_all(fd, b"line kind out of order or over the count"),
+        3 => program_streams::write_all(fd, b"value outside its list or range"),
+        4 => program_streams::write_all(fd, b"base no multiple of span"),
+        5 => program_streams::write_all(fd, b"slave overlaps an earlier one"),
+        6 => program_streams::write_all(fd, b"spans total over 65536"),
+        _ => program_streams::write_all(
+            fd,
+            b"share line names no master or slave, or a pair twice",
+        ),
+    }
+}
+
+// 8 to 10, caused by whoever embeds the library, and 11 to 18, by whoever posts or looks up a wait.
+fn say_of_call(fd: i32, number: u32) -> bool {
+    match number {
+        8 => program_streams::write_all(fd, b"memory or buffer not of its exact length"),
+        9 => program_streams::write_all(fd, b"the state breaks a rule"),
+        10 => program_streams::write_all(fd, b"output shorter than what is to be written"),
+        11 => program_streams::write_all(fd, b"no such master"),
+        12 => program_streams::write_all(fd, b"master holds a transfer"),
+        13 => program_streams::write_all(fd, b"beats 0 or over the master's burst"),
+        14 => program_streams::write_all(fd, b"address no multiple of the master's width"),
+        15 => program_streams::write_all(fd, b"lanes not legal, or a burst without all lanes"),
+        16 => program_streams::write_all(fd, b"no connected slave there"),
+        17 => program_streams::write_all(fd, b"burst passes the slave's end"),
+        18 => program_streams::write_all(fd, b"data not beats times width bytes"),
+        _ => program_streams::write_all(fd, b"no refusal has this number"),
+    }
+}
+
+// A number by itself: of 1 and 2 both kinds of cause.
+fn say_number(fd: i32, number: u32) -> bool {
+    if 7 < number {
+        return say_of_call(fd, number);
+    }
+    if number <= 2 {
+        return say_of_text(fd, number)
+            && program_streams::write_all(fd, b"; ")
+            && say_of_line(fd, number);
+    }
+    say_of_line(fd, number)
+}
+
+fn say_refusal(number: u32) {
+    program_streams::write_all(STDERR_FILENO, b"refusal ");
+    say_decimal(STDERR_FILENO, number as u64);
+    program_streams::write_all(STDERR_FILENO, b": ");
+}
+
+// One line on standard error, as `refusal 4: base no multiple of span`, of a number that no line of a text is known for.
+pub fn explain_number(number: u32) {
+    say_refusal(number);
+    say_number(STDERR_FILENO, number);
+    program_streams::write_all(STDERR_FILENO, b"\n");
+}
+
+// One line on standard error, as `line 3: refusal 4: base no multiple of span`. Of 1 and 2 the line tells the cause: where none
+// is charged, and none is named, the text as a whole is to blame.
+pub fn explain(r: Refusal) {
+    if r.line == 0 {
+        say_refusal(r.number);
+        say_of_text(STDERR_FILENO, r.number);
+    } else {
+        program_streams::write_all(STDERR_FILENO, b"line ");
+        say_decimal(STDERR_FILENO, r.line as u64);
+        program_streams::write_all(STDERR_FILENO, b": ");
+        say_refusal(r.number);
+        say_of_line(STDERR_FILENO, r.number);
+    }
+    program_streams::write_all(STDERR_FILENO, b"\n");
+}
+
+// A number and what it means.
+fn say_entry(fd: i32, number: u32) -> bool {
+    program_streams::write_all(fd, b"  ")
+        && say_decimal(fd, number as u64)
+        && program_streams::write_all(fd, b" ")
+        && say_number(fd, number)
+        && program_streams::write_all(fd, b"\n")
+}
+
+// A line for each number from 1 to last, for a program's help.
+pub fn list(fd: i32, last: u32) -> bool {
+    for number in 1..=last {
+        if !say_entry(fd, number) {
+            return false;
+        }
+    }
+    true
+}
+
+// What a program prints of a description that is refused.
+pub fn print(number: u32) -> bool {
+    program_streams::write_all(STDOUT_FILENO, b"refused,")
+        && say_decimal(STDOUT_FILENO, number as u64)
+        && program_streams::write_all(STDOUT_FILENO, b"\n")
+}

@@ -1,0 +1,39 @@
+// What is said on standard error of a line of the script: what is wrong with it, or why its call is refused.
+use crate::Run;
+use crate::answers;
+use libc::STDERR_FILENO;
+
+// How each explanation begins.
+fn say_line(line: u64) {
+    io::write_all(STDERR_FILENO, b"simulate: script line ");
+    io::print_decimal(STDERR_FILENO, line);
+    io::write_all(STDERR_FILENO, b": ");
+}
+
+// A line's problem, where it has one.
+pub fn problem(line: u64, problem: u8) {
+    if problem == 0 {
+        return;
+    }
+    say_line(line);
+    match problem {
+        1 => io::write_all(STDERR_FILENO, b"not a line of a script\n"),
+        2 => io::write_all(STDERR_FILENO, b"a number is out of its range\n"),
+        3 => io::write_all(STDERR_FILENO, b"reaches past what is lent\n"),
+        _ => io::write_all(STDERR_FILENO, b"more than 4096 bytes\n"),
+    }
+    ;
+}
+
+// Explains a call where it was refused. Its answer is written out before, so that the explanation comes behind it where
+// both go to one place. A call answers no more than a number of a board that the script has overwritten, so that no line of
+// the board can be charged.
+pub fn call(out: &[u8], run: Run, number: u32) -> Run {
+    if number == 0 {
+        return run;
+    }
+    let next = answers::flush(out, run);
+    say_line(run.line);
+    program_refusals::explain_number(number);
+    next
+}

@@ -1,0 +1,59 @@
+// Bytes as pairs of hex digits.
+ghost use Prim.Native.Nat.{_≤_};
+use crate::command;
+use crate::command::Field;
+
+// What a lower case hex digit counts; 16 for any other byte.
+fn digit_value(c: u8) -> u8
+    ensures { λ r. ⌜ r ≤ 16 ⌝ }
+{
+    if c < 48 {
+        return 16;
+    }
+    if c < 58 {
+        return c - 48;
+    }
+    if c < 97 {
+        return 16;
+    }
+    if c < 103 {
+        return c - 87;
+    }
+    16
+}
+
+// Whether every byte of a field is a hex digit.
+fn all_digits(field: &[u8]) -> bool {
+    let mut i = 0;
+    while i < field.len() {
+        if digit_value(field[i]) == 16 {
+            return false;
+        }
+        i += 1;
+    }
+    true
+}
+
+// The count of bytes of a field: `-` has none, any other field spells at least one.
+pub fn byte_count(field: &[u8]) -> Field {
+    let n = field.len();
+    if common_text::same_bytes(field, b"-") {
+        return command::value(0);
+    }
+    if (0 < n) & (n % 2 == 0) & all_digits(field) {
+        return command::value((n / 2) as u64);
+    }
+    command::no_value(command::NOT_A_LINE)
+}
+
+// Puts the bytes that a field spells into out, as many as both have.
+pub fn decode(field: &[u8], out: &mut [u8]) {
+    let mut i = 0;
+    while i < out.len() {
+        if field.len() / 2 <= i {
+            return;
+        }
+        out[i] = digit_value(field[2 * i]) % 16 * 16 + digit_value(field[2 * i + 1]) % 16;
+        i += 1;
+    }
+}

@@ -1,0 +1,105 @@
+// Reads the script.
+ghost use mathlib.Core.Path.{_≡_};
+ghost use mathlib.Core.Bool.{true, false};
+ghost use Prim.Native.Nat.{_+_, _≤_};
+ghost use lib.ListN.{length};
+use crate::ROOM;
+use crate::Run;
+use crate::answers;
+use crate::command;
+use libc::STDIN_FILENO;
+use program_streams::Got;
+
+// How much of the script is held at a time. The longest line is a fill of all the memory: two digits for each of 65,544 bytes
+// behind `fill,memory,0,`. A line that fills all of the input says nothing that could be done.
+pub const INPUT: usize = 131200;
+
+// Moves n bytes from `from` on to the front.
+fn keep(input: &mut [u8], from: usize, n: usize)
+    requires { ⌜ from + n ≤ length (now input) ⌝ }
+{
+    let mut i = 0;
+    while i < n {
+        input[i] = input[from + i];
+        i += 1;
+    }
+}
+
+// The script has no more bytes than the first n of the input: its last line, where it has any.
+fn last_line(run: Run, n: usize) -> Run {
+    let mut next = run;
+    next.found = 0 < n;
+    next.start = 0;
+    next.stop = n;
+    next.over = true;
+    next.line = std::num::wrapping_add_u64(run.line, 1);
+    next
+}
+
+// After a read behind the first `kept` bytes of the input, which are an unfinished line; `end` is where the bytes end now. A
+// script that cannot be read has no further line, the unfinished one included.
+fn after_read(run: Run, got: Got, kept: usize, end: usize) -> Run
+    ensures { λ r. ⌜ (got .failed ≡ true → (r .found ≡ false) × (r .over ≡ true)) ⌝ }
+{
+    let mut next = run;
+    next.from = 0;
+    next.end = end;
+    next.ended = got.ended;
+    next.found = false;
+    if got.failed {
+        program_streams::report(b"simulate", b"standard input");
+        next.over = true;
+        return next;
+    }
+    if end == kept {
+        return last_line(next, kept);
+    }
+    next
+}
+
+// Keeps an unfinished line, from `from` to `end`, and reads behind it until the input is full or the script ends. Where it has
+// ended, or no byte more finds room, that line is the last. What has gathered is written out before, so that a read that fails
+// is reported behind it.
+fn read_more(input: &mut [u8], out: &[u8; ROOM], run: Run, from: usize, end: usize) -> Run
+    requires { ⌜ (from ≤ end) × (end ≤ length (now input)) ⌝ }
+{
+    let kept = end - from;
+    keep(&mut *input, from, kept);
+    if run.ended {
+        return last_line(run, kept);
+    }
+    let mut written = answers::flush(out, run);
+    if written.over {
+        written.found = false;
+        return written;
+    }
+    let got = program_streams::read_all(STDIN_FILENO, &mut input[kept..]);
+    after_read(written, got, kept, kept + got.end)
+}
+
+// The line that was found.
+pub fn line_of(input: &[u8], run: Run) -> &[u8] {
+    let stop = crate::place(run.stop, input);
+    let piece = &input[..stop];
+    let start = crate::place(run.start, piece);
+    &piece[start..]
+}
+
+// Finds the next line in what is read, or reads more. The number of a script's lines is far below 2 ^ 64.
+pub fn next_line(input: &mut [u8], out: &[u8; ROOM], run: Run) -> Run {
+    let end = crate::place(run.end, &*input);
+    let piece = &input[..end];
+    let from = crate::place(run.from, piece);
+    let rest = &piece[from..];
+    let e = command::piece_end(rest, b'\n');
+    if e < rest.len() {
+        let mut next = run;
+        next.found = true;
+        next.start = from;
+        next.stop = from + e;
+        next.from = from + e + 1;
+        next.line = std::num::wrapping_add_u64(run.line, 1);
+        return next;
+    }
+    read_more(input, out, run, from, end)
+}

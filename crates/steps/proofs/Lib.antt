@@ -1,3 +1,0 @@
-pub mod RuleLaws
-pub mod ServeLaws
-pub mod PlaceLaws

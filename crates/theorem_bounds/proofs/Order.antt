@@ -1,0 +1,254 @@
+-- The masters in cyclic order: the first requester upward from an owner, and what the masters strictly between two of them cost.
+-- Assumes nothing.
+use mathlib.Core.Path.{_≡_, refl, sym, ap, _∙_}
+use mathlib.Core.Bool.{Bool, true, false, cond, false≢true}
+use mathlib.Core.Logic.{_⊎_, inl, inr, ⊎-elim, _≢_}
+use Prim.Native.Nat.{ℕ, zero, suc, _+_, _-_, _≤_, _<_}
+use native.Mathlib.Nat.{add-zero, add-suc}
+use native.Mathlib.Numerals.{add-one}
+use native.Mathlib.Decide.{ℕ-discrete}
+use native.Mathlib.Omega.{arith}
+use lib.Dec.{ltb, eqb}
+use borrow.Author.Tests.{ltb-true, ltb-false, eq-eqb, ne-eqb}
+use Rattle.common_laws.specs.Lists.{sum}
+use Rattle.fabric_arbiter.specs.declared.Choice.{Choice}
+use Rattle.fabric_arbiter.specs.declared.Choice.the-variants.{Requester, Nobody}
+use Rattle.fabric_arbiter.specs.Choosing.{above, tried, chosen}
+use Rattle.fabric_arbiter.proofs.OrderLaws.{above-lt}
+use Rattle.fabric_arbiter.proofs.ChoiceLaws.{tried-none, tried-found, tried-on}
+
+-- the cost of the masters strictly between o and m, going up from o
+unfoldable pub between : (ℕ → ℕ) → ℕ → ℕ → ℕ → ℕ
+between cost n o m = cond (ltb o m) (sum cost m - sum cost (suc o)) ((sum cost n + sum cost m) - sum cost (suc o))
+
+-- ---- sums
+
+pub sum-zero : (cost : ℕ → ℕ) → sum cost 0 ≡ 0
+unfolding sum
+sum-zero cost = refl
+
+pub sum-suc : (cost : ℕ → ℕ) (n : ℕ) → sum cost (suc n) ≡ sum cost n + cost n
+unfolding sum
+sum-suc cost n = refl
+
+sum-more : (cost : ℕ → ℕ) (d a : ℕ) → sum cost a ≤ sum cost (a + d)
+sum-more cost zero a = rw add-zero (omega arith)
+sum-more cost (suc d) a = rw (add-suc, sum-suc) (omega (arith, sum-more cost d a))
+
+pub sum-monotone : (cost : ℕ → ℕ) (a b : ℕ) → a ≤ b → sum cost a ≤ sum cost b
+sum-monotone cost a b h =
+    let e : a + (b - a) ≡ b = omega arith in
+    rw e at (sum-more cost (b - a) a)
+
+-- the sum of all but m
+except-below : (cost : ℕ → ℕ) (m n : ℕ) → n ≤ m → sum (λ j. cond (eqb j m) 0 (cost j)) n ≡ sum cost n
+unfolding sum
+except-below cost m zero h = refl
+except-below cost m (suc n) h = rw (except-below cost m n (omega arith), ne-eqb n m (λ q. omega arith))
+
+pub sum-except : (cost : ℕ → ℕ) (m n : ℕ) → m < n → sum (λ j. cond (eqb j m) 0 (cost j)) n + cost m ≡ sum cost n
+unfolding sum
+sum-except cost m zero h = omega arith
+sum-except cost m (suc n) h = go (ℕ-discrete n m) (sum-except cost m n)
+  where
+    go : Dec (n ≡ m) → (m < n → sum (λ j. cond (eqb j m) 0 (cost j)) n + cost m ≡ sum cost n)
+        → sum (λ j. cond (eqb j m) 0 (cost j)) n + cond (eqb n m) 0 (cost n) + cost m ≡ sum cost n + cost n
+    go (yes q) f = rw (eq-eqb n m q, except-below cost m n (omega arith)) (omega (arith, ap cost q))
+    go (no q) f = rw (ne-eqb n m q) (omega (arith, f (omega arith)))
+
+-- ---- the next master
+
+pub above-cases : (n o : ℕ) → ((suc o < n) × (above n o ≡ suc o)) ⊎ ((n ≤ suc o) × (above n o ≡ 0))
+unfolding above
+above-cases n o = go (ltb (o + 1) n) refl
+  where
+    go : (b : Bool) → ltb (o + 1) n ≡ b → ((suc o < n) × (cond b (o + 1) 0 ≡ suc o)) ⊎ ((n ≤ suc o) × (cond b (o + 1) 0 ≡ 0))
+    go true e = inl (omega (arith, ltb-true (o + 1) n e), add-one o)
+    go false e = inr (omega (arith, ltb-false (o + 1) n e), refl)
+
+-- ---- what lies between
+
+-- `between` without a difference
+between-cases : (cost : ℕ → ℕ) (n o m : ℕ) → o < n
+    → ((o < m) × (between cost n o m + sum cost (suc o) ≡ sum cost m))
+    ⊎ ((m ≤ o) × (between cost n o m + sum cost (suc o) ≡ sum cost n + sum cost m))
+unfolding between
+between-cases cost n o m h = go (ltb o m) refl
+  where
+    go : (b : Bool) → ltb o m ≡ b
+        → let x = cond b (sum cost m - sum cost (suc o)) ((sum cost n + sum cost m) - sum cost (suc o)) in
+        ((o < m) × (x + sum cost (suc o) ≡ sum cost m)) ⊎ ((m ≤ o) × (x + sum cost (suc o) ≡ sum cost n + sum cost m))
+    go true e = let l = ltb-true o m e in inl (l, omega (arith, sum-monotone cost (suc o) m l))
+    go false e = inr (ltb-false o m e, omega (arith, sum-monotone cost (suc o) n h))
+
+module _ (cost : ℕ → ℕ) (n o m : ℕ) (ho : o < n) (hm : m < n) where
+  -- nothing lies between a master and the next one
+  between-next : above n o ≡ m → between cost n o m ≡ 0
+  between-next e =
+      ⊎-elim
+      (λ a. ⊎-elim (λ b. omega (arith, ap (sum cost) (sym (a .1) ∙ e))) (λ b. omega arith) cases)
+      (λ a. ⊎-elim (λ b. omega arith) (λ b. round (omega arith) (omega arith) b) cases)
+      (above-cases n o)
+    where
+      cases : ((o < m) × (between cost n o m + sum cost (suc o) ≡ sum cost m))
+          ⊎ ((m ≤ o) × (between cost n o m + sum cost (suc o) ≡ sum cost n + sum cost m))
+      cases = between-cases cost n o m ho
+
+      round : suc o ≡ n → m ≡ 0 → (m ≤ o) × (between cost n o m + sum cost (suc o) ≡ sum cost n + sum cost m)
+          → between cost n o m ≡ 0
+      round p q b = omega (arith, ap (sum cost) p, ap (sum cost) q, sum-zero cost)
+
+  step-up : suc o < n → suc o ≢ m → between cost n o m ≡ cost (suc o) + between cost n (suc o) m
+  step-up h e =
+      ⊎-elim
+      (λ a. ⊎-elim (λ b. omega (arith, sum-suc cost (suc o))) (λ b. omega arith) next)
+      (λ a. ⊎-elim (λ b. omega arith) (λ b. omega (arith, sum-suc cost (suc o))) next)
+      (between-cases cost n o m ho)
+    where
+      next : ((suc o < m) × (between cost n (suc o) m + sum cost (suc (suc o)) ≡ sum cost m))
+          ⊎ ((m ≤ suc o) × (between cost n (suc o) m + sum cost (suc (suc o)) ≡ sum cost n + sum cost m))
+      next = between-cases cost n (suc o) m h
+
+  step-round : suc o ≡ n → 0 ≢ m → between cost n o m ≡ cost 0 + between cost n 0 m
+  step-round h e =
+      ⊎-elim
+      (λ a. omega arith)
+      (λ a.
+      ⊎-elim (λ b. omega (arith, ap (sum cost) h, sum-suc cost 0, sum-zero cost)) (λ b. omega arith)
+      (between-cases cost n 0 m (omega arith)))
+      (between-cases cost n o m ho)
+
+  -- or the next one does, and what lies between that one and m
+  between-step : above n o ≢ m → between cost n o m ≡ cost (above n o) + between cost n (above n o) m
+  between-step e =
+      ⊎-elim
+      (λ a. rw (a .1) (step-up (a .0) (λ q. e (a .1 ∙ q))))
+      (λ a. rw (a .1) (step-round (omega arith) (λ q. e (a .1 ∙ q))))
+      (above-cases n o)
+
+-- between a master and itself lie all the others
+pub between-all : (cost : ℕ → ℕ) (n m : ℕ) → m < n → between cost n m m + cost m ≡ sum cost n
+between-all cost n m h = ⊎-elim (λ a. omega arith) (λ a. omega (arith, sum-suc cost m)) (between-cases cost n m m h)
+
+-- and an owner with what lies between it and m is at most that
+pub between-owner : (cost : ℕ → ℕ) (n o m : ℕ) → o < n → m < n → o ≢ m → cost o + between cost n o m ≤ between cost n m m
+between-owner cost n o m ho hm e =
+    ⊎-elim
+    (λ a. omega (arith, between-all cost n m hm, sum-suc cost o, sum-suc cost m, sum-monotone cost (suc m) n hm))
+    (λ a. omega (arith, between-all cost n m hm, sum-suc cost o, sum-suc cost m, sum-monotone cost (suc m) o (omega arith)))
+    (between-cases cost n o m ho)
+
+-- ---- the first requester
+
+-- a master that does not request is passed over
+tried-next : (requests : ℕ → Bool) (n k o : ℕ) → requests (above n o) ≡ false
+    → tried requests n (above n o) (suc k) ≡ tried requests n (above n (above n o)) k
+tried-next requests n k o e =
+    let z : suc k - 1 ≡ k = omega arith in
+    rw z at (tried-on requests n (above n o) (suc k) (λ i. omega arith) e)
+
+-- going up from o, m is met among the next k
+abbrev Within : ℕ → ℕ → ℕ → ℕ → Type 0
+Within n k o m = ((o < m) × (m ≤ o + k)) ⊎ ((m ≤ o) × (m + n ≤ o + k))
+
+within-zero : (n o m : ℕ) → o < n → Within n 0 o m → ⊥
+within-zero n o m h = ⊎-elim (λ a. omega arith) (λ a. omega arith)
+
+within-all : (n o m : ℕ) → m < n → Within n n o m
+within-all n o m h = go (ltb o m) refl
+  where
+    go : (b : Bool) → ltb o m ≡ b → Within n n o m
+    go true e = inl (ltb-true o m e, omega arith)
+    go false e = let l = ltb-false o m e in inr (l, omega arith)
+
+within-step : (n k o m : ℕ) → o < n → m < n → above n o ≢ m → Within n (suc k) o m → Within n k (above n o) m
+within-step n k o m ho hm e w =
+    ⊎-elim
+    (λ a. rw (a .1) (⊎-elim (λ b. low (λ q. e (a .1 ∙ q)) b) (λ b. inr (omega arith, omega arith)) w))
+    (λ a.
+    rw (a .1) (⊎-elim (λ b. inr (omega arith, omega arith)) (λ b. round (λ q. e (a .1 ∙ q)) (omega arith) b) w))
+    (above-cases n o)
+  where
+    low : suc o ≢ m → (o < m) × (m ≤ o + suc k) → Within n k (suc o) m
+    low d b = inl (omega arith, omega arith)
+
+    round : 0 ≢ m → suc o ≡ n → (m ≤ o) × (m + n ≤ o + suc k) → Within n k 0 m
+    round d p b = inl (omega arith, omega arith)
+
+-- The first requester on the way up from o to m, of which m is one itself. `skipped` is what the masters passed over cost.
+pub record Found (requests : ℕ → Bool) (cost : ℕ → ℕ) (n o m : ℕ) (x : Choice) : Type 0 where
+  pub master : ℕ
+  pub is : x ≡ Requester master
+  pub asks : requests master ≡ true
+  pub low : master < n
+  pub skipped : ℕ
+  pub none : ((j : ℕ) → j < n → requests j ≡ false → cost j ≡ 0) → skipped ≡ 0
+  pub place : ((master ≡ m) × (between cost n o m ≡ skipped))
+      ⊎ ((master ≢ m) × (skipped + cost master + between cost n master m ≡ between cost n o m))
+
+module _ (requests : ℕ → Bool) (cost : ℕ → ℕ) (n m : ℕ) (hm : m < n) (asked : requests m ≡ true) where
+  here : (k o : ℕ) → o < n → requests (above n o) ≡ true → Dec (above n o ≡ m)
+      → Found requests cost n o m (tried requests n (above n o) (suc k))
+  here k o ho e (yes q) =
+      record {
+        master = above n o;
+        is = tried-found requests n (above n o) (suc k) (λ z. omega arith) e;
+        asks = e;
+        low = above-lt n o (omega arith);
+        skipped = 0;
+        none = λ f. refl;
+        place = inl (q, between-next cost n o m ho hm q);
+      }
+  here k o ho e (no q) =
+      record {
+        master = above n o;
+        is = tried-found requests n (above n o) (suc k) (λ z. omega arith) e;
+        asks = e;
+        low = above-lt n o (omega arith);
+        skipped = 0;
+        none = λ f. refl;
+        place = inr (q, omega (arith, between-step cost n o m ho hm q));
+      }
+
+  later : (k o : ℕ) → o < n → requests (above n o) ≡ false → above n o ≢ m
+      → Found requests cost n (above n o) m (tried requests n (above n (above n o)) k)
+      → Found requests cost n o m (tried requests n (above n o) (suc k))
+  later k o ho e q c =
+      record {
+        master = c .master;
+        is = tried-next requests n k o e ∙ c .is;
+        asks = c .asks;
+        low = c .low;
+        skipped = cost (above n o) + c .skipped;
+        none = λ f. omega (arith, c .none f, f (above n o) (above-lt n o (omega arith)) e);
+        place =
+            ⊎-elim
+            (λ a. inl (a .0, omega (arith, between-step cost n o m ho hm q)))
+            (λ a. inr (a .0, omega (arith, between-step cost n o m ho hm q)))
+            (c .place);
+      }
+
+  found : (k o : ℕ) → o < n → Within n k o m → Found requests cost n o m (tried requests n (above n o) k)
+  found zero o ho w = absurd (within-zero n o m ho w)
+  found (suc k) o ho w =
+      go (requests (above n o)) refl (λ q. found k (above n o) (above-lt n o (omega arith)) (within-step n k o m ho hm q w))
+    where
+      go : (b : Bool) → requests (above n o) ≡ b
+          → (above n o ≢ m → Found requests cost n (above n o) m (tried requests n (above n (above n o)) k))
+          → Found requests cost n o m (tried requests n (above n o) (suc k))
+      go true e f = here k o ho e (ℕ-discrete (above n o) m)
+      go false e f = let q : above n o ≢ m = λ q. false≢true (sym e ∙ ap requests q ∙ asked) in later k o ho e q (f q)
+
+  -- a requester m is found, or another before it
+  pub chosen-found : (o : ℕ) → o < n → Found requests cost n o m (chosen requests n o)
+  unfolding chosen
+  chosen-found o ho = found n o ho (within-all n o m hm)
+
+-- with no requester nobody is chosen
+pub chosen-nobody : (requests : ℕ → Bool) (n o : ℕ) → ((j : ℕ) → requests j ≡ false) → chosen requests n o ≡ Nobody
+unfolding chosen
+chosen-nobody requests n o h = go n o
+  where
+    go : (k p : ℕ) → tried requests n (above n p) k ≡ Nobody
+    go zero p = tried-none requests n (above n p) 0 refl
+    go (suc k) p = tried-next requests n k p (h (above n p)) ∙ go k (above n p)

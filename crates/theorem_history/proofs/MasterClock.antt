@@ -1,0 +1,128 @@
+-- One clock of a sound state, for the masters at one slave: who acts, who keeps its transfer, whom the lines show.
+-- Assumes nothing.
+use mathlib.Core.Path.{_≡_, refl, sym, ap, subst, _∙_}
+use mathlib.Core.Bool.{Bool, true, false, not, _&&_, _||_, false≢true}
+use mathlib.Core.Logic.{_⊎_, inl, inr, _≢_}
+use Prim.Native.Nat.{ℕ, _<_}
+use native.Mathlib.Omega.{arith}
+use lib.Dec.{eqb, ltb}
+use lib.ListN.{getD}
+use borrow.Author.Tests.{eq-eqb, ne-eqb, ltb-true, ltb-false}
+use Rattle.common_laws.specs.Lists.{some}
+use Rattle.common_laws.proofs.TableLaws.{some-here, none-all}
+use Rattle.description_board.specs.declared.Board.{Board}
+use Rattle.description_board.specs.Records.{masterAt, slaveAt}
+use Rattle.description_board.specs.Legal.{Legal}
+use Rattle.fabric_accesses.specs.declared.Transfer.{Transfer}
+use Rattle.fabric_state.specs.declared.Slot.{Slot}
+use Rattle.fabric_state.specs.declared.State.{State}
+use Rattle.fabric_state.specs.Records.{noLine, transferAt, slotAt}
+use Rattle.fabric_state.specs.Soundness.{requests}
+use Rattle.fabric_state.specs.Control.{slotAfterGrant, stepOf, stateAfter, finished, linesOf}
+use Rattle.fabric_state.proofs.Sound.{Sound}
+use Rattle.fabric_state.proofs.CycleLaws.{Cycle, cycle}
+use Rattle.fabric_state.proofs.StateLaws.{slot-after, line-after, line-after-past, transfer-after, transfer-kept}
+use Rattle.fabric_state.proofs.StateLaws.{transfer-finished, held-after, finished-here}
+use Rattle.fabric_state.proofs.StepLaws.{step-rests, line-owner, finished-serving}
+use Rattle.fabric_state.proofs.DecodeLaws.{requests-one}
+use Rattle.fabric_state.proofs.SoundLaws.{grant-sound, finished-only}
+use Rattle.theorem_history.specs.Claim.{owns}
+use Rattle.theorem_history.proofs.SlaveClock.{step-serving, acts, owner-after}
+use Rattle.theorem_history.proofs.Standing.{acting, stays}
+
+module _ (b : Board) (legal : Legal b) (st : State) (sound : Sound b st) where
+  -- who holds nothing holds nothing after the clock
+  pub free-after : (j : ℕ) → transferAt st j .held ≡ false → transferAt (stateAfter b st) j .held ≡ false
+  free-after j e = go (transferAt (stateAfter b st) j .held) refl
+    where
+      go : (c : Bool) → transferAt (stateAfter b st) j .held ≡ c → transferAt (stateAfter b st) j .held ≡ false
+      go true q =
+          absurd (false≢true (sym e ∙ ap (λ (t : Transfer). t .held) (sym (held-after b st j q .1)) ∙ q))
+      go false q = q
+
+  module _ (s : ℕ) (hs : s < b .«slave_count») where
+    ends-then : slotAfterGrant b st s .serving ≡ true → stepOf b st s .finished ≡ not (stepOf b st s .slot .serving)
+    ends-then on =
+        let a = acting b legal st sound s hs on in
+        let o = slotAfterGrant b st s .owner in
+        subst (Cycle (masterAt b o) (slaveAt b s) (transferAt st o) (slotAfterGrant b st s)) (sym (step-serving b st s on))
+        (cycle (masterAt b o) (slaveAt b s) (transferAt st o) (slotAfterGrant b st s) on (a .done) (a .waited))
+        .ends
+
+    -- who acts is in service after the clock, or finished
+    pub acted : (j : ℕ) → slotAfterGrant b st s .serving ≡ true → slotAfterGrant b st s .owner ≡ j
+        → (transferAt (stateAfter b st) j .held ≡ false)
+        ⊎ ((slotAt (stateAfter b st) s .serving ≡ true) × (slotAt (stateAfter b st) s .owner ≡ j))
+    acted j on e = go (stepOf b st s .slot .serving) refl
+      where
+        go : (c : Bool) → stepOf b st s .slot .serving ≡ c
+            → (transferAt (stateAfter b st) j .held ≡ false)
+            ⊎ ((slotAt (stateAfter b st) s .serving ≡ true) × (slotAt (stateAfter b st) s .owner ≡ j))
+        go true q =
+            inr (
+              ap (λ (x : Slot). x .serving) (slot-after b st s hs (legal .fewSlaves)) ∙ q,
+              owner-after b legal st sound s hs (acting b legal st sound s hs) (stays b legal st sound s hs) on ∙ e,
+            )
+        go false q =
+            let f = finished-here b st j s hs (ends-then on ∙ ap not q) (line-owner b st s on ∙ e) in
+            let h = acting b legal st sound s hs on .low in
+            let l : j < 8 = subst (λ (i : ℕ). i < 8) e (omega (arith, legal .fewMasters)) in
+            inl (ap (λ (t : Transfer). t .held) (transfer-after b st j l ∙ transfer-finished b st j f))
+
+    -- who asks here and does not act keeps its transfer
+    module _ (j : ℕ) (asks : requests b st s j ≡ true)
+        (off : slotAfterGrant b st s .serving ≡ true → slotAfterGrant b st s .owner ≢ j) where
+      unfinished : finished b st j ≡ false
+      unfinished = go (finished b st j) refl
+        where
+          go : (c : Bool) → finished b st j ≡ c → finished b st j ≡ false
+          go true q =
+              let f = finished-only b st legal sound s j asks q in
+              let on = finished-serving b st s (f .0) in
+              absurd (off on (sym (line-owner b st s on) ∙ f .1))
+          go false q = q
+
+      pub kept-after : j < b .«master_count» → transferAt (stateAfter b st) j ≡ transferAt st j
+      kept-after hj = transfer-after b st j (omega (arith, legal .fewMasters)) ∙ transfer-kept b st j unfinished
+
+      line-hides : (k : ℕ) → k < b .«slave_count» → owns j (stepOf b st k .line) ≡ false
+      unfolding owns
+      line-hides k hk = go (slotAfterGrant b st k .serving) refl
+        where
+          other : slotAfterGrant b st k .serving ≡ true → slotAfterGrant b st k .owner ≢ j
+          other on q =
+              let a = subst (λ (i : ℕ). requests b st k i ≡ true) q (grant-sound b st legal sound k hk .serving on .asks) in
+              let z = requests-one b st j k s legal a asks in
+              off (subst (λ (i : ℕ). slotAfterGrant b st i .serving ≡ true) z on)
+              (subst (λ (i : ℕ). slotAfterGrant b st i .owner ≡ j) z q)
+
+          and-no : (c : Bool) → (c && false) ≡ false
+          and-no true = refl
+          and-no false = refl
+
+          go : (c : Bool) → slotAfterGrant b st k .serving ≡ c → owns j (stepOf b st k .line) ≡ false
+          go true on =
+              rw (ne-eqb (stepOf b st k .line .owner) j (λ q. other on (sym (line-owner b st k on) ∙ q)))
+              (and-no (eqb (stepOf b st k .line .phase) 1 || eqb (stepOf b st k .line .phase) 2))
+          go false e = rw (step-rests b st k e)
+
+      -- nor does any line show it
+      pub hidden : some (λ k. owns j (getD (linesOf b st) k noLine)) 16 ≡ false
+      unfolding owns
+      hidden = none-all (λ k. owns j (getD (linesOf b st) k noLine)) 16 (λ k h. go k (ltb k (b .«slave_count»)) refl)
+        where
+          go : (k : ℕ) (c : Bool) → ltb k (b .«slave_count») ≡ c → owns j (getD (linesOf b st) k noLine) ≡ false
+          go k true e =
+              let h = ltb-true k (b .«slave_count») e in
+              ap (owns j) (line-after b st k h (legal .fewSlaves)) ∙ line-hides k h
+          go k false e = ap (owns j) (line-after-past b st k (ltb-false k (b .«slave_count») e))
+
+    -- who acts is shown
+    pub shown : (j : ℕ) → slotAfterGrant b st s .serving ≡ true → slotAfterGrant b st s .owner ≡ j
+        → some (λ k. owns j (getD (linesOf b st) k noLine)) 16 ≡ true
+    unfolding owns
+    shown j on e =
+        let l = legal .fewSlaves in
+        let c = acts b legal st sound s hs (acting b legal st sound s hs) (stays b legal st sound s hs) on in
+        some-here (λ k. owns j (getD (linesOf b st) k noLine)) 16 s (omega arith)
+        (ap (owns j) (line-after b st s hs l) ∙ rw (c .shown, eq-eqb (stepOf b st s .line .owner) j (c .line ∙ e)))

@@ -1,0 +1,104 @@
+-- A pair's figures as the theory of the wait takes them: singles, longest transfers, turns and their sum.
+-- Assumes nothing.
+use mathlib.Core.Path.{_≡_, refl, sym}
+use mathlib.Core.Bool.{Bool, true, false, cond, not, _&&_}
+use Prim.Native.Nat.{ℕ, zero, suc, _+_, _-_, _*_, _/_, _≤_, _<_, max}
+use native.Mathlib.Nat.{mul-le-mul, one-mul, le-div-iff-mul-le}
+use native.Mathlib.Omega.{arith}
+use lib.Dec.{ltb, eqb}
+use borrow.Author.Tests.{lt-ltb, ltb-true}
+use Rattle.common_laws.proofs.Tests.{both}
+use Rattle.common_laws.proofs.FillLaws.{sum-same}
+use Rattle.description_board.specs.declared.Master.{Master}
+use Rattle.description_board.specs.declared.Slave.{Slave}
+use Rattle.description_board.specs.declared.Board.{Board}
+use Rattle.description_board.specs.Records.{masterAt, slaveAt, sharesAt, connected}
+use Rattle.description_board.specs.Legal.{Legal}
+use Rattle.description_board.proofs.RuleLaws.{width-bound, burst-bound, span-bound}
+use Rattle.fabric_accesses.specs.declared.Transfer.{Transfer}
+use Rattle.fabric_accesses.specs.Accesses.{ratio, waitOf, ownLength}
+use Rattle.fabric_accesses.proofs.AccessLaws.{accesses-le}
+use Rattle.fabric_state.proofs.DecodeLaws.{Accepted}
+use Rattle.wait_turns.specs.Waits as waits
+use Rattle.theorem_bounds.proofs.Credit.{credit, credit-zero, credit-suc}
+use Rattle.theorem_bounds.proofs.Potential.{quoted}
+
+-- a connected pair: the slave is one of the board's, and the master has shares there
+pub connected-pair : (b : Board) (m s : ℕ) → connected b m s ≡ true → (s < b .«slave_count») × (1 ≤ sharesAt b m s)
+unfolding connected
+connected-pair b m s c =
+    let p = both (ltb s (b .«slave_count»)) (ltb 0 (sharesAt b m s)) c in
+    (ltb-true s (b .«slave_count») (p .0), ltb-true 0 (sharesAt b m s) (p .1))
+
+-- the wait of a direction is no longer than the longer one
+pub wait-longest : (sl : Slave) (t : Transfer) → 1 + waitOf sl t ≤ waits.longestAccess sl
+unfolding waitOf waits.longestAccess
+wait-longest sl t = go (t .write)
+  where
+    go : (c : Bool) → 1 + cond c (sl .«write_wait») (sl .«read_wait») ≤ 1 + max (sl .«read_wait») (sl .«write_wait»)
+    go true = omega arith
+    go false = omega arith
+
+-- a burst that fits the slave has no more beats than n
+pub beats-most : (ma : Master) (sl : Slave) (k : ℕ) → 1 ≤ ma .width → k ≤ ma .burst → k * ma .width ≤ sl .span
+    → k ≤ waits.mostBeats ma sl
+unfolding waits.mostBeats
+beats-most ma sl k h l f = let d : k ≤ sl .span / ma .width = le-div-iff-mul-le h .1 f in omega arith
+
+-- the own length of a transfer of k beats
+long-serve : (ma : Master) (sl : Slave) (t : Transfer) → t .beats ≤ waits.mostBeats ma sl
+    → ownLength ma sl t ≤ waits.serve ma sl (waits.longestAccess sl)
+unfolding ownLength waits.serve
+long-serve ma sl t h = mul-le-mul (accesses-le ma sl t (waits.mostBeats ma sl) h) (wait-longest sl t)
+
+-- an accepted transfer lasts no longer than the longest
+pub accepted-long : (b : Board) → Legal b → (j : ℕ) → j < b .«master_count» → (t : Transfer) (s : ℕ) → Accepted b j t s
+    → ownLength (masterAt b j) (slaveAt b s) t ≤ waits.serve (masterAt b j) (slaveAt b s) (waits.longestAccess (slaveAt b s))
+accepted-long b legal j hj t s a =
+    let w = width-bound (masterAt b j .width) (legal .master j hj .width) in
+    let f : t .beats * masterAt b j .width ≤ slaveAt b s .span = omega (arith, a .low, a .end) in
+    long-serve (masterAt b j) (slaveAt b s) t (beats-most (masterAt b j) (slaveAt b s) (t .beats) (w .0) (a .few) f)
+
+pub long-single : (ma : Master) (sl : Slave) (t : Transfer) → t .beats ≤ 1
+    → ownLength ma sl t ≤ waits.single ma sl (waits.longestAccess sl)
+unfolding ownLength waits.single
+long-single ma sl t h =
+    mul-le-mul (omega (arith, accesses-le ma sl t 1 h, one-mul (ratio ma sl))) (wait-longest sl t)
+
+module _ (b : Board) (legal : Legal b) (s : ℕ) (hs : s < b .«slave_count») where
+  abbrev pub sharesOf : ℕ → ℕ
+  sharesOf j = sharesAt b j s
+
+  abbrev pub singleOf : ℕ → ℕ
+  singleOf j = waits.single (masterAt b j) (slaveAt b s) (waits.longestAccess (slaveAt b s))
+
+  abbrev pub serveOf : ℕ → ℕ
+  serveOf j = waits.serve (masterAt b j) (slaveAt b s) (waits.longestAccess (slaveAt b s))
+
+  -- the longest transfer has a beat at least
+  pub most-some : (j : ℕ) → j < b .«master_count» → 1 ≤ waits.mostBeats (masterAt b j) (slaveAt b s)
+  most-some j hj =
+      let w = width-bound (masterAt b j .width) (legal .master j hj .width) in
+      let u = burst-bound (masterAt b j .burst) (legal .master j hj .burst) in
+      let n = span-bound (slaveAt b s .span) (legal .slave s hs .span) in
+      beats-most (masterAt b j) (slaveAt b s) 1 (w .0) (u .0) (omega (arith, one-mul (masterAt b j .width)))
+
+  -- a turn is the credit of all shares
+  other-turn : (m j : ℕ) → waits.otherTurn b (waits.longestAccess (slaveAt b s)) m s j
+      ≡ cond (eqb j m) 0 (credit (singleOf j) (serveOf j) (sharesOf j))
+  unfolding waits.otherTurn connected waits.turn
+  other-turn m j = rw (lt-ltb s (b .«slave_count») hs) (go (sharesAt b j s) (eqb j m))
+    where
+      go : (a : ℕ) (c : Bool)
+          → cond (ltb 0 a && not c) ((a - 1) * singleOf j + serveOf j) 0 ≡ cond c 0 (credit (singleOf j) (serveOf j) a)
+      go zero true = refl
+      go zero false = sym (credit-zero (singleOf j) (serveOf j) 0 refl)
+      go (suc a) true = rw (lt-ltb 0 (suc a) (omega arith))
+      go (suc a) false =
+          let e : suc a - 1 ≡ a = omega arith in
+          rw (lt-ltb 0 (suc a) (omega arith), e, credit-suc)
+
+  -- the quoted wait is the sum of the turns of all others
+  pub wait-quoted : (m : ℕ) → waits.quotedWait b m s ≡ quoted (b .«master_count») sharesOf singleOf serveOf m
+  unfolding waits.quotedWait waits.turnsOf
+  wait-quoted m = sum-same _ _ (b .«master_count») (λ j h. other-turn m j)

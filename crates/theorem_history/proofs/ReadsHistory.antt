@@ -1,0 +1,259 @@
+-- The read claim of demand 3: a reset makes what is true of every slave, posts, clocks and refused calls keep it.
+-- Assumes nothing.
+use mathlib.Core.Path.{_≡_, refl, sym, ap, subst, _∙_}
+use mathlib.Core.Bool.{Bool, true, false, cond, not, _&&_, true≢false}
+use mathlib.Core.List.{List, [], _∷_}
+use mathlib.Core.Logic.{⊎-elim, _≢_}
+use Prim.Native.Nat.{ℕ, _+_, _*_, _≤_, _<_}
+use native.Mathlib.Omega.{arith}
+use lib.Dec.{eqb}
+use lib.ListN.{length, take, drop}
+use lib.Seq.{take-length}
+use borrow.Author.Tests.{eq-eqb, ne-eqb}
+use Rattle.common_laws.specs.Bits.{bit}
+use Rattle.description_board.specs.declared.Board.{Board}
+use Rattle.description_board.specs.Records.{masterAt, startOf, memoryLength}
+use Rattle.description_board.specs.Legal.{Legal}
+use Rattle.fabric_accesses.specs.declared.Transfer.{Transfer}
+use Rattle.fabric_accesses.specs.Decoding.{targetOf}
+use Rattle.fabric_bytes.specs.Moving.{all}
+use Rattle.fabric_bytes.specs.Bytes.{Store, bufferLength, partOf, posted}
+use Rattle.fabric_bytes.proofs.MoveLaws.{equal-or, less-or}
+use Rattle.fabric_bytes.proofs.Ranges.{agree-refl, agree-sym, move-apart, front-moved}
+use Rattle.fabric_bytes.proofs.StoreLaws.{length-posted, parts-apart}
+use Rattle.fabric_state.specs.declared.Slot.{Slot}
+use Rattle.fabric_state.specs.declared.State.{State}
+use Rattle.fabric_state.specs.Records.{transferAt, slotAt}
+use Rattle.fabric_state.specs.Posting.{Request, transferOf}
+use Rattle.fabric_state.specs.Soundness.{sound}
+use Rattle.fabric_state.specs.Control.{finished, maskOf, linesOf}
+use Rattle.fabric_state.specs.Resetting.{stateAtReset}
+use Rattle.fabric_state.specs.Posting.{stateWith}
+use Rattle.fabric.specs.Calls.{clock, storeAfterClock, World}
+use Rattle.fabric_state.proofs.Sound.{Sound}
+use Rattle.fabric_state.proofs.StateLaws.{transfer-reset, slot-reset, mask-bit, mask-bit-past}
+use Rattle.fabric_state.proofs.StateLaws.{transfer-with, transfer-with-other, slot-with}
+use Rattle.fabric_state.proofs.SoundLaws.{post-sound}
+use Rattle.theorem_history.specs.Claim.{Call, next, after, History, Start, Lent}
+use Rattle.theorem_history.specs.Claim.{names, Reference, referenceAt, bytesIn, Order, seenAll, fedPost, fed}
+use Rattle.fabric.proofs.RunLaws.{clock-is, store-is}
+use Rattle.theorem_history.proofs.Calls.{withPost, withClock, Came, refused, postTaken, clockTaken, came, named-taken}
+use Rattle.theorem_history.proofs.Lengths.{clock-lent, lent-before}
+use Rattle.theorem_history.proofs.Standing.{Standing, Taken, post-taken, start-state, start-stands, post-stands, clock-stands}
+use Rattle.theorem_history.proofs.ReadsServing.{bytesHeld, endOf, Asked, served-kept}
+use Rattle.theorem_history.proofs.ReadsSlave.{Wants, Right, SameMaster, asked-kept}
+use Rattle.theorem_history.proofs.ReadsClock.{Agreed, lies, clock-right, clock-read}
+
+-- ---- the reset
+
+reset-right : (b : Board) → Legal b → (d : Store) → length (d .memory) ≡ memoryLength b
+    → length (d .buffer) ≡ bufferLength → Agreed b (stateAtReset b) d (referenceAt (d .memory))
+unfolding Agreed referenceAt
+reset-right b legal d l n k h =
+    let off : slotAt (stateAtReset b) k .serving ≡ false = rw (slot-reset b k h (legal .fewSlaves)) in
+    record {
+      memory = l;
+      buffer = n;
+      bytes = l;
+      asked = λ m w. absurd (unheld m w);
+      waits = λ m w. absurd (unheld m w);
+      wants = λ v. absurd (true≢false (sym v ∙ off));
+      serves = λ v. absurd (true≢false (sym v ∙ off));
+      rests = λ v. agree-refl _ _ (d .memory);
+    }
+  where
+    unheld : (m : ℕ) → Wants b m k (transferAt (stateAtReset b) m) → ⊥
+    unheld m w = true≢false (sym (w .held) ∙ ap (λ (t : Transfer). t .held) (transfer-reset b m))
+
+-- ---- a post that is not refused
+
+module _
+    (b : Board) (legal : Legal b) (st : State) (sound : Sound b st) (d : Store) (r : Reference) (q : Request)
+    (fresh : Taken b st q)
+  where
+    -- what it leaves
+    abbrev stateThen : State
+    stateThen = stateWith st (q .master) (transferOf q)
+
+    abbrev storeThen : Store
+    storeThen = record { memory = d .memory; buffer = posted (q .master) (q .words) (d .buffer) }
+
+    then-sound : Sound b stateThen
+    then-sound = post-sound b st (q .master) (transferOf q) legal sound (fresh .master) (fresh .free) (fresh .fits) refl
+
+    then-new : transferAt stateThen (q .master) ≡ transferOf q
+    then-new = transfer-with st (q .master) (transferOf q) (sound .transfers) (omega (arith, fresh .master, legal .fewMasters))
+
+    few : bytesHeld b (q .master) (transferOf q) ≤ 512
+    few =
+        let w : Wants b (q .master) (targetOf b (q .master) (q .address)) (transferAt stateThen (q .master))
+        = rw then-new (record { held = refl; target = refl }) in
+        rw then-new at (lies b legal stateThen then-sound (q .master) (targetOf b (q .master) (q .address)) w .few)
+
+    words-few : length (q .words) ≤ 512
+    words-few = go (q .write) (fresh .words)
+      where
+        go : (c : Bool) → length (q .words) ≡ cond c (q .beats * masterAt b (q .master) .width) 0 → length (q .words) ≤ 512
+        go true e = omega (arith, few)
+        go false e = omega arith
+
+    other-master : (m : ℕ) → m ≢ q .master → SameMaster d storeThen r (fedPost q r) m
+    unfolding fedPost posted
+    other-master m h = record {
+      part =
+          agree-sym
+          (move-apart all (q .words) 0 (partOf (q .master)) 0 (length (q .words)) (partOf m) (partOf m + 512) (d .buffer)
+          (parts-apart (q .master) m 0 (length (q .words)) (λ e. h (sym e)) (omega (arith, words-few))));
+      request = rw (ne-eqb m (q .master) h);
+      waiting = rw (ne-eqb m (q .master) h);
+      given = refl;
+    }
+
+    new-master : length (d .buffer) ≡ bufferLength → Asked b storeThen (fedPost q r) (q .master) (transferOf q)
+    unfolding fedPost posted
+    new-master l =
+        let e = eq-eqb (q .master) (q .master) refl in
+        record {
+          master = rw e;
+          transfer = rw e;
+          many = rw e (fresh .words);
+          there =
+              rw e
+              (front-moved (q .words) 0 (partOf (q .master)) (length (q .words)) (d .buffer)
+              (omega (arith, words-few, fresh .master, legal .fewMasters)) (omega arith)
+              ∙ take-length (q .words));
+        }
+
+    module _ (k : ℕ) (x : Slot) (c : Right b (transferAt st) d r k x) where
+      kept : (m : ℕ) → m ≢ q .master → transferAt stateThen m ≡ transferAt st m
+      kept m h = transfer-with-other st (q .master) (transferOf q) m h
+
+      -- whom the slave serves holds another transfer
+      owner-other : x .serving ≡ true → x .owner ≢ q .master
+      owner-other v e =
+          true≢false (sym (c .wants v .held) ∙ ap (λ (i : ℕ). transferAt st i .held) e ∙ fresh .free)
+
+      slave-right : Right b (transferAt stateThen) storeThen (fedPost q r) k x
+      unfolding fedPost
+      slave-right = record {
+        memory = c .memory;
+        buffer = long;
+        bytes = c .bytes;
+        asked = λ m w.
+            ⊎-elim
+            (λ (e : m ≡ q .master). rw (e, then-new) (new-master (c .buffer)))
+            (λ (h : m ≢ q .master).
+            let w′ : Wants b m k (transferAt st m) = rw (kept m h) at w in
+            rw (kept m h)
+            (asked-kept b d storeThen r (fedPost q r) m (transferAt st m) (lies b legal st sound m k w′ .few)
+            (c .buffer ∙ sym long) (other-master m h) (c .asked m w′)))
+            (equal-or m (q .master));
+        waits = λ m w.
+            ⊎-elim
+            (λ (e : m ≡ q .master). rw (e, eq-eqb (q .master) (q .master) refl) (idle (x .serving) refl))
+            (λ (h : m ≢ q .master). rw (ne-eqb m (q .master) h) (c .waits m (rw (kept m h) at w)))
+            (equal-or m (q .master));
+        wants = λ v. rw (kept (x .owner) (owner-other v)) (c .wants v);
+        serves = λ v.
+            let o = x .owner in
+            rw (kept o (owner-other v))
+            (served-kept b k o (transferAt st o) (lies b legal st sound o k (c .wants v)) (x .done) d storeThen r
+            (fedPost q r)
+            (record {
+              memoryLength = refl;
+              bufferLength = c .buffer ∙ sym long;
+              memory = agree-refl (startOf b k) (endOf b k) (d .memory);
+              buffer = other-master o (owner-other v) .part;
+            })
+            (agree-refl (startOf b k) (endOf b k) (r .bytes)) refl (c .serves v));
+        rests = c .rests;
+      }
+        where
+          long : length (posted (q .master) (q .words) (d .buffer)) ≡ bufferLength
+          long = length-posted (q .master) (q .words) (d .buffer) ∙ c .buffer
+
+          idle : (v : Bool) → x .serving ≡ v → true ≡ not (x .serving && eqb (x .owner) (q .master))
+          idle true v = rw (v, ne-eqb (x .owner) (q .master) (owner-other v))
+          idle false v = rw v
+
+    post-right : Agreed b st d r → Agreed b stateThen storeThen (fedPost q r)
+    unfolding Agreed
+    post-right c k h = rw (slot-with st (q .master) (transferOf q) k) (slave-right k (slotAt st k) (c k h))
+
+-- ---- the calls of a history
+
+-- what stands, and the byte memory with it
+pub record Good (b : Board) (legal : Legal b) (w : World) (r : Reference) : Type 0 where
+  pub stands : Standing b legal w
+  pub right : Agreed b (w .state) (w .store) r
+
+pub start-good : (b : Board) (legal : Legal b) (w : World) → Start b w → Lent b w → Good b legal w (referenceAt (w .store .memory))
+start-good b legal w s lent = record {
+  stands = start-stands b legal w s lent;
+  right = rw (start-state b w s) (reset-right b legal (w .store) (lent .memory) (lent .buffer));
+}
+
+module _ (b : Board) (legal : Legal b) where
+  post-good : (w : World) (r : Reference) (q : Request) → Good b legal w r → Taken b (w .state) q
+      → Good b legal (withPost w q) (fedPost q r)
+  post-good w r q g t = record {
+    stands = post-stands b legal w q (g .stands) t;
+    right = post-right b legal (w .state) (g .stands .sound) (w .store) r q t (g .right);
+  }
+
+  clock-good : (w : World) (r : Reference) (order : Order) → Good b legal w r
+      → Good b legal (withClock b w) (seenAll b (order .slaves) (linesOf b (w .state)) r)
+  clock-good w r order g = record {
+    stands = clock-stands b legal w (g .stands);
+    right = clock-right b legal (w .state) (g .stands .sound) order (w .store) r (g .right);
+  }
+
+  good-step : (orders : ℕ → Order) (c : Call) (cs : List Call) (w : World) (r : Reference) → Good b legal w r → Came b w c
+      → ((s : Reference) → Good b legal (next w c) s → Good b legal (after (next w c) cs) (fed b orders s cs))
+      → Good b legal (after (next w c) cs) (fed b orders r (c ∷ cs))
+  good-step orders c cs w r g (refused e f k) rest =
+      subst (Good b legal (after (next w c) cs)) (sym (k orders r cs))
+      (rest r (subst (λ (u : World). Good b legal u r) (sym e) g))
+  good-step orders c cs w r g (postTaken q t e f k) rest =
+      subst (Good b legal (after (next w c) cs)) (sym (k orders r cs))
+      (rest (fedPost q r)
+      (subst (λ (u : World). Good b legal u (fedPost q r)) (sym e)
+      (post-good w r q g (post-taken b (w .state) (w .store .buffer) q t))))
+  good-step orders c cs w r g (clockTaken t e f k) rest =
+      let s = seenAll b (orders (length cs) .slaves) (linesOf b (w .state)) r in
+      subst (Good b legal (after (next w c) cs)) (sym (k orders r cs))
+      (rest s (subst (λ (u : World). Good b legal u s) (sym e) (clock-good w r (orders (length cs)) g)))
+
+  pub history-good : (orders : ℕ → Order) (cs : List Call) (w : World) (r : Reference) → Good b legal w r → History b w cs
+      → Good b legal (after w cs) (fed b orders r cs)
+  unfolding History after fed
+  history-good orders [] w r g h = g
+  history-good orders (c ∷ cs) w r g h =
+      good-step orders c cs w r g (came b w c (h .0)) (λ s x. history-good orders cs (next w c) s x (h .1))
+
+-- ---- the claim
+
+named : (b : Board) (st : State) (m : ℕ) → bit (maskOf b st) m ≡ true → finished b st m ≡ true
+named b st m e =
+    ⊎-elim (λ (h : m < 8). sym (mask-bit b st m h) ∙ e)
+    (λ (h : 8 ≤ m). absurd (true≢false (sym e ∙ mask-bit-past b st m h)))
+    (less-or m 8)
+
+-- "As the finishing clock leaves it, the front of its master's part .. equals what the read's step gave."
+pub reads-right : (b : Board) → Legal b → (w : World) (calls : List Call) (orders : ℕ → Order) (last : Order) (m : ℕ)
+    → Start b w → History b w calls
+    → let u = after w calls in
+    let a = clock b (u .state) (u .store) in
+    let r = seenAll b (last .slaves) (a .lines) (fed b orders (referenceAt (w .store .memory)) calls) in
+    names m a ≡ true → r .request m .write ≡ false
+    → take (bytesIn b (r .request m)) (drop (partOf m) (storeAfterClock b (u .state) (u .store) .buffer)) ≡ r .given m
+unfolding names
+reads-right b legal w calls orders last m s h n =
+    let f = fed b orders (referenceAt (w .store .memory)) calls in
+    let u = after w calls in
+    let free = named-taken b (u .state) (u .store) m n in
+    let lent = lent-before b calls w h (clock-lent b u free) in
+    let g = history-good b legal orders calls w (referenceAt (w .store .memory)) (start-good b legal w s lent) h in
+    let named-now : bit (maskOf b (u .state)) m ≡ true = rw (clock-is b (u .state) (u .store) free) at n in
+    rw (clock-is b (u .state) (u .store) free, store-is b (u .state) (u .store) free)
+    (clock-read b legal (u .state) (g .stands .sound) last (u .store) f m (g .right) (named b (u .state) m named-now))

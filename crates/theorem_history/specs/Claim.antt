@@ -1,0 +1,274 @@
+-- What demand 3 compares: lists of calls, the byte memory of the read claim, and the claim.
+-- Assumes nothing.
+use mathlib.Core.Path.{_≡_}
+use mathlib.Core.Bool.{Bool, true, false, cond, _&&_, _||_}
+use mathlib.Core.List.{List, [], _∷_}
+use mathlib.Core.Logic.{_⊎_, _≢_}
+use Prim.Native.Nat.{ℕ, _+_, _*_, _≤_, _<_}
+use lib.Dec.{eqb, ltb}
+use lib.ListN.{length, getD, take, drop}
+use Rattle.common_laws.specs.Bits.{bit}
+use Rattle.common_laws.specs.Lists.{some}
+use Rattle.description_board.specs.declared.Board.{Board}
+use Rattle.description_board.specs.Records.{masterAt, slaveAt, connected, startOf, memoryLength}
+use Rattle.fabric_accesses.specs.Accesses.{ownLength}
+use Rattle.fabric_accesses.specs.Decoding.{targetOf}
+use Rattle.fabric_bytes.specs.Moving.{move}
+use Rattle.fabric_bytes.specs.Bytes.{Store, bufferLength, partOf, memoryPlace, enabled}
+use Rattle.fabric_state.specs.declared.State.{State}
+use Rattle.fabric_state.specs.declared.Line.{Line}
+use Rattle.fabric_state.specs.declared.Clocked.{Clocked}
+use Rattle.fabric_state.specs.Records.{noLine}
+use Rattle.fabric_state.specs.Posting.{Request, transferOf}
+use Rattle.fabric.specs.Calls.{World, reset, post, bufferAfterPost, clock, storeAfterClock}
+use Rattle.wait_turns.specs.Waits.{quotedWait}
+use Rattle.description.specs.Writer.{writeText}
+use Rattle.wait.specs.declared.Quoted.{Quoted}
+use Rattle.wait.specs.Calls.{quoteOf}
+use Rattle.theorem_history.specs.WaitCall.{WaitAnswered}
+
+-- ---- the list
+
+-- a post or a clock, with everything it was handed
+pub data Call : Type 0 where
+  posts : Board → State → List ℕ → Request → Call
+  clocks : Board → State → Store → Call
+
+-- the number it answers
+unfoldable pub numberAnswered : Call → ℕ
+numberAnswered (posts b st buffer q) = post b st buffer q .number
+numberAnswered (clocks b st d) = clock b st d .number
+
+-- it was handed the description b, and state, memory and buffer as they stood
+unfoldable pub Handed : Board → World → Call → Type 0
+Handed b w (posts b′ st buffer q) = (b′ ≡ b) × (st ≡ w .state) × (buffer ≡ w .store .buffer)
+Handed b w (clocks b′ st d) = (b′ ≡ b) × (st ≡ w .state) × (d ≡ w .store)
+
+-- what it leaves, where w stood
+unfoldable pub leaves : World → Call → World
+leaves w (posts b st buffer q) =
+    record {
+      state = post b st buffer q .state;
+      store = record { memory = w .store .memory; buffer = bufferAfterPost b st buffer q };
+    }
+leaves w (clocks b st d) = record { state = clock b st d .state; store = storeAfterClock b st d }
+
+-- what the next call gets: "a refused one may have been handed anything else, and the next gets what stood before it"
+unfoldable pub next : World → Call → World
+next w c = cond (eqb (numberAnswered c) 0) (leaves w c) w
+
+unfoldable pub after : World → List Call → World
+after w [] = w
+after w (c ∷ cs) = after (next w c) cs
+
+-- "Each post or clock gets the reset's description, and state, memory and buffer as the call before left them"
+unfoldable pub History : Board → World → List Call → Type 0
+History b w [] = Unit {0}
+History b w (c ∷ cs) = ((numberAnswered c ≢ 0) ⊎ Handed b w c) × History b (next w c) cs
+
+-- "A history starts at a reset not refused", whatever memory and buffer are lent
+pub record Start (b : Board) (w : World) : Type 0 where
+  pub accepted : reset b .number ≡ 0
+  pub state : w .state ≡ reset b .state
+
+-- the memory and the buffer lent are of their exact lengths
+pub record Lent (b : Board) (w : World) : Type 0 where
+  pub memory : length (w .store .memory) ≡ memoryLength b
+  pub buffer : length (w .store .buffer) ≡ bufferLength
+
+-- "Only clocks not refused count.": what they answered, in order
+unfoldable pub answers : List Call → List Clocked
+answers [] = []
+answers (posts b st buffer q ∷ cs) = answers cs
+answers (clocks b st d ∷ cs) = cond (eqb (clock b st d .number) 0) (clock b st d ∷ answers cs) (answers cs)
+
+-- "a slave line has phase 1 or 2 and its master as owner"
+unfoldable pub owns : ℕ → Line → Bool
+owns m l = (eqb (l .phase) 1 || eqb (l .phase) 2) && eqb (l .owner) m
+
+unfoldable pub shows : ℕ → Clocked → Bool
+shows m a = some (λ s. owns m (getD (a .lines) s noLine)) 16
+
+-- "whose mask names the master"
+unfoldable pub names : ℕ → Clocked → Bool
+names m a = bit (a .mask) m
+
+-- one of the clocks passes the test
+unfoldable pub any : (Clocked → Bool) → List Clocked → Bool
+any test [] = false
+any test (a ∷ as′) = test a || any test as′
+
+-- the slave of a request
+unfoldable pub slaveFor : Board → Request → ℕ
+slaveFor b q = targetOf b (q .master) (q .address)
+
+-- the request is posted, and not refused, where w stands
+unfoldable pub Accepted : Board → World → Request → Type 0
+Accepted b w q = post b (w .state) (w .store .buffer) q .number ≡ 0
+
+-- where w stands behind that post
+unfoldable pub afterPosting : Board → World → Request → World
+afterPosting b w q = leaves w (posts b (w .state) (w .store .buffer) q)
+
+-- "let w be the pair's quoted wait": the w of every part of the claim
+unfoldable pub waitFor : Board → Request → ℕ
+waitFor b q = quotedWait b (q .master) (slaveFor b q)
+
+-- "own length"
+unfoldable pub lengthOf : Board → Request → ℕ
+lengthOf b q = ownLength (masterAt b (q .master)) (slaveAt b (slaveFor b q)) (transferOf q)
+
+-- ---- the byte memory of the read claim
+
+-- the bytes; each master's last request, whether it still waits for its first cycle, and what its read gave
+pub record Reference : Type 0 where
+  pub bytes : List ℕ
+  pub request : ℕ → Request
+  pub waiting : ℕ → Bool
+  pub given : ℕ → List ℕ
+
+abbrev pub update : {X : Type 0} → (ℕ → X) → ℕ → X → ℕ → X
+update f m x k = cond (eqb k m) x (f k)
+
+-- "The byte memory of the read claim starts as the memory at the reset."
+unfoldable pub referenceAt : List ℕ → Reference
+referenceAt memory = record {
+  bytes = memory;
+  request = λ m. record { master = 0; write = false; address = 0; lanes = 0; beats = 0; words = [] };
+  waiting = λ m. false;
+  given = λ m. [];
+}
+
+-- "beats × master width bytes"
+unfoldable pub bytesIn : Board → Request → ℕ
+bytesIn b q = q .beats * masterAt b (q .master) .width
+
+-- "Byte j of beat k lies at the slave's start in memory + address − base + k × master width + j."
+unfoldable pub placeInMemory : Board → Request → ℕ
+placeInMemory b q = memoryPlace (slaveAt b (slaveFor b q)) (transferOf q) (startOf b (slaveFor b q))
+
+-- "A write puts its posted bytes there where lane j is 1; a read .. changes nothing."
+unfoldable pub bytesAfter : Board → Request → List ℕ → List ℕ
+bytesAfter b q bytes =
+    cond (q .write)
+    (move (enabled (masterAt b (q .master)) (transferOf q)) (q .words) 0 (placeInMemory b q) 0 (bytesIn b q) bytes)
+    bytes
+
+-- "a read gives all its bytes"
+unfoldable pub given : Board → Request → List ℕ → List ℕ
+given b q bytes = take (bytesIn b q) (drop (placeInMemory b q) bytes)
+
+-- "each transfer that has had its first cycle is one whole step": the transfer of master m
+unfoldable pub stepped : Board → ℕ → Reference → Reference
+stepped b m r = record {
+  bytes = bytesAfter b (r .request m) (r .bytes);
+  request = r .request;
+  waiting = update (r .waiting) m false;
+  given = update (r .given) m (given b (r .request m) (r .bytes));
+}
+
+-- the line is the first cycle of its owner's transfer
+unfoldable pub seen : Board → Line → Reference → Reference
+seen b l r = cond ((eqb (l .phase) 1 || eqb (l .phase) 2) && r .waiting (l .owner)) (stepped b (l .owner) r) r
+
+-- how often s is in the list
+unfoldable pub times : ℕ → List ℕ → ℕ
+times s [] = 0
+times s (k ∷ ks) = cond (eqb k s) (times s ks + 1) (times s ks)
+
+-- "those of one clock are on different slaves and may be taken in any order": it has each slave number, 0 to 15, once, no other
+pub record Order : Type 0 where
+  pub slaves : List ℕ
+  pub once : (s : ℕ) → times s slaves ≡ cond (ltb s 16) 1 0
+
+-- the lines of one clock, taken in the order of these slaves
+unfoldable pub seenAll : Board → List ℕ → List Line → Reference → Reference
+seenAll b [] lines r = r
+seenAll b (s ∷ ss) lines r = seenAll b ss lines (seen b (getD lines s noLine) r)
+
+-- "It is fed the posts not refused, and from the clocks' answers only the order"
+unfoldable pub fedPost : Request → Reference → Reference
+fedPost q r = record {
+  bytes = r .bytes;
+  request = update (r .request) (q .master) q;
+  waiting = update (r .waiting) (q .master) true;
+  given = r .given;
+}
+
+-- each clock has an order of its own: orders n is that of the clock which n calls of the list follow
+unfoldable pub fed : Board → (ℕ → Order) → Reference → List Call → Reference
+fed b orders r [] = r
+fed b orders r (posts b′ st buffer q ∷ cs) =
+    fed b orders (cond (eqb (post b′ st buffer q .number) 0) (fedPost q r) r) cs
+fed b orders r (clocks b′ st d ∷ cs) =
+    fed b orders
+    (cond (eqb (clock b′ st d .number) 0) (seenAll b (orders (length cs) .slaves) (clock b′ st d .lines) r) r) cs
+
+-- ---- the claim
+
+-- a history in which a transfer of master m at slave s has its first cycle at clock w + 1, with the w of the claim, and none
+-- before: it waits exactly w
+pub record Exact (b : Board) (start : World) (m s : ℕ) : Type 0 where
+  pub before : List Call
+  pub request : Request
+  pub calls : List Call
+  pub earlier : History b start before
+  pub accepted : Accepted b (after start before) request
+  pub master : request .master ≡ m
+  pub slave : slaveFor b request ≡ s
+  pub later : History b (afterPosting b (after start before) request) calls
+  pub clocks : length (answers calls) ≡ waitFor b request + 1
+  pub waits : any (shows m) (take (waitFor b request) (answers calls)) ≡ false
+  pub starts : any (shows m) (answers calls) ≡ true
+
+-- what `quote_of` answers for the pair of a request
+abbrev pub quoteFor : Board → Request → Quoted
+quoteFor b q = quoteOf b (q .master) (slaveFor b q)
+
+-- what the wait calls answer for that pair: `quote_of` on the board, `fabric_wait` on the writer's text of it
+pub record Figures (b : Board) (q : Request) : Type 0 where
+  pub number : quoteFor b q .number ≡ 0
+  pub wait : quoteFor b q .wait ≡ waitFor b q
+  -- "the longest transfer ("serve")": this one is no longer
+  pub serve : lengthOf b q ≤ quoteFor b q .serve
+  pub text : (out : List ℕ) → 16 ≤ length out
+      → WaitAnswered (writeText b) (q .master) (slaveFor b q) (waitFor b q) (quoteFor b q .serve) out
+
+-- a transfer of master m at slave s, taken where w stands, that is exactly as long as the serve
+pub record Longest (b : Board) (w : World) (m s : ℕ) : Type 0 where
+  pub request : Request
+  pub accepted : Accepted b w request
+  pub master : request .master ≡ m
+  pub slave : slaveFor b request ≡ s
+  pub lasts : lengthOf b request ≡ quoteFor b request .serve
+
+pub record Demand3 (b : Board) : Type 0 where
+  -- "the first cycle is no later than clock w + 1 .. once the history has that clock"
+  pub within : (w : World) (before : List Call) (q : Request) (calls : List Call) → Start b w → History b w before
+      → Accepted b (after w before) q → History b (afterPosting b (after w before) q) calls
+      → waitFor b q + 1 ≤ length (answers calls)
+      → any (shows (q .master)) (take (waitFor b q + 1) (answers calls)) ≡ true
+  -- "the finish no later than clock w + own length"
+  pub finished : (w : World) (before : List Call) (q : Request) (calls : List Call) → Start b w → History b w before
+      → Accepted b (after w before) q → History b (afterPosting b (after w before) q) calls
+      → waitFor b q + lengthOf b q ≤ length (answers calls)
+      → any (names (q .master)) (take (waitFor b q + lengthOf b q) (answers calls)) ≡ true
+  -- tight: each connected pair has a transfer that waits exactly w
+  pub exact : (w : World) (m s : ℕ) → Start b w → Lent b w → m < b .«master_count» → connected b m s ≡ true → Exact b w m s
+  -- "which the wait call answers": for every request that is accepted, wherever it is posted
+  pub quoted : (w : World) (q : Request) → Accepted b w q → Figures b q
+  -- each connected pair has a transfer that lasts exactly its serve
+  pub longest : (w : World) (m s : ℕ) → Start b w → Lent b w → m < b .«master_count» → connected b m s ≡ true → Longest b w m s
+  -- "As the finishing clock leaves it, the front of its master's part .. equals what the read's step gave."
+  -- with any orders in the clocks before, and any order, last, in the finishing clock
+  pub reads : (w : World) (calls : List Call) (orders : ℕ → Order) (last : Order) (m : ℕ) → Start b w → History b w calls
+      → let u = after w calls in
+      let a = clock b (u .state) (u .store) in
+      let r = seenAll b (last .slaves) (a .lines) (fed b orders (referenceAt (w .store .memory)) calls) in
+      names m a ≡ true → r .request m .write ≡ false
+      → take (bytesIn b (r .request m)) (drop (partOf m) (storeAfterClock b (u .state) (u .store) .buffer)) ≡ r .given m
+  -- a call handed what the history left is refused for nothing of 2 to 9
+  pub served : (w : World) (calls : List Call) (q : Request) → Start b w → Lent b w → History b w calls
+      → let u = after w calls in
+      (clock b (u .state) (u .store) .number ≡ 0)
+      × ((post b (u .state) (u .store .buffer) q .number ≡ 0) ⊎ (11 ≤ post b (u .state) (u .store .buffer) q .number))

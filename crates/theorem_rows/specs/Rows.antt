@@ -1,0 +1,67 @@
+-- The rows of document 01 that are marked P, as one table.
+-- Assumes nothing.
+use mathlib.Core.Path.{_≡_}
+use mathlib.Core.Bool.{true, false}
+use mathlib.Core.List.{List, [], _∷_}
+use Prim.Native.Nat.{ℕ}
+use lib.ListN.{replicate}
+use Rattle.common_laws.specs.Bytes.{bytesOf}
+use Rattle.description_board.specs.declared.Master.{Master}
+use Rattle.description_board.specs.declared.Slave.{Slave}
+use Rattle.fabric_accesses.specs.declared.Transfer.{Transfer}
+use Rattle.fabric_lanes.specs.Lanes.{legalLanes}
+use Rattle.description.specs.Reader.{readText}
+use Rattle.wait_table.specs.Tables.{printed}
+use Rattle.fabric_state.specs.Posting.{Request}
+use Rattle.fabric.specs.Calls.{afterPost}
+use Rattle.theorem_rows.specs.Runs.{runs, started, phases, grants}
+
+-- document 01's board
+unfoldable pub boardText : List ℕ
+boardText = bytesOf "master,4,8\nmaster,2,1\nslave,4096,4096,2,8,1,0\nshare,0,0,2\nshare,1,0,3\n"
+
+-- the same with shares 3 and 4
+unfoldable pub sharesText : List ℕ
+sharesText = bytesOf "master,4,8\nmaster,2,1\nslave,4096,4096,2,8,1,0\nshare,0,0,3\nshare,1,0,4\n"
+
+-- what the table program prints for document 01's board
+unfoldable pub tableOutput : List ℕ
+tableOutput = bytesOf "master,slave,wait,serve\n0,0,6,32\n1,0,36,2\n"
+
+-- a master and a slave of the given widths, and a burst of some beats
+abbrev pub masterWith : ℕ → Master
+masterWith w = record { width = w; burst = 16 }
+
+abbrev pub slaveWith : ℕ → ℕ → Slave
+slaveWith w u = record { base = 0; span = 4096; width = w; burst = u; «read_wait» = 0; «write_wait» = 0 }
+
+abbrev pub burstWith : ℕ → ℕ → Transfer
+burstWith ones n = record { held = true; write = false; address = 0; lanes = ones; beats = n }
+
+-- master m reads one word from the slave's first address
+abbrev pub wordRead : ℕ → ℕ → Request
+wordRead m ones = record { master = m; write = false; address = 4096; lanes = ones; beats = 1; words = [] }
+
+pub record Rows : Type 0 where
+  -- "16 accesses, slave burst 8: runs 8, 8; 14: 8, 6; 16 with burst 1: sixteen of 1"
+  pub sixteen : runs (masterWith 4) (slaveWith 4 8) (burstWith 15 16) ≡ 8 ∷ 8 ∷ []
+  pub fourteen : runs (masterWith 4) (slaveWith 4 8) (burstWith 15 14) ≡ 8 ∷ 6 ∷ []
+  pub ones : runs (masterWith 4) (slaveWith 4 1) (burstWith 15 16) ≡ replicate 16 1
+  -- "width 4 master, 3 beats, width 2 slave, burst 4: runs 4, 2"
+  pub wider : runs (masterWith 4) (slaveWith 2 4) (burstWith 15 3) ≡ 4 ∷ 2 ∷ []
+  -- "lanes at width 4: binary 1100 legal, 0110 not, 1111 legal, 0000 not"
+  pub upperHalf : legalLanes 4 0b1100 ≡ true
+  pub middle : legalLanes 4 0b0110 ≡ false
+  pub whole : legalLanes 4 0b1111 ≡ true
+  pub none : legalLanes 4 0b0000 ≡ false
+  -- "shares 3 and 4, both always posting singles from reset: 0,0,0,1,1,1,1,0"
+  pub shares :
+      grants (readText sharesText .board) (wordRead 0 0b1111) (wordRead 1 0b11) 21 (started (readText sharesText .board))
+      ≡ 0 ∷ 0 ∷ 0 ∷ 1 ∷ 1 ∷ 1 ∷ 1 ∷ 0 ∷ []
+  -- "the two table lines"
+  pub lines : printed boardText ≡ tableOutput
+  -- "master 0 reads one word alone: phases 1, 2, 1, 2, finished at the fourth clock"
+  pub alone :
+      phases (readText boardText .board) 4
+      (afterPost (readText boardText .board) (started (readText boardText .board)) (wordRead 0 0b1111))
+      ≡ (1, 0) ∷ (2, 0) ∷ (1, 0) ∷ (2, 1) ∷ []

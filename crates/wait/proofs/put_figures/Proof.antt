@@ -1,0 +1,47 @@
+-- `quote::put_figures` meets its contract: two numbers, one behind the other.
+-- Assumes nothing.
+use borrow.Author.Needs.{needs}
+use Rattle.wait.proofs.AnswerLaws.{figures-put}
+use Rattle.wait.proofs.put_figures.Statement.{statement}
+use Rattle.wait.proofs.put_figures.Tie as tie
+
+low-first-requires : tie.Need-low-first-requires
+low-first-requires c κs = search needs
+
+low-first-requires-2 : tie.Need-low-first-requires-2
+low-first-requires-2 c κs = search needs
+
+slice-aggregate-put-bytes : tie.Need-slice-aggregate-put-bytes
+slice-aggregate-put-bytes c = search needs
+
+put-bytes-requires : tie.Need-put-bytes-requires
+put-bytes-requires c κs = search needs
+
+slice-aggregate-put-bytes-2 : tie.Need-slice-aggregate-put-bytes-2
+slice-aggregate-put-bytes-2 c = search needs
+
+put-bytes-requires-2 : tie.Need-put-bytes-requires-2
+put-bytes-requires-2 c κs = search needs
+
+same-length : tie.Need-same-length
+same-length c = search needs
+
+returns : tie.Need-returns
+returns c =
+    let b = c .before .before in
+    let a = b .before .before .before .before .before in
+    let n = a .before .before .before in
+    figures-put _ _ (n .before .low-first .ensures) (n .low-first2 .ensures) (a .put-bytes .ensures) (b .put-bytes2 .ensures)
+
+pub put-figures-spec : {M : Type 1} → statement M
+put-figures-spec =
+    tie.close
+    (tie.spec
+    low-first-requires
+    low-first-requires-2
+    slice-aggregate-put-bytes
+    put-bytes-requires
+    slice-aggregate-put-bytes-2
+    put-bytes-requires-2
+    same-length
+    returns)

@@ -1,0 +1,37 @@
+-- `quote::quote_of` meets its contract: each way out is a law of `AnswerLaws`.
+-- Assumes nothing.
+use mathlib.Core.Path.{sym, _∙_}
+use borrow.Author.Needs.{needs}
+use Rattle.description_board.proofs.Accepted.{accepted-legal}
+use Rattle.wait.proofs.AnswerLaws.{pair-of, quote-board, quote-pair, quote-taken}
+use Rattle.wait.proofs.quote_of.Statement.{statement}
+use Rattle.wait.proofs.quote_of.Tie as tie
+
+refusal-requires : tie.Need-refusal-requires
+refusal-requires c κs = search needs
+
+returns : tie.Need-returns
+returns c = quote-board _ _ _ (c .before .refusal .ensures) (c .if1 .taken)
+
+pair-refusal-requires : tie.Need-pair-refusal-requires
+pair-refusal-requires c κs = accepted-legal _ (sym (c .before .refusal .ensures) ∙ c .if1 .left)
+
+returns-2 : tie.Need-returns-2
+returns-2 c = let f = c .before .before in
+    quote-pair _ _ _ (f .before .refusal .ensures) (f .if1 .left) (c .before .pair-refusal .ensures) (c .if2 .taken)
+
+figures-requires : tie.Need-figures-requires
+figures-requires c κs =
+    let pair = c .before in
+    pair-of _ _ _ (pair-refusal-requires (pair .before) κs) (pair .pair-refusal .ensures) (c .if2 .left)
+
+returns-3 : tie.Need-returns-3
+returns-3 c = let p = c .before in
+    let f = p .before .before in
+    quote-taken _ _ _ (f .before .refusal .ensures) (f .if1 .left) (p .before .pair-refusal .ensures) (p .if2 .left)
+    (c .figures .ensures)
+
+pub quote-of-spec : {M : Type 1} → statement M
+quote-of-spec =
+    tie.close
+    (tie.spec refusal-requires returns pair-refusal-requires returns-2 figures-requires returns-3)

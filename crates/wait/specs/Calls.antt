@@ -1,0 +1,21 @@
+-- What `quote_of` answers.
+-- Assumes nothing.
+use mathlib.Core.Bool.{cond, not}
+use Prim.Native.Nat.{ℕ}
+use lib.Dec.{eqb}
+use Rattle.description_board.specs.declared.Board.{Board}
+use Rattle.description_board.specs.Items.{checkBoard}
+use Rattle.wait.specs.declared.Quoted.{Quoted}
+use Rattle.wait_turns.specs.Waits.{quotedWait, serveOf}
+use Rattle.wait.specs.Answers.{pairRefusal}
+
+-- the refusal of a wait that is looked up on a board, or 0: "a description that did not come through the reader is checked for
+-- 2 to 7", then the pair
+unfoldable pub quoteRefusal : Board → ℕ → ℕ → ℕ
+quoteRefusal b m s = cond (not (eqb (checkBoard b) 0)) (checkBoard b) (pairRefusal b m s)
+
+-- wait and serve of a pair; at a refusal "all other values handed back are 0"
+unfoldable pub quoteOf : Board → ℕ → ℕ → Quoted
+quoteOf b m s =
+    cond (eqb (quoteRefusal b m s) 0) (record { number = 0; wait = quotedWait b m s; serve = serveOf b m s })
+    (record { number = quoteRefusal b m s; wait = 0; serve = 0 })

@@ -1,0 +1,113 @@
+// The calls that look up the quoted wait of a pair: one on a board, one on a text.
+use wait_turns::Quote;
+ghost use mathlib.Core.Path.{_≡_};
+ghost use mathlib.Core.List.{_++_};
+ghost use Prim.Native.Nat.{_≤_};
+ghost use lib.ListN.{length};
+ghost use Rattle.common_text.specs.Scanning.{Put};
+ghost use Rattle.description_board.specs.Legal.{Legal};
+ghost use Rattle.description_layout.specs.Layout.{boardIn};
+ghost use Rattle.wait.specs.Answers.{bytes64, pairRefusal, waitRefusal, waitOutput};
+ghost use Rattle.wait.specs.Calls.{quoteOf};
+
+// A refusal's number and zeros, or 0 with wait and serve of a pair, in clocks.
+pub struct Quoted {
+    pub number: u32,
+    pub wait: u64,
+    pub serve: u64,
+}
+
+// A number's bytes, the lowest first.
+fn low_first(n: u64) -> [u8; 8]
+    ensures { λ r. ⌜ r ≡ bytes64 n ⌝ }
+{
+    [
+        (n % 256) as u8,
+        (n / 256 % 256) as u8,
+        (n / 65536 % 256) as u8,
+        (n / 16777216 % 256) as u8,
+        (n / 4294967296 % 256) as u8,
+        (n / 1099511627776 % 256) as u8,
+        (n / 281474976710656 % 256) as u8,
+        (n / 72057594037927936 % 256) as u8,
+    ]
+}
+
+// Writes wait and serve, 8 bytes each.
+fn put_figures(out: &mut [u8], q: Quote) -> usize
+    requires { ⌜ 16 ≤ length (now out) ⌝ }
+    ensures { λ r. ⌜ Put (now (out .entry)) 0 (bytes64 (q .wait) ++ bytes64 (q .serve)) (now (out .exit)) r ⌝ }
+{
+    let wait = low_first(q.wait);
+    let serve = low_first(q.serve);
+    let behind = common_text::put_bytes(&mut *out, 0, &wait);
+    common_text::put_bytes(&mut *out, behind, &serve)
+}
+
+// What a pair of a legal board that a wait is looked up for is refused for, or 0.
+fn pair_refusal(board: &[u32; 242], m: u32, s: u32) -> u32
+    requires { ⌜ Legal (boardIn (now board)) ⌝ }
+    ensures { λ r. ⌜ r ≡ pairRefusal (boardIn (now (board .entry))) m s ⌝ }
+{
+    if description_layout::master_count(board) <= m {
+        return 11;
+    }
+    if description_layout::slave_count(board) <= s {
+        return 16;
+    }
+    if description_layout::share_at(board, m as usize, s as usize) == 0 {
+        return 16;
+    }
+    0
+}
+
+// Wait and serve of a pair of a board. The board need not come through the reader: its own lines are checked first.
+pub fn quote_of(board: &[u32; 242], master: u32, slave: u32) -> Quoted
+    ensures { λ q. ⌜ q ≡ quoteOf (boardIn (now (board .entry))) master slave ⌝ }
+{
+    let unfit = description_check::refusal(board);
+    if unfit != 0 {
+        return Quoted {
+            number: unfit,
+            wait: 0,
+            serve: 0,
+        };
+    }
+    let number = pair_refusal(board, master, slave);
+    if number != 0 {
+        return Quoted {
+            number: number,
+            wait: 0,
+            serve: 0,
+        };
+    }
+    let q = wait_turns::figures(board, master, slave);
+    Quoted {
+        number: 0,
+        wait: q.wait,
+        serve: q.serve,
+    }
+}
+
+// Wait and serve of master m at slave s of the board that a text describes, as 16 bytes at the front of out. The answer is 0,
+// or a refusal's number; then out is as it was.
+pub fn wait_call(text: &[u8], master: u32, slave: u32, out: &mut [u8]) -> u32
+    ensures { λ r. ⌜ r ≡ waitRefusal (now (text .entry)) master slave (now (out .entry)) ⌝ }
+    ensures { λ r. ⌜ now (out .exit) ≡ waitOutput (now (text .entry)) master slave (now (out .entry)) ⌝ }
+{
+    let mut board = [0u32; 242];
+    let refused = description::read(text, &mut board);
+    if refused != 0 {
+        return refused;
+    }
+    if out.len() < 16 {
+        return 10;
+    }
+    let number = pair_refusal(&board, master, slave);
+    if number != 0 {
+        return number;
+    }
+    let q = wait_turns::figures(&board, master, slave);
+    put_figures(&mut *out, q);
+    0
+}

@@ -1,0 +1,91 @@
+-- How large the figures of a pair can be, and those of a legal board.
+-- Assumes nothing.
+use mathlib.Core.Path.{_≡_, refl}
+use mathlib.Core.Bool.{Bool, true, false, cond, not, _&&_}
+use Prim.Native.Nat.{ℕ, _+_, _*_, _^_, _≤_, _<_}
+use native.Mathlib.Nat.{add-le-add}
+use native.Mathlib.Omega.{arith}
+use lib.Dec.{eqb}
+use borrow.Author.Tests.{eqb-true, eqb-false}
+use Rattle.common_laws.specs.Lists.{sum}
+use Rattle.common_laws.proofs.Arithmetic.{product-le}
+use Rattle.description_board.specs.declared.Master.{Master}
+use Rattle.description_board.specs.declared.Slave.{Slave}
+use Rattle.description_board.specs.declared.Board.{Board}
+use Rattle.description_board.specs.Records.{masterAt, slaveAt, sharesAt, connected}
+use Rattle.description_board.specs.Legal.{LegalMaster, Legal}
+use Rattle.description_board.proofs.RuleLaws.{width-bound, burst-bound}
+use Rattle.fabric_accesses.specs.Accesses.{ratio}
+use Rattle.fabric_accesses.proofs.AccessLaws.{ratio-le}
+use Rattle.wait_turns.specs.Waits.{longestAccess, mostBeats, single, serve, turn, otherTurn, turnsOf, quotedWait, serveOf}
+use Rattle.wait_turns.proofs.SumLaws.{sum-le}
+
+-- a legal master: a width is at most 8, a burst 64
+module _ (ma : Master) (legal : LegalMaster ma) (sl : Slave) where
+  pub ratio-small : ratio ma sl ≤ 8
+  ratio-small = ratio-le ma sl 8 (omega arith) (width-bound (ma .width) (legal .width) .1)
+
+  pub accesses-small : mostBeats ma sl * ratio ma sl ≤ 64 * 8
+  unfolding mostBeats
+  accesses-small = product-le _ _ 64 8 (omega (arith, burst-bound (ma .burst) (legal .burst) .1)) ratio-small
+
+  -- for accesses of at most l clocks
+  module _ (v l : ℕ) (hv : v ≤ l) where
+    pub single-le : single ma sl v ≤ 8 * l
+    unfolding single
+    single-le = product-le _ _ 8 l ratio-small hv
+
+    pub serve-le : serve ma sl v ≤ 64 * 8 * l
+    unfolding serve
+    serve-le = product-le _ _ (64 * 8) l accesses-small hv
+
+    -- with at most n singles before the longest transfer
+    pub turn-le : (n shares : ℕ) → shares ≤ n + 1 → turn ma sl shares v ≤ n * (8 * l) + 64 * 8 * l
+    unfolding turn
+    turn-le n shares h = add-le-add (product-le _ _ n (8 * l) (omega arith) single-le) serve-le
+
+-- a legal board: an access lasts at most 256 clocks, a pair has at most 100 shares
+module _ (b : Board) (legal : Legal b) (s : ℕ) (hs : s < b .«slave_count») where
+  v-le : longestAccess (slaveAt b s) ≤ 256
+  unfolding longestAccess
+  v-le = let l = legal .slave s hs in omega (arith, l .readWait, l .writeWait)
+
+  pub shares-le : (k : ℕ) → k < b .«master_count» → sharesAt b k s ≤ 100
+  shares-le k h = go (eqb (sharesAt b k s) 0) refl
+    where
+      go : (t : Bool) → eqb (sharesAt b k s) 0 ≡ t → sharesAt b k s ≤ 100
+      go true e = omega (arith, eqb-true (sharesAt b k s) 0 e)
+      go false e =
+          let i : 16 * k + s < 128 = omega (arith, legal .fewMasters, legal .fewSlaves) in
+          omega (arith, legal .shares (16 * k + s) i (eqb-false _ _ e) .0)
+
+  module _ (m : ℕ) where
+    -- for accesses of at most l clocks: one turn, and the first k
+    module _ (v l : ℕ) (hv : v ≤ l) where
+      pub other-le : (k : ℕ) → k < b .«master_count» → otherTurn b v m s k ≤ 99 * (8 * l) + 64 * 8 * l
+      unfolding otherTurn
+      other-le k h = go (connected b k s && not (eqb k m))
+        where
+          go : (t : Bool) → cond t (turn (masterAt b k) (slaveAt b s) (sharesAt b k s) v) 0 ≤ 99 * (8 * l) + 64 * 8 * l
+          go true =
+              turn-le (masterAt b k) (legal .master k h) (slaveAt b s) v l hv 99 (sharesAt b k s) (omega (arith, shares-le k h))
+          go false = omega arith
+
+      pub turns-le : (k : ℕ) → k ≤ b .«master_count» → sum (otherTurn b v m s) k ≤ k * (99 * (8 * l) + 64 * 8 * l)
+      turns-le k h = sum-le (otherTurn b v m s) (99 * (8 * l) + 64 * 8 * l) k (λ i d. other-le i (omega arith))
+
+    -- a wait has at most 7 digits
+    pub wait-small : quotedWait b m s < 10 ^ 7
+    unfolding quotedWait turnsOf
+    wait-small =
+        omega (
+          arith,
+          turns-le (longestAccess (slaveAt b s)) 256 v-le (b .«master_count») (omega arith),
+          legal .fewMasters,
+        )
+
+    -- a serve 6
+    pub serve-small : m < b .«master_count» → serveOf b m s < 10 ^ 6
+    unfolding serveOf
+    serve-small h =
+        omega (arith, serve-le (masterAt b m) (legal .master m h) (slaveAt b s) (longestAccess (slaveAt b s)) 256 v-le)

@@ -1,0 +1,32 @@
+-- What the code of the quoted wait assumes of an accepted board, and what it answers.
+-- Assumes nothing.
+use mathlib.Core.Path.{_≡_}
+use Prim.Native.Nat.{ℕ, _<_}
+use Rattle.description_board.specs.declared.Master.{Master}
+use Rattle.description_board.specs.declared.Slave.{Slave}
+use Rattle.description_board.specs.declared.Board.{Board}
+use Rattle.description_board.specs.Records.{slaveAt}
+use Rattle.description_board.specs.Legal.{LegalMaster, LegalSlave, Legal}
+use Rattle.wait_turns.specs.declared.Quote.{Quote}
+use Rattle.wait_turns.specs.Waits.{quotedWait, serveOf}
+
+-- a master and a slave whose values are in their lists and ranges
+pub record LegalBoth (ma : Master) (sl : Slave) : Type 0 where
+  pub master : LegalMaster ma
+  pub slave : LegalSlave sl
+
+-- sl is slave s of a legal board
+pub record SlaveOf (b : Board) (sl : Slave) (s : ℕ) : Type 0 where
+  pub legal : Legal b
+  pub known : s < b .«slave_count»
+  pub same : sl ≡ slaveAt b s
+
+-- master m and slave s are of a legal board
+pub record PairOf (b : Board) (m s : ℕ) : Type 0 where
+  pub legal : Legal b
+  pub master : m < b .«master_count»
+  pub slave : s < b .«slave_count»
+
+-- wait and serve of a pair of a board
+unfoldable pub figuresOf : Board → ℕ → ℕ → Quote
+figuresOf b m s = record { wait = quotedWait b m s; serve = serveOf b m s }

@@ -1,0 +1,119 @@
+// The quoted wait of a pair: singles, longest transfers, turns and their sum.
+use description_board::Master;
+use description_board::Slave;
+ghost use mathlib.Core.Path.{_≡_};
+ghost use Prim.Native.Nat.{_≤_, _<_};
+ghost use Rattle.description_board.specs.Legal.{LegalMaster, LegalSlave};
+ghost use Rattle.description_layout.specs.Layout.{boardIn};
+ghost use Rattle.wait_turns.specs.Waits.{longestAccess, mostBeats, single, serve, turn, otherTurn, turnsOf};
+ghost use Rattle.wait_turns.specs.Parts.{LegalBoth, SlaveOf, PairOf, figuresOf};
+
+// Wait and serve of a pair, in clocks.
+pub struct Quote {
+    pub wait: u64,
+    pub serve: u64,
+}
+
+// The clocks of one access at most: 1 and the longer of the slave's two waits.
+pub fn longest_access(sl: Slave) -> u32
+    requires { ⌜ LegalSlave sl ⌝ }
+    ensures { λ r. ⌜ r ≡ longestAccess sl ⌝ }
+{
+    if sl.read_wait < sl.write_wait {
+        return 1 + sl.write_wait;
+    }
+    1 + sl.read_wait
+}
+
+// The most beats of one transfer.
+pub fn most_beats(ma: Master, sl: Slave) -> u32
+    requires { ⌜ LegalMaster ma ⌝ }
+    ensures { λ r. ⌜ r ≡ mostBeats ma sl ⌝ }
+{
+    let words = fabric_accesses::quotient(sl.span, ma.width);
+    if ma.burst <= words {
+        return ma.burst;
+    }
+    words
+}
+
+// The clocks of a transfer of one beat. A ratio is at most 8, a burst 64 and v has 32 bits, so that no product here wraps.
+pub fn single(ma: Master, sl: Slave, v: u32) -> u64
+    requires { ⌜ LegalBoth ma sl ⌝ }
+    ensures { λ r. ⌜ r ≡ single ma sl v ⌝ }
+{
+    (fabric_accesses::width_ratio(ma, sl) as u64) * (v as u64)
+}
+
+// The clocks of the longest transfer.
+pub fn serve(ma: Master, sl: Slave, v: u32) -> u64
+    requires { ⌜ LegalBoth ma sl ⌝ }
+    ensures { λ r. ⌜ r ≡ serve ma sl v ⌝ }
+{
+    let beats = most_beats(ma, sl) as u64;
+    let each = fabric_accesses::width_ratio(ma, sl) as u64;
+    beats * each * (v as u64)
+}
+
+// The clocks of a turn: a single for every share but one, and the longest transfer.
+pub fn turn(ma: Master, sl: Slave, shares: u32, v: u32) -> u64
+    requires { ⌜ LegalBoth ma sl × (shares ≤ 100) ⌝ }
+    ensures { λ r. ⌜ r ≡ turn ma sl shares v ⌝ }
+{
+    let longest = serve(ma, sl, v);
+    if shares == 0 {
+        return longest;
+    }
+    let singles = ((shares - 1) as u64) * single(ma, sl, v);
+    singles + longest
+}
+
+// The turn of master k at slave s, where another master waits for it. The slave's record is handed on: it is read once.
+fn other_turn(board: &[u32; 242], sl: Slave, v: u32, m: u32, s: u32, k: u32) -> u64
+    requires { ⌜ SlaveOf (boardIn (now board)) sl s × (k < boardIn (now board) .«master_count») ⌝ }
+    ensures { λ r. ⌜ r ≡ otherTurn (boardIn (now (board .entry))) v m s k ⌝ }
+{
+    if k == m {
+        return 0;
+    }
+    let shares = description_layout::share_at(board, k as usize, s as usize);
+    if shares == 0 {
+        return 0;
+    }
+    turn(
+        description_layout::master_at(board, k as usize),
+        sl,
+        shares,
+        v,
+    )
+}
+
+// The turns of the other masters at slave s, for any v. A turn is below 2 ^ 50, so the sum of 8 fits.
+fn turns_of(board: &[u32; 242], sl: Slave, v: u32, m: u32, s: u32) -> u64
+    requires { ⌜ SlaveOf (boardIn (now board)) sl s ⌝ }
+    ensures { λ r. ⌜ r ≡ turnsOf (boardIn (now (board .entry))) v m s ⌝ }
+{
+    let n = description_layout::master_count(board);
+    let mut sum: u64 = 0;
+    let mut k: u32 = 0;
+    while k < n {
+        sum += other_turn(board, sl, v, m, s, k);
+        k += 1;
+    }
+    sum
+}
+
+// Wait and serve of master m at slave s. The longer wait is chosen once, for every turn.
+pub fn figures(board: &[u32; 242], m: u32, s: u32) -> Quote
+    requires { ⌜ PairOf (boardIn (now board)) m s ⌝ }
+    ensures { λ q. ⌜ q ≡ figuresOf (boardIn (now (board .entry))) m s ⌝ }
+{
+    let sl = description_layout::slave_at(board, s as usize);
+    let v = longest_access(sl);
+    let wait = turns_of(board, sl, v, m, s);
+    let ma = description_layout::master_at(board, m as usize);
+    Quote {
+        wait: wait,
+        serve: serve(ma, sl, v),
+    }
+}
