@@ -12,7 +12,7 @@ use lib.Seq.{drop-cons, take-suc, drop-drop}
 use borrow.Author.Tests.{lt-ltb, le-ltb, eq-eqb, ne-eqb}
 use Rattle.common_laws.proofs.TextLists.{part-rest}
 use Rattle.common_text.specs.Fields.{split, push}
-use Rattle.common_text.specs.Scanning.{behind, Cut}
+use Rattle.common_text.specs.Code.Scanning.{behind, Cut}
 
 -- the bytes xs in front of the first piece
 abbrev pub prepend : List ℕ → List (List ℕ) → List (List ℕ)

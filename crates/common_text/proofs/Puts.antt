@@ -9,7 +9,7 @@ use lib.Seq.{sets, length-sets, sets-eq}
 use Rattle.common_laws.proofs.TextLists.{sets-append}
 use Rattle.common_text.specs.Digits.{digits, fieldsText}
 use Rattle.common_text.specs.Fields.{comma}
-use Rattle.common_text.specs.Scanning.{Put}
+use Rattle.common_text.specs.Code.Scanning.{Put}
 use Rattle.common_text.proofs.Decimal.{digits-large, fields-more}
 
 -- nothing written

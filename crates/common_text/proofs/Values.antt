@@ -12,7 +12,7 @@ use lib.ListN.{length, getD, take, drop, drop-of-length-le}
 use lib.Seq.{drop-cons}
 use borrow.Author.Tests.{lt-ltb, le-leb, lt-leb, eq-eqb, ne-eqb}
 use Rattle.common_text.specs.Fields.{comma, split, isDigit, scan, shaped, numberOf, numberRefusal, numberValue, noNumbers, withNumber, collect, numbersOf}
-use Rattle.common_text.specs.Scanning.{Cut}
+use Rattle.common_text.specs.Code.Scanning.{Cut}
 use Rattle.common_text.specs.declared.Number.the-variants.{Malformed, Value}
 use Rattle.common_text.specs.declared.Numbers.{Numbers}
 use Rattle.common_text.proofs.Pieces.{cut-rest, rest-more, rest-last}

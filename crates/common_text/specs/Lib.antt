@@ -1,3 +1,3 @@
 pub mod Fields
 pub mod Digits
-pub mod Scanning
+pub mod Code

@@ -6,7 +6,7 @@ ghost use lib.ListN.{length};
 ghost use Rattle.common_laws.specs.Lists.{same};
 ghost use Rattle.common_text.specs.Fields.{comma, lineFeed, split, scan, numberOf, numbersOf, withNumber, noNumbers};
 ghost use Rattle.common_text.specs.Digits.{digits, fieldsText, lineText};
-ghost use Rattle.common_text.specs.Scanning.{behind, Cut, Put};
+ghost use Rattle.common_text.specs.Code.Scanning.{behind, Cut, Put};
 
 // What a field spells.
 pub enum Number {
@@ -35,7 +35,7 @@ pub fn find_byte(s: &[u8], b: u8) -> usize
 }
 
 // Whether a and b hold the same bytes. The lengths go first, so that the loop can read both at one index.
-pub fn same_bytes(a: &[u8], b: &[u8]) -> bool
+pub fn same(a: &[u8], b: &[u8]) -> bool
     ensures { λ r. ⌜ r ≡ same (now (a .entry)) (now (b .entry)) ⌝ }
 {
     if a.len() != b.len() {
@@ -59,7 +59,7 @@ fn wide(x: u8) -> u64
 }
 
 // The number that the digits spell. Ten digits are below 2 ^ 64, so the value cannot wrap.
-fn scan_digits(s: &[u8]) -> Number
+fn scan(s: &[u8]) -> Number
     requires { ⌜ length (now s) ≤ 10 ⌝ }
     ensures { λ r. ⌜ r ≡ scan 0 (now (s .entry)) ⌝ }
 {
@@ -80,7 +80,7 @@ fn scan_digits(s: &[u8]) -> Number
 }
 
 // The number that a whole field spells: 1 to 10 digits, with no leading zero except in 0 itself.
-pub fn parse_number(field: &[u8]) -> Number
+pub fn number_of(field: &[u8]) -> Number
     ensures { λ r. ⌜ r ≡ numberOf (now (field .entry)) ⌝ }
 {
     let n = field.len();
@@ -91,12 +91,12 @@ pub fn parse_number(field: &[u8]) -> Number
         return Number::Malformed;
     }
     if n == 1 {
-        return scan_digits(field);
+        return scan(field);
     }
     if field[0] == 48 {
         return Number::Malformed;
     }
-    scan_digits(field)
+    scan(field)
 }
 
 // No numbers: a line with no further field, and the answer for a malformed one.
@@ -124,7 +124,7 @@ fn with_number(ns: Numbers, n: u64) -> Numbers
 }
 
 // The numbers that the fields of a text spell. An empty text has one field, which is malformed.
-pub fn parse_numbers(fields: &[u8]) -> Numbers
+pub fn numbers_of(fields: &[u8]) -> Numbers
     ensures { λ r. ⌜ r ≡ numbersOf (split comma (now (fields .entry))) ⌝ }
 {
     let mut ns = no_numbers();
@@ -132,7 +132,7 @@ pub fn parse_numbers(fields: &[u8]) -> Numbers
     loop {
         let rest = &fields[at..];
         let e = find_byte(rest, b',');
-        let n = parse_number(&rest[..e]);
+        let n = number_of(&rest[..e]);
         if ns.count == 6 {
             return no_numbers();
         }
@@ -157,7 +157,7 @@ pub fn numbers_behind(line: &[u8], place: usize) -> Numbers
 {
     if place < line.len() {
         let start = place + 1;
-        return parse_numbers(&line[start..]);
+        return numbers_of(&line[start..]);
     }
     no_numbers()
 }

@@ -10,15 +10,15 @@ use Rattle.common_text.specs.Fields.{split}
 use Rattle.description_board.specs.declared.Item.{Item}
 use Rattle.description_board.specs.declared.Item.the-variants.{Malformed}
 use Rattle.description_board.specs.declared.Reading.{Reading}
-use Rattle.description_board.specs.Rules.{refused, start, step, run, finish, described}
+use Rattle.description_board.specs.Rules.{refused, start, step, stepAll, finish, described}
 use Rattle.description_board.proofs.RunLaws.{run-stays, finish-stays}
 use Rattle.description_layout.specs.Layout.{boardIn}
 use Rattle.description_rules.specs.declared.Progress.{Progress}
-use Rattle.description_rules.specs.Readings.{readingOf}
+use Rattle.description_rules.specs.Code.Readings.{readingOf}
 use Rattle.description_lines.specs.Reader.{itemsOf, itemsOfPieces, unended, LineFrom}
 use Rattle.description.specs.Reader.{mostBytes, reading, readText}
 use Rattle.description.specs.declared.Refusal.{Refusal}
-use Rattle.description.specs.Blame.{firstRefused, chargedLine, refusalOf}
+use Rattle.description.specs.Blame.{firstRefused, chargedLine, refusedAt}
 use Rattle.description.specs.Lent.{Comes, Read}
 use Rattle.description.proofs.ReadLaws.{reading-short, reading-long}
 
@@ -37,7 +37,7 @@ pub record Counted (s : List ℕ) (r : Reading) (n at : ℕ) : Type 0 where
   pub place : at ≤ length s
   pub each : n ≤ at
   pub none : r .number ≡ 0
-  pub number : described (itemsOf s) ≡ finish (run r (itemsOf (drop at s)))
+  pub number : described (itemsOf s) ≡ finish (stepAll r (itemsOf (drop at s)))
   pub line : firstRefused 0 start (itemsOf s) ≡ firstRefused n r (itemsOf (drop at s))
 
 -- before the first line
@@ -58,7 +58,7 @@ Whole s q line = (q ≡ described (itemsOf s)) × (line ≡ firstRefused 0 start
 module _ (s : List ℕ) (r q : Reading) (n at : ℕ) (before : Counted s r n at) where
   -- behind the last line
   pub counted-end : length s ≤ at → q ≡ finish r → Whole s q 0
-  unfolding run firstRefused itemsOf itemsOfPieces unended split
+  unfolding stepAll firstRefused itemsOf itemsOfPieces unended split
   counted-end h e =
       let none = drop-of-length-le s h in (
         e ∙ sym (rw none at (before .number)),
@@ -67,8 +67,8 @@ module _ (s : List ℕ) (r q : Reading) (n at : ℕ) (before : Counted s r n at)
 
   -- q has read one line more
   module _ (x : Item) (next : ℕ) (line : LineFrom s at x next) (e : q ≡ step r x) where
-    numbered : described (itemsOf s) ≡ finish (run q (itemsOf (drop next s)))
-    unfolding run
+    numbered : described (itemsOf s) ≡ finish (stepAll q (itemsOf (drop next s)))
+    unfolding stepAll
     numbered = before .number ∙ rw (line .lines, e)
 
     pub counted-next : q .number ≡ 0 → Counted s q (n + 1) next
@@ -130,6 +130,6 @@ module _ (s : List ℕ) (l : List ℕ) (r : Refusal) (e : Comes (reading s) (cha
     kept = λ z. absurd (z refl);
   }
 
-  pub refusal-is : r ≡ refusalOf s
-  unfolding refusalOf readText
+  pub refusal-is : r ≡ refusedAt s
+  unfolding refusedAt readText
   refusal-is = ap₂ (λ (n k : ℕ). record { number = n; line = k }) (e .number) (e .charged)

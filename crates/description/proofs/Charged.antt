@@ -10,26 +10,26 @@ use lib.ListN.{length, take}
 use borrow.Author.Tests.{eqb-true, eqb-false, ltb-false}
 use Rattle.description_board.specs.declared.Item.{Item}
 use Rattle.description_board.specs.declared.Reading.{Reading}
-use Rattle.description_board.specs.Rules.{refused, start, step, run, finish, described}
+use Rattle.description_board.specs.Rules.{refused, start, step, stepAll, finish, described}
 use Rattle.description_board.proofs.RunLaws.{run-stays, finish-stays}
 use Rattle.description_lines.specs.Reader.{itemsOf}
 use Rattle.description.specs.Reader.{mostBytes, reading, readText}
-use Rattle.description.specs.Blame.{firstRefused, chargedLine, refusalOf}
+use Rattle.description.specs.Blame.{firstRefused, chargedLine, refusedAt}
 use Rattle.description.proofs.BlameLaws.{first-taken, first-refused}
 use Rattle.description.proofs.ReadLaws.{reading-short}
 
 -- the number is the reader's
-pub number-read : (s : List ℕ) → refusalOf s .number ≡ readText s .number
-unfolding refusalOf
+pub number-read : (s : List ℕ) → refusedAt s .number ≡ readText s .number
+unfolding refusedAt
 number-read s = refl
 
 -- a list whose lines are all taken, up to its end, has no line refused
-first-none : (n : ℕ) (r : Reading) (xs : List Item) → finish (run r xs) .number ≡ 0 → firstRefused n r xs ≡ 0
-unfolding firstRefused run
+first-none : (n : ℕ) (r : Reading) (xs : List Item) → finish (stepAll r xs) .number ≡ 0 → firstRefused n r xs ≡ 0
+unfolding firstRefused stepAll
 first-none n r [] h = refl
 first-none n r (x ∷ xs) h = go (eqb (step r x .number) 0) refl (first-none (n + 1) (step r x) xs h)
   where
-    stays : (step r x .number ≡ 0 → ⊥) → finish (run (step r x) xs) ≡ step r x
+    stays : (step r x .number ≡ 0 → ⊥) → finish (stepAll (step r x) xs) ≡ step r x
     stays some = ap finish (run-stays (step r x) xs some) ∙ finish-stays (step r x) some
 
     go :
@@ -57,13 +57,13 @@ first-behind n r (x ∷ xs) k h = go (eqb (step r x .number) 0) refl (λ e. firs
 -- The line at place k of xs is the first refused: with those before it r has no refusal, with it the refusal of all.
 pub record First (r : Reading) (xs : List Item) (k : ℕ) : Type 0 where
   pub within : k < length xs
-  pub before : run r (take k xs) .number ≡ 0
-  pub here : run r (take (suc k) xs) .number ≡ 0 → ⊥
-  pub all : run r (take (suc k) xs) ≡ run r xs
+  pub before : stepAll r (take k xs) .number ≡ 0
+  pub here : stepAll r (take (suc k) xs) .number ≡ 0 → ⊥
+  pub all : stepAll r (take (suc k) xs) ≡ stepAll r xs
 
 first-at :
     (n : ℕ) (r : Reading) (xs : List Item) (k : ℕ) → r .number ≡ 0 → firstRefused n r xs ≡ n + k + 1 → First r xs k
-unfolding firstRefused run
+unfolding firstRefused stepAll
 first-at n r [] k none h = absurd (omega arith)
 first-at n r (x ∷ xs) zero none h = go (eqb (step r x .number) 0) refl
   where
@@ -97,8 +97,8 @@ first-at n r (x ∷ xs) (suc k) none h = go (eqb (step r x .number) 0) refl (λ 
         let l = sym (first-refused n r (step r x) x xs refl (eqb-false _ _ e)) ∙ h in absurd (omega arith)
 
 -- Nothing refused: no line is charged.
-pub charged-none : (s : List ℕ) → readText s .number ≡ 0 → refusalOf s .line ≡ 0
-unfolding refusalOf chargedLine readText described
+pub charged-none : (s : List ℕ) → readText s .number ≡ 0 → refusedAt s .line ≡ 0
+unfolding refusedAt chargedLine readText described
 charged-none s h = go (ltb mostBytes (length s)) refl
   where
     go : (b : Bool) → ltb mostBytes (length s) ≡ b → chargedLine s ≡ 0
@@ -110,20 +110,20 @@ charged-none s h = go (ltb mostBytes (length s)) refl
 
 -- A line charged is the first refused, and its refusal is the text's.
 pub charged-first :
-    (s : List ℕ) (k : ℕ) → refusalOf s .line ≡ k + 1
-    → First start (itemsOf s) k × (refusalOf s .number ≡ run start (take (suc k) (itemsOf s)) .number)
-unfolding refusalOf chargedLine readText start refused described
+    (s : List ℕ) (k : ℕ) → refusedAt s .line ≡ k + 1
+    → First start (itemsOf s) k × (refusedAt s .number ≡ stepAll start (take (suc k) (itemsOf s)) .number)
+unfolding refusedAt chargedLine readText start refused described
 charged-first s k h = go (ltb mostBytes (length s)) refl
   where
     go :
         (b : Bool) → ltb mostBytes (length s) ≡ b
-        → First start (itemsOf s) k × (reading s .number ≡ run start (take (suc k) (itemsOf s)) .number)
+        → First start (itemsOf s) k × (reading s .number ≡ stepAll start (take (suc k) (itemsOf s)) .number)
     go true e = let z : 0 ≡ k + 1 = rw e at h in absurd (omega arith)
     go false e =
         let l : firstRefused 0 start (itemsOf s) ≡ k + 1 = rw e at h in
         let f = first-at 0 start (itemsOf s) k refl (l ∙ (omega arith)) in
-        let some : run start (itemsOf s) .number ≡ 0 → ⊥ = rw (f .all) at (f .here) in (
+        let some : stepAll start (itemsOf s) .number ≡ 0 → ⊥ = rw (f .all) at (f .here) in (
           f,
           ap (λ (q : Reading). q .number)
-              (reading-short s (ltb-false _ _ e) ∙ finish-stays (run start (itemsOf s)) some ∙ sym (f .all)),
+              (reading-short s (ltb-false _ _ e) ∙ finish-stays (stepAll start (itemsOf s)) some ∙ sym (f .all)),
         )

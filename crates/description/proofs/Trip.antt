@@ -1,5 +1,5 @@
 -- The round trip: a board written and read, a text read, written and read again, and how long a board's text can be.
--- A board is accepted where `checkBoard` is 0, a text where `readText` answers 0.
+-- A board is accepted where `boardRefusal` is 0, a text where `readText` answers 0.
 -- Assumes nothing.
 use mathlib.Core.Bool.{Bool, true, false, cond, not}
 use mathlib.Core.List.{List}
@@ -12,7 +12,7 @@ use borrow.Author.Tests.{le-ltb, eqb-true}
 use Rattle.description_board.specs.declared.Board.{Board}
 use Rattle.description_board.specs.declared.Reading.{Reading}
 use Rattle.description_board.specs.Rules.{described, refused}
-use Rattle.description_board.specs.Items.{items, checkBoard}
+use Rattle.description_board.specs.Items.{items, boardRefusal}
 use Rattle.description_board.specs.Legal.{Legal}
 use Rattle.description_board.specs.Rebuilt.{trimmed}
 use Rattle.description_board.proofs.Accepted.{accepted-legal}
@@ -37,7 +37,7 @@ unfolding readText
 lines-answer t r e = ap (λ (q : Reading). record { number = q .number; board = q .board }) e
 
 -- An accepted board.
-module _ (b : Board) (accepted : checkBoard b ≡ 0) where
+module _ (b : Board) (accepted : boardRefusal b ≡ 0) where
   -- its text has at most `longest` bytes
   pub text-short : length (writeText b) ≤ longest
   text-short = items-short b (accepted-legal b accepted)
@@ -58,12 +58,12 @@ module _ (b : Board) (accepted : checkBoard b ≡ 0) where
   written-trimmed = ap itemsText (items-trimmed b accepted)
 
 -- an output of `longest` bytes has room for every accepted board: `write` refuses what the check refuses, and no more
-pub text-room : (b : Board) (out : List ℕ) → longest ≤ length out → writeRefusal b out ≡ checkBoard b
+pub text-room : (b : Board) (out : List ℕ) → longest ≤ length out → writeRefusal b out ≡ boardRefusal b
 unfolding writeRefusal
-text-room b out h = go (eqb (checkBoard b) 0) refl
+text-room b out h = go (eqb (boardRefusal b) 0) refl
   where
-    go : (t : Bool) → eqb (checkBoard b) 0 ≡ t
-        → cond (not t) (checkBoard b) (cond (ltb (length out) (length (writeText b))) 10 0) ≡ checkBoard b
+    go : (t : Bool) → eqb (boardRefusal b) 0 ≡ t
+        → cond (not t) (boardRefusal b) (cond (ltb (length out) (length (writeText b))) 10 0) ≡ boardRefusal b
     go true e =
         let accepted = eqb-true _ _ e in
         let g : length (writeText b) ≤ length out = omega (arith, text-short b accepted) in
@@ -72,7 +72,7 @@ text-room b out h = go (eqb (checkBoard b) 0) refl
 
 -- "Two descriptions are the same when the writer's lines for them are": then they differ only behind their counts
 pub same-boards :
-    (b c : Board) → checkBoard b ≡ 0 → checkBoard c ≡ 0 → writeText b ≡ writeText c → trimmed b ≡ trimmed c
+    (b c : Board) → boardRefusal b ≡ 0 → boardRefusal c ≡ 0 → writeText b ≡ writeText c → trimmed b ≡ trimmed c
 same-boards b c p q e =
     ap (λ (r : Parsed). r .board) (sym (read-written b p) ∙ ap readText e ∙ read-written c q)
 
@@ -96,7 +96,7 @@ module _ (t : List ℕ) (accepted : readText t .number ≡ 0) where
   read-board = ap (λ (r : Reading). r .board) reading-lines
 
   -- the check accepts the board it is read to
-  pub read-accepted : checkBoard (readText t .board) ≡ 0
+  pub read-accepted : boardRefusal (readText t .board) ≡ 0
   read-accepted = rw read-board (described-accepted (itemsOf t) lines-accepted)
 
   -- which has zeros behind its counts

@@ -1,4 +1,4 @@
--- A board's lines written one behind another, and how many bytes they take.
+-- A board's lines writeAnswer one behind another, and how many bytes they take.
 -- Assumes nothing.
 use mathlib.Core.List.{List, [], _∷_, _++_}
 use mathlib.Core.Path.{_≡_, refl, ap}
@@ -9,18 +9,18 @@ use lib.ListN.{length, getD, length-append}
 use borrow.Author.Tests.{lt-ltb, le-ltb, eq-eqb, ne-eqb}
 use Rattle.common_laws.specs.Lists.{gather, table}
 use Rattle.common_laws.proofs.TableLaws.{below-suc}
-use Rattle.common_text.specs.Scanning.{Put}
+use Rattle.common_text.specs.Code.Scanning.{Put}
 use Rattle.common_text.proofs.Puts.{put-then, put-front}
 use Rattle.description_board.specs.declared.Board.{Board}
 use Rattle.description_board.specs.declared.Item.{Item}
 use Rattle.description_board.specs.declared.Item.the-variants.{Malformed, MasterLine, SlaveLine, ShareLine}
-use Rattle.description_board.specs.Items.{masterItem, slaveItem, shareItem, items, checkBoard}
+use Rattle.description_board.specs.Items.{masterItem, slaveItem, shareItem, items, boardRefusal}
 use Rattle.description_board.proofs.Accepted.{accepted-legal}
-use Rattle.description_check.specs.Lines.{placeCount, lineAt, present, linesTo}
+use Rattle.description_check.specs.Code.Entries.{entryCount, lineAt, present, linesTo}
 use Rattle.description_check.proofs.LineLaws.{lines-all, lines-next}
 use Rattle.description_lines.specs.Writer.{itemText, itemsText}
 use Rattle.description_lines.proofs.WriteLaws.{item-fits, text-append, text-one, length-text}
-use Rattle.description.specs.Writer.{writeText, writeRefusal, written, outputAfter}
+use Rattle.description.specs.Writer.{writeText, writeRefusal, writeAnswer, writeOutput}
 use Rattle.description.specs.declared.Written.{Written}
 
 -- The lines of the numbers below n.
@@ -73,12 +73,12 @@ text-present (SlaveLine n) = text-one (SlaveLine n)
 text-present (ShareLine m s n) = text-one (ShareLine m s n)
 
 -- an accepted board has at most 8 masters and 16 slaves
-pub few-places : (b : Board) → checkBoard b ≡ 0 → placeCount b ≤ 152
+pub few-places : (b : Board) → boardRefusal b ≡ 0 → entryCount b ≤ 152
 few-places b e = let l = accepted-legal b e in omega (arith, l .fewMasters, l .fewSlaves)
 
 -- The text of a board place by place.
 module _ (b : Board) where
-  pub text-all : (k : ℕ) → k ≡ placeCount b → itemsText (linesTo b k) ≡ writeText b
+  pub text-all : (k : ℕ) → k ≡ entryCount b → itemsText (linesTo b k) ≡ writeText b
   unfolding writeText
   text-all k e = rw (e, lines-all b)
 
@@ -89,10 +89,10 @@ module _ (b : Board) where
       (itemText (lineAt b k))
   length-next k = rw (text-next k) (length-append (itemsText (linesTo b k)) (itemText (lineAt b k)))
 
-  pub room-next : (k : ℕ) → k < placeCount b
+  pub room-next : (k : ℕ) → k < entryCount b
       → length (itemsText (linesTo b k)) + length (itemText (lineAt b k)) ≤ length (writeText b)
   unfolding linesTo
-  room-next k h = rw (text-present, text-all (placeCount b) refl) at (gather-room (λ j. present (lineAt b j)) (placeCount b) k h)
+  room-next k h = rw (text-present, text-all (entryCount b) refl) at (gather-room (λ j. present (lineAt b j)) (entryCount b) k h)
 
   pub lines-fit : (k : ℕ) → length (itemsText (linesTo b k)) ≤ 133 * k
   unfolding linesTo
@@ -121,23 +121,23 @@ module _ (b : Board) where
 
 -- what is promised of the answer r and of the output after
 abbrev pub Writes : Board → List ℕ → Written → List ℕ → Type 0
-Writes b out r after = (r ≡ written b out) × (after ≡ outputAfter b out)
+Writes b out r after = (r ≡ writeAnswer b out) × (after ≡ writeOutput b out)
 
 -- the three ways that a write ends
 module _ (b : Board) (out : List ℕ) where
-  pub board-refused : (n : ℕ) → n ≡ checkBoard b → (n ≡ 0 → ⊥) → Writes b out (record { number = n; length = 0 }) out
-  unfolding written outputAfter writeRefusal
+  pub board-refused : (n : ℕ) → n ≡ boardRefusal b → (n ≡ 0 → ⊥) → Writes b out (record { number = n; length = 0 }) out
+  unfolding writeAnswer writeOutput writeRefusal
   board-refused n e h = rw (← e, ne-eqb n 0 h, ne-eqb n 0 h) (refl, refl)
 
-  module _ (e : checkBoard b ≡ 0) where
+  module _ (e : boardRefusal b ≡ 0) where
     pub room-refused : length out < length (writeText b) → Writes b out (record { number = 10; length = 0 }) out
-    unfolding written outputAfter writeRefusal
+    unfolding writeAnswer writeOutput writeRefusal
     room-refused h = rw (e, lt-ltb (length out) (length (writeText b)) h) (refl, refl)
 
     pub text-written :
         (after : List ℕ) (end : ℕ) → length (writeText b) ≤ length out → Put out 0 (writeText b) after end
         → Writes b out (record { number = 0; length = end }) after
-    unfolding written outputAfter writeRefusal
+    unfolding writeAnswer writeOutput writeRefusal
     text-written after end h p =
         let n : end ≡ length (writeText b) = omega (arith, p .end) in
         rw (e, le-ltb (length out) (length (writeText b)) h)

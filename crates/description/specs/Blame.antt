@@ -22,5 +22,5 @@ unfoldable pub chargedLine : List ℕ → ℕ
 chargedLine text = cond (ltb mostBytes (length text)) 0 (firstRefused 0 start (itemsOf text))
 
 -- what `refused_at` answers: `read`'s number and the line from 1; "The absent final line feed counts at the last line."
-unfoldable pub refusalOf : List ℕ → Refusal
-refusalOf text = record { number = readText text .number; line = chargedLine text }
+unfoldable pub refusedAt : List ℕ → Refusal
+refusedAt text = record { number = readText text .number; line = chargedLine text }

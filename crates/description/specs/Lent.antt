@@ -5,7 +5,7 @@ use mathlib.Core.List.{List}
 use Prim.Native.Nat.{ℕ}
 use Rattle.description_board.specs.declared.Reading.{Reading}
 use Rattle.description_board.specs.Rules.{described, start}
-use Rattle.description_board.specs.Items.{checkBoard}
+use Rattle.description_board.specs.Items.{boardRefusal}
 use Rattle.description_layout.specs.Layout.{boardIn}
 use Rattle.description_lines.specs.Reader.{itemsOf}
 use Rattle.description.specs.declared.Refusal.{Refusal}
@@ -24,7 +24,7 @@ LinesCome text l r = Comes (described (itemsOf text)) (firstRefused 0 start (ite
 
 -- what the board in an array is refused for, or 0
 abbrev pub refusalIn : List ℕ → ℕ
-refusalIn l = checkBoard (boardIn l)
+refusalIn l = boardRefusal (boardIn l)
 
 -- what `read` answers, and leaves in the lent array: the board that the text describes, or every number as it was
 pub record Read (text before after : List ℕ) (n : ℕ) : Type 0 where

@@ -2,12 +2,12 @@
 ghost use mathlib.Core.Path.{_≡_};
 ghost use Prim.Native.Nat.{_≤_};
 ghost use lib.ListN.{length, replicate};
-ghost use Rattle.common_text.specs.Scanning.{Put};
+ghost use Rattle.common_text.specs.Code.Scanning.{Put};
 ghost use Rattle.description_layout.specs.Layout.{boardIn};
 ghost use Rattle.description.specs.Reader.{reading};
-ghost use Rattle.description.specs.Blame.{chargedLine, refusalOf};
+ghost use Rattle.description.specs.Blame.{chargedLine, refusedAt};
 ghost use Rattle.description.specs.Lent.{Comes, LinesCome, refusalIn, Read};
-ghost use Rattle.description.specs.Writer.{writeText, written, outputAfter};
+ghost use Rattle.description.specs.Writer.{writeText, writeAnswer, writeOutput};
 use description_board::Board;
 use description_board::Item;
 
@@ -26,7 +26,7 @@ pub struct Refusal {
     pub line: usize,
 }
 
-// A refusal's number and 0, or 0 and the count of bytes written.
+// A refusal's number and 0, or 0 and the count of bytes writeAnswer.
 pub struct Written {
     pub number: u32,
     pub length: usize,
@@ -38,14 +38,14 @@ fn read_lines(text: &[u8], board: &mut [u32; 242]) -> Refusal
     requires { ⌜ now board ≡ replicate 242 0 ⌝ }
     ensures { λ r. ⌜ LinesCome (now (text .entry)) (now (board .exit)) r ⌝ }
 {
-    let mut p = description_rules::first_progress();
+    let mut p = description_rules::start();
     let mut line: usize = 0;
     let mut at: usize = 0;
     while at < text.len() {
         let found = description_lines::line_from(text, at);
         let item = found.item;
         line += 1;
-        p = description_rules::add_item(board, p, item);
+        p = description_rules::step(board, p, item);
         if p.number != 0 {
             return Refusal {
                 number: p.number,
@@ -54,7 +54,7 @@ fn read_lines(text: &[u8], board: &mut [u32; 242]) -> Refusal
         }
         at = found.next;
     }
-    let last = description_rules::finished(board, p);
+    let last = description_rules::finish(board, p);
     Refusal {
         number: last.number,
         line: 0,
@@ -69,11 +69,7 @@ fn read_bounded(text: &[u8], board: &mut [u32; 242]) -> Refusal
     if text.len() <= 8192 {
         return read_lines(text, board);
     }
-    let p = description_rules::add_item(
-        board,
-        description_rules::first_progress(),
-        Item::Malformed,
-    );
+    let p = description_rules::step(board, description_rules::start(), Item::Malformed);
     Refusal {
         number: p.number,
         line: 0,
@@ -95,7 +91,7 @@ pub fn read(text: &[u8], board: &mut [u32; 242]) -> u32
 
 // The number that read answers for a text, and the line that is charged with it.
 pub fn refused_at(text: &[u8]) -> Refusal
-    ensures { λ r. ⌜ r ≡ refusalOf (now (text .entry)) ⌝ }
+    ensures { λ r. ⌜ r ≡ refusedAt (now (text .entry)) ⌝ }
 {
     let mut own = [0u32; 242];
     read_bounded(text, &mut own)
@@ -106,7 +102,7 @@ fn put_board(out: &mut [u8], board: &[u32; 242]) -> usize
     requires { ⌜ length (writeText (boardIn (now board))) ≤ length (now out) ⌝ }
     ensures { λ r. ⌜ Put (now (out .entry)) 0 (writeText (boardIn (now (board .entry)))) (now (out .exit)) r ⌝ }
 {
-    let n = description_check::places(board);
+    let n = description_check::entry_count(board);
     let mut next: usize = 0;
     let mut k: usize = 0;
     while k < n {
@@ -122,7 +118,7 @@ fn board_length(board: &[u32; 242]) -> usize
     requires { ⌜ refusalIn (now board) ≡ 0 ⌝ }
     ensures { λ r. ⌜ r ≡ length (writeText (boardIn (now (board .entry)))) ⌝ }
 {
-    let n = description_check::places(board);
+    let n = description_check::entry_count(board);
     let mut sum: usize = 0;
     let mut k: usize = 0;
     while k < n {
@@ -134,13 +130,13 @@ fn board_length(board: &[u32; 242]) -> usize
 }
 
 // Writes a board's text, if the board keeps the rules and its text has room: otherwise no byte of out is changed. The
-// length is known before the first byte is written. An output of LONGEST bytes has room for every board.
+// length is known before the first byte is writeAnswer. An output of LONGEST bytes has room for every board.
 pub fn write(board: &[u32; 242], out: &mut [u8]) -> Written
-    ensures answer { λ r. ⌜ r ≡ written (boardIn (now (board .entry))) (now (out .entry)) ⌝ }
-    ensures output { λ r. ⌜ now (out .exit) ≡ outputAfter (boardIn (now (board .entry))) (now (out .entry)) ⌝ }
+    ensures answer { λ r. ⌜ r ≡ writeAnswer (boardIn (now (board .entry))) (now (out .entry)) ⌝ }
+    ensures output { λ r. ⌜ now (out .exit) ≡ writeOutput (boardIn (now (board .entry))) (now (out .entry)) ⌝ }
     ensures room { λ r. do ⌜ ((← ⟦LONGEST⟧ .entry) ≤ length (now (out .entry)) → r .number ≡ refusalIn (now (board .entry))) ⌝ }
 {
-    let number = description_check::refusal(board);
+    let number = description_check::board_refusal(board);
     if number != 0 {
         return Written {
             number: number,

@@ -13,8 +13,8 @@ use Rattle.description_board.specs.declared.Board.{Board}
 use Rattle.description_board.specs.declared.Reading.{Reading}
 use Rattle.description_board.specs.Records.{noMaster, noSlave, masterAt, slaveAt, totalSpan, startOf, memoryLength}
 use Rattle.description_board.specs.Rules.{slaveValues, masterRefusal, slaveRefusal, shareRefusal, itemRefusal}
-use Rattle.description_board.specs.Rules.{start, run, finish, described}
-use Rattle.description_board.specs.Items.{masterItem, slaveItem, items, checkBoard}
+use Rattle.description_board.specs.Rules.{start, stepAll, finish, described}
+use Rattle.description_board.specs.Items.{masterItem, slaveItem, items, boardRefusal}
 use Rattle.description_board.specs.Rebuilt.{trimmed, shared}
 use Rattle.description_board.specs.Legal.{Legal}
 use Rattle.description_board.proofs.SpanLaws.{all-apart, total-suc, total-same, total-fewer}
@@ -36,15 +36,15 @@ module _ (b : Board) where
   trimmed-share i l = getD-table _ 128 0 i l
 
 -- an accepted board's own lines describe the board, trimmed, and what lines describe is legal
-legal-trimmed : (b : Board) → checkBoard b ≡ 0 → Legal (trimmed b)
-unfolding checkBoard described
+legal-trimmed : (b : Board) → boardRefusal b ≡ 0 → Legal (trimmed b)
+unfolding boardRefusal described
 legal-trimmed b e =
-    let a = finish-accepted (run start (items b)) e in
+    let a = finish-accepted (stepAll start (items b)) e in
     let read = read-items (λ r. r .number ≡ 0) run-accepted b (λ m l n. step-accepted _ _ n .1)
     (λ s l n. step-accepted _ _ n .1) (λ k l z n. step-accepted _ _ n .1) (a .0) in
     rw (a .3, read) at (described-legal (items b) e)
 
-pub accepted-legal : (b : Board) → checkBoard b ≡ 0 → Legal b
+pub accepted-legal : (b : Board) → boardRefusal b ≡ 0 → Legal b
 unfolding trimmed memoryLength startOf
 accepted-legal b e =
     let k = legal-trimmed b e in
@@ -130,6 +130,6 @@ module _ (b : Board) (k : Legal b) where
         ne-eqb (b .«slave_count») 0 (omega (arith, k .someSlave)),
       )
 
-  pub legal-accepted : checkBoard b ≡ 0
-  unfolding checkBoard
+  pub legal-accepted : boardRefusal b ≡ 0
+  unfolding boardRefusal
   legal-accepted = ap (λ (r : Reading). r .number) legal-described

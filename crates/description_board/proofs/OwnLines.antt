@@ -19,7 +19,7 @@ use Rattle.description_board.specs.declared.Item.the-variants.{ShareLine
 use Rattle.description_board.specs.declared.Reading.{Reading}
 use Rattle.description_board.specs.Records.{noMaster, noSlave, noBoard, masterAt, slaveAt}
 use Rattle.description_board.specs.Rules.{itemRefusal, withItem, withMaster, withSlave, withShare, isShare}
-use Rattle.description_board.specs.Rules.{refused, start, taken, step, run}
+use Rattle.description_board.specs.Rules.{refused, start, taken, step, stepAll}
 use Rattle.description_board.specs.Items.{masterItem, slaveItem, shareItem, items}
 use Rattle.description_board.specs.Rebuilt.{trimmed, shared}
 use Rattle.description_board.proofs.RuleLaws.{master-taken, slave-taken}
@@ -75,13 +75,13 @@ module _ (b : Board) where
 
   -- one place of the shares more
   module _ (m s k : ℕ) (h : k < 128) where
-    read-zero : getD (b .shares) k 0 ≡ 0 → run (readTo b m s k) (shareItem (b .shares) k) ≡ readTo b m s (suc k)
-    unfolding run shareItem readTo some
+    read-zero : getD (b .shares) k 0 ≡ 0 → stepAll (readTo b m s k) (shareItem (b .shares) k) ≡ readTo b m s (suc k)
+    unfolding stepAll shareItem readTo some
     read-zero z = rw (z, front-skip (λ i. getD (b .shares) i 0) 0 128 k h z, add-one k, or-false)
 
     read-share : getD (b .shares) k 0 ≢ 0 → itemRefusal (readTo b m s k) (shareLine b k) ≡ 0
-        → run (readTo b m s k) (shareItem (b .shares) k) ≡ readTo b m s (suc k)
-    unfolding run readTo some taken withItem withShare isShare
+        → stepAll (readTo b m s k) (shareItem (b .shares) k) ≡ readTo b m s (suc k)
+    unfolding stepAll readTo some taken withItem withShare isShare
     read-share z e =
         let i : 16 * (k / 16) + k % 16 ≡ k = omega arith in
         rw (share-line b k z)
@@ -90,24 +90,24 @@ module _ (b : Board) where
 
 -- lines that lead from one reading to another, and a line that is not refused, where E tells that none was refused
 record Leads (E : Reading → Type 0) (o : Reading) (xs : List Item) (p : Reading) : Type 0 where
-  on : E (run o xs) → run o xs ≡ p
+  on : E (stepAll o xs) → stepAll o xs ≡ p
 
 abbrev pub Clear : (Reading → Type 0) → Reading → Item → Type 0
 Clear E r x = E (step r x) → itemRefusal r x ≡ 0
 
-module _ (E : Reading → Type 0) (back : (r : Reading) (xs : List Item) → E (run r xs) → E r) where
+module _ (E : Reading → Type 0) (back : (r : Reading) (xs : List Item) → E (stepAll r xs) → E r) where
   leads-on : {o p q : Reading} {xs ys : List Item} → Leads E o xs p → Leads E p ys q → Leads E o (xs ++ ys) q
   leads-on {o} {p} {q} {xs} {ys} f g = record { on = go }
     where
-      go : E (run o (xs ++ ys)) → run o (xs ++ ys) ≡ q
+      go : E (stepAll o (xs ++ ys)) → stepAll o (xs ++ ys) ≡ q
       go e =
-          let a : E (run (run o xs) ys) = rw run-append at e in
-          let w : run o xs ≡ p = f .on (back (run o xs) ys a) in
+          let a : E (stepAll (stepAll o xs) ys) = rw run-append at e in
+          let w : stepAll o xs ≡ p = f .on (back (stepAll o xs) ys a) in
           rw (run-append, w) (g .on (rw w at a))
 
   walk : (f : ℕ → List Item) (at : ℕ → Reading) (n : ℕ) → ((i : ℕ) → i < n → Leads E (at i) (f i) (at (suc i)))
       → Leads E (at 0) (gather f n) (at n)
-  unfolding run gather
+  unfolding stepAll gather
   walk f at zero h = record { on = λ e. refl }
   walk f at (suc n) h = leads-on (walk f at n (λ i l. h i (omega arith))) (h n (omega arith))
 
@@ -115,11 +115,11 @@ module _ (E : Reading → Type 0) (back : (r : Reading) (xs : List Item) → E (
   module _ (b : Board) where
     read-place : (m s k : ℕ) → k < 128 → (getD (b .shares) k 0 ≢ 0 → Clear E (readTo b m s k) (shareLine b k))
         → Leads E (readTo b m s k) (shareItem (b .shares) k) (readTo b m s (suc k))
-    unfolding run
+    unfolding stepAll
     read-place m s k l h = record { on = go (ℕ-discrete (getD (b .shares) k 0) 0) }
       where
-        go : Dec (getD (b .shares) k 0 ≡ 0) → E (run (readTo b m s k) (shareItem (b .shares) k))
-            → run (readTo b m s k) (shareItem (b .shares) k) ≡ readTo b m s (suc k)
+        go : Dec (getD (b .shares) k 0 ≡ 0) → E (stepAll (readTo b m s k) (shareItem (b .shares) k))
+            → stepAll (readTo b m s k) (shareItem (b .shares) k) ≡ readTo b m s (suc k)
         go (yes z) e = read-zero b m s k l z
         go (no z) e = read-share b m s k l z (h z (rw (share-line b k z) at e))
 
@@ -127,8 +127,8 @@ module _ (E : Reading → Type 0) (back : (r : Reading) (xs : List Item) → E (
         → ((s : ℕ) → s < b .«slave_count» → Clear E (readTo b (b .«master_count») s 0) (slaveItem (b .slaves) s))
         → ((k : ℕ) → k < 128 → getD (b .shares) k 0 ≢ 0
         → Clear E (readTo b (b .«master_count») (b .«slave_count») k) (shareLine b k))
-        → E (run start (items b)) → run start (items b) ≡ record { number = 0; sharing = shared b; board = trimmed b }
-    unfolding items table run
+        → E (stepAll start (items b)) → stepAll start (items b) ≡ record { number = 0; sharing = shared b; board = trimmed b }
+    unfolding items table stepAll
     read-items f g h =
         let mc = b .«master_count» in
         let sc = b .«slave_count» in

@@ -16,12 +16,12 @@ use Rattle.description_board.specs.declared.Item.the-variants.{ShareLine
 use Rattle.description_board.specs.declared.Reading.{Reading}
 use Rattle.description_board.specs.Records.{noMaster, noSlave, masterAt, slaveAt}
 use Rattle.description_board.specs.Rules.{described}
-use Rattle.description_board.specs.Items.{masterItem, slaveItem, shareItem, items, checkBoard}
+use Rattle.description_board.specs.Items.{masterItem, slaveItem, shareItem, items, boardRefusal}
 use Rattle.description_board.specs.Rebuilt.{trimmed, shared}
 use Rattle.description_board.proofs.Sound.{Sound, described-sound, described-legal}
 use Rattle.description_board.proofs.Accepted.{trimmed-master, trimmed-slave, trimmed-share, accepted-legal, legal-described, legal-accepted}
 
-module _ (b : Board) (e : checkBoard b ≡ 0) where
+module _ (b : Board) (e : boardRefusal b ≡ 0) where
   pub rebuilt : described (items b) ≡ record { number = 0; sharing = shared b; board = trimmed b }
   rebuilt = legal-described b (accepted-legal b e)
 
@@ -38,8 +38,8 @@ module _ (b : Board) (e : checkBoard b ≡ 0) where
         gather-same (shareItem (trimmed b .shares)) (shareItem (b .shares)) 128 (λ i l. rw (trimmed-share b i l)),
       )
 
-  pub trimmed-check : checkBoard (trimmed b) ≡ 0
-  unfolding checkBoard
+  pub trimmed-check : boardRefusal (trimmed b) ≡ 0
+  unfolding boardRefusal
   trimmed-check = ap (λ (l : List Item). described l .number) items-trimmed ∙ e
 
 -- a board with zeros behind its counts
@@ -55,7 +55,7 @@ trimmed-sound b k =
 
 -- lines that are not refused: the check accepts their board, and its own lines describe it again
 module _ (xs : List Item) (e : described xs .number ≡ 0) where
-  pub described-accepted : checkBoard (described xs .board) ≡ 0
+  pub described-accepted : boardRefusal (described xs .board) ≡ 0
   described-accepted = legal-accepted _ (described-legal xs e)
 
   pub described-trimmed : trimmed (described xs .board) ≡ described xs .board
@@ -73,7 +73,7 @@ share-one shares i = go (eqb (getD shares i 0) 0)
     go true = omega arith
     go false = omega arith
 
-pub length-items : (b : Board) → checkBoard b ≡ 0 → length (items b) ≤ 8 + 16 + 128
+pub length-items : (b : Board) → boardRefusal b ≡ 0 → length (items b) ≤ 8 + 16 + 128
 unfolding items
 length-items b e =
     let k = accepted-legal b e in

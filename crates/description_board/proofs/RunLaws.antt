@@ -6,15 +6,15 @@ use Prim.Native.Nat.{ℕ}
 use borrow.Author.Tests.{eq-eqb, ne-eqb}
 use Rattle.description_board.specs.declared.Item.{Item}
 use Rattle.description_board.specs.declared.Reading.{Reading}
-use Rattle.description_board.specs.Rules.{itemRefusal, refused, taken, step, run, finish}
+use Rattle.description_board.specs.Rules.{itemRefusal, refused, taken, step, stepAll, finish}
 
 -- a refusal stays
 pub step-stays : (r : Reading) (x : Item) → (r .number ≡ 0 → ⊥) → step r x ≡ r
 unfolding step
 step-stays r x h = rw (ne-eqb _ _ h)
 
-pub run-stays : (r : Reading) (xs : List Item) → (r .number ≡ 0 → ⊥) → run r xs ≡ r
-unfolding run
+pub run-stays : (r : Reading) (xs : List Item) → (r .number ≡ 0 → ⊥) → stepAll r xs ≡ r
+unfolding stepAll
 run-stays r [] h = refl
 run-stays r (x ∷ xs) h = rw (step-stays r x h) (run-stays r xs h)
 
@@ -32,7 +32,7 @@ module _ (r : Reading) (x : Item) {n : ℕ} (none : r .number ≡ 0) (e : n ≡ 
   unfolding step
   step-taken h = rw (eq-eqb _ _ none, ← e, eq-eqb _ _ h)
 
-pub run-append : (r : Reading) (xs ys : List Item) → run r (xs ++ ys) ≡ run (run r xs) ys
-unfolding run
+pub run-append : (r : Reading) (xs ys : List Item) → stepAll r (xs ++ ys) ≡ stepAll (stepAll r xs) ys
+unfolding stepAll
 run-append r [] ys = refl
 run-append r (x ∷ xs) ys = run-append (step r x) xs ys

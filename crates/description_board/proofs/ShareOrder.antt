@@ -13,7 +13,7 @@ use Rattle.description_board.specs.declared.Item.the-variants.{ShareLine
 use Rattle.description_board.specs.declared.Reading.{Reading}
 use Rattle.description_board.specs.Records.{sharesAt}
 use Rattle.description_board.specs.Rules.{shareRefusal, itemRefusal, withShare, withItem, isShare}
-use Rattle.description_board.specs.Rules.{taken, start, step, run, described}
+use Rattle.description_board.specs.Rules.{taken, start, step, stepAll, described}
 use Rattle.description_board.proofs.RuleLaws.{ShareTaken, share-taken}
 use Rattle.description_board.proofs.RunLaws.{step-taken, run-append}
 use Rattle.description_board.proofs.Sound.{step-accepted, run-accepted, finish-accepted}
@@ -82,12 +82,12 @@ steps-exchanged r x y e =
     rw (first, second, q .2, p .2, c .2)
 
 -- at any place among accepted lines
-pub lines-exchanged : (r : Reading) (xs ys : List Item) (x y : Share) → run r (xs ++ (line x ∷ line y ∷ ys)) .number ≡ 0
-    → run r (xs ++ (line y ∷ line x ∷ ys)) ≡ run r (xs ++ (line x ∷ line y ∷ ys))
-unfolding run
+pub lines-exchanged : (r : Reading) (xs ys : List Item) (x y : Share) → stepAll r (xs ++ (line x ∷ line y ∷ ys)) .number ≡ 0
+    → stepAll r (xs ++ (line y ∷ line x ∷ ys)) ≡ stepAll r (xs ++ (line x ∷ line y ∷ ys))
+unfolding stepAll
 lines-exchanged r xs ys x y e =
-    let t = run r xs in
-    let a : run (step (step t (line x)) (line y)) ys .number ≡ 0 = rw (run-append r xs (line x ∷ line y ∷ ys)) at e in
+    let t = stepAll r xs in
+    let a : stepAll (step (step t (line x)) (line y)) ys .number ≡ 0 = rw (run-append r xs (line x ∷ line y ∷ ys)) at e in
     rw (
       run-append r xs (line y ∷ line x ∷ ys),
       run-append r xs (line x ∷ line y ∷ ys),
@@ -95,14 +95,14 @@ lines-exchanged r xs ys x y e =
     )
 
 -- accepted share lines, and the same in another order
-lines-reordered : (r : Reading) {ss ss′ : List Share} → List·Permᴰ ss ss′ → run r (map line ss) .number ≡ 0
-    → run r (map line ss′) ≡ run r (map line ss)
-unfolding run
+lines-reordered : (r : Reading) {ss ss′ : List Share} → List·Permᴰ ss ss′ → stepAll r (map line ss) .number ≡ 0
+    → stepAll r (map line ss′) ≡ stepAll r (map line ss)
+unfolding stepAll
 lines-reordered r List·Permᴰ·nil e = refl
 lines-reordered r (List·Permᴰ·cons {a = x} {l₂ = ss′} p d) e =
-    ap (λ (i : Share). run (step r (line i)) (map line ss′)) (sym p) ∙ lines-reordered (step r (line x)) d e
+    ap (λ (i : Share). stepAll (step r (line i)) (map line ss′)) (sym p) ∙ lines-reordered (step r (line x)) d e
 lines-reordered r (List·Permᴰ·swap {a = x} {b = y} {l = ss} p q) e =
-    rw (← p, ← q) (ap (λ (t : Reading). run t (map line ss))
+    rw (← p, ← q) (ap (λ (t : Reading). stepAll t (map line ss))
     (steps-exchanged r x y (run-accepted (step (step r (line x)) (line y)) (map line ss) e)))
 lines-reordered r (List·Permᴰ·trans c d) e =
     let f = lines-reordered r c e in
@@ -113,7 +113,7 @@ pub share-order : (xs : List Item) {ss ss′ : List Share} → List·Permᴰ ss 
     → described (xs ++ map line ss′) ≡ described (xs ++ map line ss)
 unfolding described
 share-order xs {ss} {ss′} p e =
-    let t = run start xs in
-    let a : run t (map line ss) .number ≡ 0 =
-    rw (run-append start xs (map line ss)) at (finish-accepted (run start (xs ++ map line ss)) e .0) in
+    let t = stepAll start xs in
+    let a : stepAll t (map line ss) .number ≡ 0 =
+    rw (run-append start xs (map line ss)) at (finish-accepted (stepAll start (xs ++ map line ss)) e .0) in
     rw (run-append start xs (map line ss′), run-append start xs (map line ss), lines-reordered t p a)

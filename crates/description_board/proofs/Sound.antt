@@ -22,7 +22,7 @@ use Rattle.description_board.specs.declared.Reading.{Reading}
 use Rattle.description_board.specs.Records.{noMaster, noSlave, noBoard, masterAt, slaveAt, totalSpan, startOf, memoryLength}
 use Rattle.description_board.specs.Rules.{slaveValues, slaveOf, meets}
 use Rattle.description_board.specs.Rules.{masterRefusal, slaveRefusal, shareRefusal, itemRefusal, withMaster, withSlave, withShare}
-use Rattle.description_board.specs.Rules.{withItem, refused, start, taken, step, run, finish, described}
+use Rattle.description_board.specs.Rules.{withItem, refused, start, taken, step, stepAll, finish, described}
 use Rattle.description_board.specs.Legal.{LegalMaster, LegalSlave, Legal}
 use Rattle.description_board.proofs.RuleLaws.{values-fit, master-taken, slave-taken, share-taken}
 use Rattle.description_board.proofs.SpanLaws.{apart-at, total-suc}
@@ -164,8 +164,8 @@ step-accepted r x e = go (eqb (r .number) 0) refl (eqb (itemRefusal r x) 0) refl
     go true p false q e = absurd (eqb-false _ _ q e)
     go false p d q e = absurd (eqb-false _ _ p e)
 
-pub run-accepted : (r : Reading) (xs : List Item) → run r xs .number ≡ 0 → r .number ≡ 0
-unfolding run
+pub run-accepted : (r : Reading) (xs : List Item) → stepAll r xs .number ≡ 0 → r .number ≡ 0
+unfolding stepAll
 run-accepted r [] e = e
 run-accepted r (x ∷ xs) e = step-accepted r x (run-accepted (step r x) xs e) .0
 
@@ -187,8 +187,8 @@ finish-accepted r e =
     go false p d q e = absurd (eqb-false _ _ p e)
 
 -- lines one after another, from a sound board on
-sound-run : (r : Reading) (xs : List Item) → run r xs .number ≡ 0 → Sound (r .board) → Sound (run r xs .board)
-unfolding run taken
+sound-run : (r : Reading) (xs : List Item) → stepAll r xs .number ≡ 0 → Sound (r .board) → Sound (stepAll r xs .board)
+unfolding stepAll taken
 sound-run r [] e k = k
 sound-run r (x ∷ xs) e k =
     let a = step-accepted r x (run-accepted (step r x) xs e) in
@@ -199,13 +199,13 @@ module _ (xs : List Item) (e : described xs .number ≡ 0) where
   pub described-sound : Sound (described xs .board)
   unfolding described start refused
   described-sound =
-      let a = finish-accepted (run start xs) e in
+      let a = finish-accepted (stepAll start xs) e in
       rw (a .3) (sound-run start xs (a .0) sound-start)
 
   pub described-legal : Legal (described xs .board)
   unfolding described
   described-legal =
-      let a = finish-accepted (run start xs) e in
+      let a = finish-accepted (stepAll start xs) e in
       let m : described xs .board .«master_count» ≢ 0 = rw (a .3) (a .1) in
       let s : described xs .board .«slave_count» ≢ 0 = rw (a .3) (a .2) in
       let k = described-sound in

@@ -45,5 +45,5 @@ items b =
     ++ (table (slaveItem (b .slaves)) (b .«slave_count») ++ gather (shareItem (b .shares)) 128)
 
 -- "a description that did not come through the reader is checked for 2 to 7 .. line by line as the writer would put it"
-unfoldable pub checkBoard : Board → ℕ
-checkBoard b = described (items b) .number
+unfoldable pub boardRefusal : Board → ℕ
+boardRefusal b = described (items b) .number

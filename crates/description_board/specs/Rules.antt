@@ -149,9 +149,9 @@ unfoldable pub step : Reading → Item → Reading
 step r x = cond (eqb (r .number) 0) (cond (eqb (itemRefusal r x) 0) (taken r x) (refused (itemRefusal r x))) r
 
 -- the lines one after another
-unfoldable pub run : Reading → List Item → Reading
-run r [] = r
-run r (x ∷ xs) = run (step r x) xs
+unfoldable pub stepAll : Reading → List Item → Reading
+stepAll r [] = r
+stepAll r (x ∷ xs) = stepAll (step r x) xs
 
 -- 2: at the end, no master or no slave
 unfoldable pub finish : Reading → Reading
@@ -162,4 +162,4 @@ finish r =
 
 -- a description's lines: the first refusal with a zero board, or 0 and the board
 unfoldable pub described : List Item → Reading
-described xs = finish (run start xs)
+described xs = finish (stepAll start xs)

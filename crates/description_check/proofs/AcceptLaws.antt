@@ -21,13 +21,13 @@ use Rattle.description_board.specs.declared.Slave.{Slave}
 use Rattle.description_board.specs.declared.Board.{Board}
 use Rattle.description_board.specs.Records.{noMaster, noSlave, totalSpan, startOf, memoryLength}
 use Rattle.description_board.specs.Rules.{widths, bursts, spans, slaveValues, meets, overlaps}
-use Rattle.description_board.specs.Items.{checkBoard}
+use Rattle.description_board.specs.Items.{boardRefusal}
 use Rattle.description_board.proofs.RuleLaws.{width-bound, burst-bound}
 use Rattle.description_board.proofs.SpanLaws.{apart-at, total-suc}
 use Rattle.description_board.proofs.Sound.{values-legal}
 use Rattle.description_board.proofs.Accepted.{legal-accepted}
-use Rattle.description_check.specs.Accept.{MastersFit, SlaveFits, Clear, SlavesFit}
-use Rattle.description_check.specs.Accept.{shareLimit, RowFits, RowEmpty, RowPasses, SharesFit}
+use Rattle.description_check.specs.Code.Accept.{MastersFit, SlaveFits, Clear, SlavesFit}
+use Rattle.description_check.specs.Code.Accept.{shareLimit, RowFits, RowEmpty, RowPasses, SharesFit}
 use Rattle.description_check.proofs.PowerLaws.{one-bit, listed-is}
 
 -- up to the largest of the list, one bit set
@@ -201,7 +201,7 @@ counted n most e =
 parts-legal : (b : Board)
     → (0 < b .«master_count») × (b .«master_count» ≤ 8) → (0 < b .«slave_count») × (b .«slave_count» ≤ 16)
     → MastersFit (b .masters) (b .«master_count») → SlavesFit (b .slaves) (b .«slave_count»)
-    → SharesFit (b .shares) (b .«master_count») (b .«slave_count») 8 → checkBoard b ≡ 0
+    → SharesFit (b .shares) (b .«master_count») (b .«slave_count») 8 → boardRefusal b ≡ 0
 unfolding memoryLength startOf
 parts-legal b m s masters slaves shares = legal-accepted b (record {
   someMaster = m .0;
@@ -217,6 +217,6 @@ parts-legal b m s masters slaves shares = legal-accepted b (record {
 
 -- the same, by counts that were read
 pub parts-accepted : (b : Board) (m s : ℕ) → m ≡ b .«master_count» → s ≡ b .«slave_count» → (0 < m) × (m ≤ 8) → (0 < s) × (s ≤ 16)
-    → MastersFit (b .masters) m → SlavesFit (b .slaves) s → SharesFit (b .shares) m s 8 → checkBoard b ≡ 0
+    → MastersFit (b .masters) m → SlavesFit (b .slaves) s → SharesFit (b .shares) m s 8 → boardRefusal b ≡ 0
 parts-accepted b m s e f hm hs masters slaves shares =
     parts-legal b (rw e at hm) (rw f at hs) (rw e at masters) (rw f at slaves) (rw (e, f) at shares)

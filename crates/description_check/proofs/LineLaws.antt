@@ -16,10 +16,10 @@ use Rattle.description_board.specs.declared.Board.{Board}
 use Rattle.description_board.specs.declared.Item.{Item}
 use Rattle.description_board.specs.declared.Item.the-variants.{Malformed, ShareLine}
 use Rattle.description_board.specs.declared.Reading.{Reading}
-use Rattle.description_board.specs.Items.{masterItem, slaveItem, shareItem, items, checkBoard}
-use Rattle.description_board.specs.Rules.{start, run, finish, described}
+use Rattle.description_board.specs.Items.{masterItem, slaveItem, shareItem, items, boardRefusal}
+use Rattle.description_board.specs.Rules.{start, stepAll, finish, described}
 use Rattle.description_board.proofs.RunLaws.{run-append, run-stays, finish-stays}
-use Rattle.description_check.specs.Lines.{placeCount, pairItem, lineAt, present, linesTo}
+use Rattle.description_check.specs.Code.Entries.{entryCount, pairItem, lineAt, present, linesTo}
 
 -- the numbers below a, and n more
 gather-add : {X : Type 0} (f : ℕ → List X) (a n : ℕ) → gather f (a + n) ≡ gather f a ++ gather (λ i. f (a + i)) n
@@ -77,7 +77,7 @@ module _ (b : Board) where
       rw (at-pair (n + i) (omega arith), e) (pair-present (b .shares) i)
 
   -- the lines of all places are the writer's
-  pub lines-all : linesTo b (placeCount b) ≡ items b
+  pub lines-all : linesTo b (entryCount b) ≡ items b
   unfolding linesTo items table
   lines-all =
       let m = b .«master_count» in
@@ -94,8 +94,8 @@ module _ (b : Board) where
   unfolding linesTo
   lines-next k = gather-suc (λ j. present (lineAt b j)) k
 
-  pub run-next : (q r : Reading) (x : Item) (k : ℕ) → q ≡ run start (linesTo b k) → x ≡ lineAt b k → r ≡ run q (present x)
-      → r ≡ run start (linesTo b (k + 1))
+  pub run-next : (q r : Reading) (x : Item) (k : ℕ) → q ≡ stepAll start (linesTo b k) → x ≡ lineAt b k → r ≡ stepAll q (present x)
+      → r ≡ stepAll start (linesTo b (k + 1))
   run-next q r x k e f g = g ∙ rw (lines-next k, run-append start (linesTo b k) (present (lineAt b k)), e, f)
 
   lines-split : (j d n : ℕ) → n ≡ j + d → linesTo b n ≡ linesTo b j ++ gather (λ i. present (lineAt b (j + i))) d
@@ -103,17 +103,17 @@ module _ (b : Board) where
   lines-split j d n e = rw e (gather-add (λ k. present (lineAt b k)) j d)
 
   -- a refusal after j places is the board's; after all of them the end is still to be tested
-  pub check-stops : (q : Reading) (j : ℕ) → j ≤ placeCount b → q ≡ run start (linesTo b j) → (q .number ≡ 0 → ⊥)
-      → q .number ≡ checkBoard b
-  unfolding checkBoard described
+  pub check-stops : (q : Reading) (j : ℕ) → j ≤ entryCount b → q ≡ stepAll start (linesTo b j) → (q .number ≡ 0 → ⊥)
+      → q .number ≡ boardRefusal b
+  unfolding boardRefusal described
   check-stops q j h e z =
-      let n = placeCount b in
+      let n = entryCount b in
       let rest = gather (λ i. present (lineAt b (j + i))) (n - j) in
       let all : items b ≡ linesTo b j ++ rest = sym lines-all ∙ lines-split j (n - j) n (omega arith) in
-      let same : run start (items b) ≡ q =
+      let same : stepAll start (items b) ≡ q =
       rw (all, run-append start (linesTo b j) rest, ← e) (run-stays q rest z) in
       sym (ap (λ (r : Reading). r .number) (ap finish same ∙ finish-stays q z))
 
-  pub check-ends : (q : Reading) (j : ℕ) → j ≡ placeCount b → q ≡ run start (linesTo b j) → finish q .number ≡ checkBoard b
-  unfolding checkBoard described
+  pub check-ends : (q : Reading) (j : ℕ) → j ≡ entryCount b → q ≡ stepAll start (linesTo b j) → finish q .number ≡ boardRefusal b
+  unfolding boardRefusal described
   check-ends q j f e = rw (e, f, lines-all)

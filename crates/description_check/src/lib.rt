@@ -5,13 +5,13 @@ ghost use mathlib.Core.Bool.{true};
 ghost use Prim.Native.Nat.{ℕ, _≤_, _<_, _+_, _-_, _%_};
 ghost use Rattle.common_laws.specs.Lists.{member};
 ghost use Rattle.description_board.specs.Records.{slaveAt};
-ghost use Rattle.description_board.specs.Rules.{widths, bursts, spans, run};
-ghost use Rattle.description_board.specs.Items.{masterItem, slaveNumbers, slaveItem, checkBoard};
+ghost use Rattle.description_board.specs.Rules.{widths, bursts, spans, stepAll};
+ghost use Rattle.description_board.specs.Items.{masterItem, slaveNumbers, slaveItem, boardRefusal};
 ghost use Rattle.description_layout.specs.Layout.{boardIn};
-ghost use Rattle.description_rules.specs.Readings.{readingOf};
-ghost use Rattle.description_check.specs.Lines.{pairItem, placeCount, lineAt, present};
-ghost use Rattle.description_check.specs.Accept.{MastersFit, SlaveFits, Clear, SlavesFit};
-ghost use Rattle.description_check.specs.Accept.{shareLimit, RowFits, RowEmpty, RowPasses, SharesFit};
+ghost use Rattle.description_rules.specs.Code.Readings.{readingOf};
+ghost use Rattle.description_check.specs.Code.Entries.{pairItem, entryCount, lineAt, present};
+ghost use Rattle.description_check.specs.Code.Accept.{MastersFit, SlaveFits, Clear, SlavesFit};
+ghost use Rattle.description_check.specs.Code.Accept.{shareLimit, RowFits, RowEmpty, RowPasses, SharesFit};
 use description_board::Item;
 use description_board::Slave;
 use description_board::SlaveNumbers;
@@ -74,8 +74,8 @@ fn pair_item(board: &[u32; 242], i: u64) -> Item
 }
 
 // How many places a board's lines have: its masters, its slaves, the pairs of a master and a slave.
-pub fn places(board: &[u32; 242]) -> usize
-    ensures { λ n. ⌜ n ≡ placeCount (boardIn (now (board .entry))) ⌝ }
+pub fn entry_count(board: &[u32; 242]) -> usize
+    ensures { λ n. ⌜ n ≡ entryCount (boardIn (now (board .entry))) ⌝ }
 {
     let m = description_layout::master_count(board) as usize;
     let s = description_layout::slave_count(board) as usize;
@@ -99,33 +99,33 @@ pub fn line_at(board: &[u32; 242], k: usize) -> Item
 }
 
 // A place of a board more; one that has no line changes nothing.
-fn add_place(own: &mut [u32; 242], p: Progress, x: Item) -> Progress
-    ensures { λ r. ⌜ readingOf r (now (own .exit)) ≡ run (readingOf p (now (own .entry))) (present x) ⌝ }
+fn add_entry(own: &mut [u32; 242], p: Progress, x: Item) -> Progress
+    ensures { λ r. ⌜ readingOf r (now (own .exit)) ≡ stepAll (readingOf p (now (own .entry))) (present x) ⌝ }
 {
     match x {
         Item::Malformed => p,
-        _ => description_rules::add_item(own, p, x),
+        _ => description_rules::step(own, p, x),
     }
 }
 
 // The first refusal of a board's own lines, or 0. The board is built again, line by line, up to the first refusal: a later line
 // cannot change the answer, and the counts of a board that no reader made can be any number.
-pub fn check(board: &[u32; 242]) -> u32
-    ensures { λ n. ⌜ n ≡ checkBoard (boardIn (now (board .entry))) ⌝ }
+pub fn board_refusal_by_lines(board: &[u32; 242]) -> u32
+    ensures { λ n. ⌜ n ≡ boardRefusal (boardIn (now (board .entry))) ⌝ }
 {
-    let n = places(board);
+    let n = entry_count(board);
     let mut own = [0u32; 242];
-    let mut p = description_rules::first_progress();
+    let mut p = description_rules::start();
     let mut k: usize = 0;
     while k < n {
         let x = line_at(board, k);
-        p = add_place(&mut own, p, x);
+        p = add_entry(&mut own, p, x);
         if p.number != 0 {
             return p.number;
         }
         k += 1;
     }
-    let last = description_rules::finished(&mut own, p);
+    let last = description_rules::finish(&mut own, p);
     last.number
 }
 
@@ -206,7 +206,7 @@ fn clear_of(board: &[u32; 242], n: usize, base: u32, span: u32, last: u64) -> bo
     if last <= base as u64 {
         return true;
     }
-    !description_rules::meets_any(board, n, base, span)
+    !description_rules::overlaps(board, n, base, span)
 }
 
 // Whether the first n slaves are legal, each by itself and together.
@@ -233,7 +233,7 @@ fn slaves_fit(board: &[u32; 242], n: usize) -> bool
 }
 
 // The most shares that a master can have at slave s of n.
-fn limit(s: u32, n: u32) -> u32
+fn share_limit(s: u32, n: u32) -> u32
     ensures { λ x. ⌜ x ≡ shareLimit s n ⌝ }
 {
     if s < n { 100 } else { 0 }
@@ -248,8 +248,8 @@ fn row_fits(board: &[u32; 242], m: usize, n: u32) -> bool
     let mut bad = false;
     let mut s: u32 = 0;
     while s < 16 {
-        let x = description_layout::share_at(board, m, s as usize);
-        bad = bad | (limit(s, n) < x);
+        let x = description_layout::shares_at(board, m, s as usize);
+        bad = bad | (share_limit(s, n) < x);
         s += 1;
     }
     !bad
@@ -263,7 +263,7 @@ fn row_empty(board: &[u32; 242], m: usize) -> bool
     let mut used: u32 = 0;
     let mut s: usize = 0;
     while s < 16 {
-        let x = description_layout::share_at(board, m, s);
+        let x = description_layout::shares_at(board, m, s);
         used = used | x;
         s += 1;
     }
@@ -297,7 +297,7 @@ fn shares_fit(board: &[u32; 242], masters: usize, slaves: u32) -> bool
 
 // Whether a board passes every test. Nothing is said of one that does not.
 fn accepts(board: &[u32; 242]) -> bool
-    ensures { λ r. ⌜ (r ≡ true → checkBoard (boardIn (now (board .entry))) ≡ 0) ⌝ }
+    ensures { λ r. ⌜ (r ≡ true → boardRefusal (boardIn (now (board .entry))) ≡ 0) ⌝ }
 {
     let m = description_layout::master_count(board);
     let s = description_layout::slave_count(board);
@@ -317,11 +317,11 @@ fn accepts(board: &[u32; 242]) -> bool
 }
 
 // What check says, at once where the board is accepted.
-pub fn refusal(board: &[u32; 242]) -> u32
-    ensures { λ n. ⌜ n ≡ checkBoard (boardIn (now (board .entry))) ⌝ }
+pub fn board_refusal(board: &[u32; 242]) -> u32
+    ensures { λ n. ⌜ n ≡ boardRefusal (boardIn (now (board .entry))) ⌝ }
 {
     if accepts(board) {
         return 0;
     }
-    check(board)
+    board_refusal_by_lines(board)
 }

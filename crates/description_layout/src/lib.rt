@@ -62,7 +62,7 @@ pub fn share_in(board: &[u32; 242], i: usize) -> u32
 }
 
 // The shares of master m at slave s.
-pub fn share_at(board: &[u32; 242], m: usize, s: usize) -> u32
+pub fn shares_at(board: &[u32; 242], m: usize, s: usize) -> u32
     requires { ⌜ (m < 8) × (s < 16) ⌝ }
     ensures { λ r. ⌜ r ≡ sharesAt (boardIn (now (board .entry))) m s ⌝ }
 {
@@ -100,7 +100,7 @@ pub fn put_slave(board: &mut [u32; 242], s: Slave)
 }
 
 // The shares at place i of the 128.
-pub fn put_share(board: &mut [u32; 242], i: usize, n: u32)
+pub fn put_share_at(board: &mut [u32; 242], i: usize, n: u32)
     requires { ⌜ i < 128 ⌝ }
     ensures { λ _. ⌜ boardIn (now (board .exit)) ≡ withShareAt (boardIn (now (board .entry))) i n ⌝ }
 {

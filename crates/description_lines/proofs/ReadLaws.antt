@@ -10,7 +10,7 @@ use lib.Seq.{length-take-le, drop-length}
 use Rattle.common_laws.specs.Lists.{same}
 use Rattle.common_laws.proofs.TextLists.{part-rest-length}
 use Rattle.common_text.specs.Fields.{comma, lineFeed, split, numbersOf}
-use Rattle.common_text.specs.Scanning.{behind, Cut}
+use Rattle.common_text.specs.Code.Scanning.{behind, Cut}
 use Rattle.common_text.proofs.Pieces.{prepend, prepend-nil, cut-rest, rest-more, rest-last}
 use Rattle.description_board.specs.declared.Item.{Item}
 use Rattle.description_board.specs.declared.Item.the-variants.{Malformed}

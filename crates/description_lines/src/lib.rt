@@ -2,7 +2,7 @@
 ghost use mathlib.Core.Path.{_≡_};
 ghost use Prim.Native.Nat.{_+_, _≤_, _<_};
 ghost use lib.ListN.{length};
-ghost use Rattle.common_text.specs.Scanning.{Put};
+ghost use Rattle.common_text.specs.Code.Scanning.{Put};
 ghost use Rattle.description_lines.specs.Reader.{masterLine, slaveLine, shareLine, itemOf, LineFrom};
 ghost use Rattle.description_lines.specs.Writer.{slaveFields, itemText};
 use common_text::Numbers;
@@ -54,19 +54,19 @@ fn share_line(ns: Numbers) -> Item
 }
 
 // What a line without its line feed says. The numbers are read before the word is known: one place does it for all three.
-fn parse_line(line: &[u8]) -> Item
+fn item_of(line: &[u8]) -> Item
     ensures { λ x. ⌜ x ≡ itemOf (now (line .entry)) ⌝ }
 {
     let e = common_text::find_byte(line, b',');
     let word = &line[..e];
     let ns = common_text::numbers_behind(line, e);
-    if common_text::same_bytes(word, b"master") {
+    if common_text::same(word, b"master") {
         return master_line(ns);
     }
-    if common_text::same_bytes(word, b"slave") {
+    if common_text::same(word, b"slave") {
         return slave_line(ns);
     }
-    if common_text::same_bytes(word, b"share") {
+    if common_text::same(word, b"share") {
         return share_line(ns);
     }
     Item::Malformed
@@ -85,7 +85,7 @@ pub fn line_from(text: &[u8], at: usize) -> LineRead
             next: text.len(),
         };
     }
-    let item = parse_line(&rest[..e]);
+    let item = item_of(&rest[..e]);
     LineRead {
         item: item,
         next: at + e + 1,

@@ -17,7 +17,7 @@ use Rattle.description_board.proofs.RunLaws.{step-refused, step-taken}
 use Rattle.description_layout.specs.Layout.{boardIn, withShareAt}
 use Rattle.description_layout.proofs.PlaceLaws.{board-none, share-put-at, shares-length}
 use Rattle.description_rules.specs.declared.Progress.{Progress}
-use Rattle.description_rules.specs.Readings.{readingOf}
+use Rattle.description_rules.specs.Code.Readings.{readingOf}
 
 pub of-zeros : (n : ℕ) (l : List ℕ) → l ≡ replicate 242 0 → readingOf (record { number = n; sharing = false }) l ≡ refused n
 unfolding readingOf refused

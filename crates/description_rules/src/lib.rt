@@ -12,10 +12,10 @@ ghost use lib.Dec.{ltb};
 ghost use lib.ListN.{replicate};
 ghost use Rattle.description_board.specs.declared.Item.the-variants.{MasterLine, SlaveLine, ShareLine};
 ghost use Rattle.description_board.specs.Rules.{slaveValues, slaveOf, refused, start, step, finish};
-ghost use Rattle.description_rules.specs.Readings.{readingOf};
-pub use refusals::meets_any;
+ghost use Rattle.description_rules.specs.Code.Readings.{readingOf};
+pub use refusals::overlaps;
 pub use refusals::share_or_none;
-pub use refusals::span_total;
+pub use refusals::total_span;
 
 // The refusal's number or 0, and whether a share line was read.
 pub struct Progress {
@@ -39,7 +39,7 @@ fn slave_of(n: SlaveNumbers) -> Slave
 }
 
 // A refusal: its number, and a board that is all zero.
-fn refuse(board: &mut [u32; 242], number: u32) -> Progress
+fn refused(board: &mut [u32; 242], number: u32) -> Progress
     ensures { λ r. ⌜ readingOf r (now (board .exit)) ≡ refused number ⌝ }
 {
     description_layout::clear(board);
@@ -50,7 +50,7 @@ fn refuse(board: &mut [u32; 242], number: u32) -> Progress
 }
 
 // Before the first line. The board is an array of zeros then.
-pub fn first_progress() -> Progress
+pub fn start() -> Progress
     ensures { λ r. ⌜ readingOf r (replicate 242 0) ≡ start ⌝ }
 {
     Progress {
@@ -60,13 +60,13 @@ pub fn first_progress() -> Progress
 }
 
 // A master line after lines of which none was refused.
-fn add_master(board: &mut [u32; 242], p: Progress, width: u64, burst: u64) -> Progress
+fn step_master(board: &mut [u32; 242], p: Progress, width: u64, burst: u64) -> Progress
     requires { ⌜ p .number ≡ 0 ⌝ }
     ensures { λ r. ⌜ readingOf r (now (board .exit)) ≡ step (readingOf p (now (board .entry))) (MasterLine width burst) ⌝ }
 {
     let number = refusals::master_refusal(board, width, burst);
     if number != 0 {
-        return refuse(board, number);
+        return refused(board, number);
     }
     description_layout::put_master(board, width as u32, burst as u32);
     Progress {
@@ -76,13 +76,13 @@ fn add_master(board: &mut [u32; 242], p: Progress, width: u64, burst: u64) -> Pr
 }
 
 // A slave line after lines of which none was refused.
-fn add_slave(board: &mut [u32; 242], p: Progress, n: SlaveNumbers) -> Progress
+fn step_slave(board: &mut [u32; 242], p: Progress, n: SlaveNumbers) -> Progress
     requires { ⌜ p .number ≡ 0 ⌝ }
     ensures { λ r. ⌜ readingOf r (now (board .exit)) ≡ step (readingOf p (now (board .entry))) (SlaveLine n) ⌝ }
 {
     let number = refusals::slave_refusal(board, p.sharing, n);
     if number != 0 {
-        return refuse(board, number);
+        return refused(board, number);
     }
     description_layout::put_slave(board, slave_of(n));
     Progress {
@@ -105,16 +105,16 @@ fn in_table(m: u64, s: u64) -> bool
 }
 
 // A share line after lines of which none was refused. A place past the 128 holds no share, as in share_or_none.
-fn add_share(board: &mut [u32; 242], p: Progress, m: u64, s: u64, shares: u64) -> Progress
+fn step_share(board: &mut [u32; 242], p: Progress, m: u64, s: u64, shares: u64) -> Progress
     requires { ⌜ p .number ≡ 0 ⌝ }
     ensures { λ r. ⌜ readingOf r (now (board .exit)) ≡ step (readingOf p (now (board .entry))) (ShareLine m s shares) ⌝ }
 {
     let number = refusals::share_refusal(board, m, s, shares);
     if number != 0 {
-        return refuse(board, number);
+        return refused(board, number);
     }
     if in_table(m, s) {
-        description_layout::put_share(board, (16 * m + s) as usize, shares as u32);
+        description_layout::put_share_at(board, (16 * m + s) as usize, shares as u32);
     }
     Progress {
         number: 0,
@@ -123,22 +123,22 @@ fn add_share(board: &mut [u32; 242], p: Progress, m: u64, s: u64, shares: u64) -
 }
 
 // One line more; a refusal stays.
-pub fn add_item(board: &mut [u32; 242], p: Progress, x: Item) -> Progress
+pub fn step(board: &mut [u32; 242], p: Progress, x: Item) -> Progress
     ensures { λ r. ⌜ readingOf r (now (board .exit)) ≡ step (readingOf p (now (board .entry))) x ⌝ }
 {
     if p.number != 0 {
         return p;
     }
     match x {
-        Item::Malformed => refuse(board, 1),
-        Item::MasterLine(width, burst) => add_master(board, p, width, burst),
-        Item::SlaveLine(n) => add_slave(board, p, n),
-        Item::ShareLine(m, s, shares) => add_share(board, p, m, s, shares),
+        Item::Malformed => refused(board, 1),
+        Item::MasterLine(width, burst) => step_master(board, p, width, burst),
+        Item::SlaveLine(n) => step_slave(board, p, n),
+        Item::ShareLine(m, s, shares) => step_share(board, p, m, s, shares),
     }
 }
 
 // After the last line: a board has a master and a slave.
-pub fn finished(board: &mut [u32; 242], p: Progress) -> Progress
+pub fn finish(board: &mut [u32; 242], p: Progress) -> Progress
     ensures { λ r. ⌜ readingOf r (now (board .exit)) ≡ finish (readingOf p (now (board .entry))) ⌝ }
 {
     if p.number != 0 {
@@ -147,7 +147,7 @@ pub fn finished(board: &mut [u32; 242], p: Progress) -> Progress
     let masters = description_layout::master_count(board);
     let slaves = description_layout::slave_count(board);
     if (masters == 0) | (slaves == 0) {
-        return refuse(board, 2);
+        return refused(board, 2);
     }
     p
 }

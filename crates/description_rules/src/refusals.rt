@@ -36,7 +36,7 @@ const SPANS: [u64; 14] = [
 ];
 
 // Whether x is in the list.
-fn listed(x: u64, list: &[u64]) -> bool
+fn member(x: u64, list: &[u64]) -> bool
     ensures { λ r. ⌜ r ≡ member x (now (list .entry)) ⌝ }
 {
     let mut i = 0;
@@ -53,13 +53,13 @@ fn listed(x: u64, list: &[u64]) -> bool
 fn slave_values(n: SlaveNumbers) -> bool
     ensures { λ r. ⌜ r ≡ slaveValues n ⌝ }
 {
-    let lists = listed(n.width, &WIDTHS)
-        & (listed(n.burst, &BURSTS) & ((n.read_wait <= 255) & (n.write_wait <= 255)));
-    (n.base <= 4294967295) & (listed(n.span, &SPANS) & lists)
+    let lists = member(n.width, &WIDTHS)
+        & (member(n.burst, &BURSTS) & ((n.read_wait <= 255) & (n.write_wait <= 255)));
+    (n.base <= 4294967295) & (member(n.span, &SPANS) & lists)
 }
 
 // Whether the span at base and that of slave s share an address. An end can pass the last address, so it is a u64.
-fn meets_one(base: u32, span: u32, s: Slave) -> bool
+fn meets(base: u32, span: u32, s: Slave) -> bool
     ensures { λ r. ⌜ r ≡ meets base span s ⌝ }
 {
     let s_end = s.base as u64 + s.span as u64;
@@ -68,13 +68,13 @@ fn meets_one(base: u32, span: u32, s: Slave) -> bool
 }
 
 // Whether the span at base overlaps that of one of the first n slaves.
-pub fn meets_any(board: &[u32; 242], n: usize, base: u32, span: u32) -> bool
+pub fn overlaps(board: &[u32; 242], n: usize, base: u32, span: u32) -> bool
     requires { ⌜ n ≤ 16 ⌝ }
     ensures { λ r. ⌜ r ≡ overlaps base span (take n (boardIn (now (board .entry)) .slaves)) ⌝ }
 {
     let mut i: usize = 0;
     while i < n {
-        if meets_one(base, span, description_layout::slave_at(board, i)) {
+        if meets(base, span, description_layout::slave_at(board, i)) {
             return true;
         }
         i += 1;
@@ -83,7 +83,7 @@ pub fn meets_any(board: &[u32; 242], n: usize, base: u32, span: u32) -> bool
 }
 
 // The spans of the first n slaves, and one span more, together: at most 17 u32, so no sum wraps.
-pub fn span_total(board: &[u32; 242], n: usize, span: u32) -> u64
+pub fn total_span(board: &[u32; 242], n: usize, span: u32) -> u64
     requires { ⌜ n ≤ 16 ⌝ }
     ensures { λ r. ⌜ r ≡ totalSpan (take n (boardIn (now (board .entry)) .slaves)) + span ⌝ }
 {
@@ -106,7 +106,7 @@ pub fn master_refusal(board: &[u32; 242], width: u64, burst: u64) -> u32
     if (0 < slaves) | (8 <= masters) {
         return 2;
     }
-    if !(listed(width, &WIDTHS) & listed(burst, &BURSTS)) {
+    if !(member(width, &WIDTHS) & member(burst, &BURSTS)) {
         return 3;
     }
     0
@@ -127,10 +127,10 @@ pub fn slave_refusal(board: &[u32; 242], sharing: bool, n: SlaveNumbers) -> u32
     if n.base % n.span != 0 {
         return 4;
     }
-    if meets_any(board, slaves as usize, n.base as u32, n.span as u32) {
+    if overlaps(board, slaves as usize, n.base as u32, n.span as u32) {
         return 5;
     }
-    if 65536 < span_total(board, slaves as usize, n.span as u32) {
+    if 65536 < total_span(board, slaves as usize, n.span as u32) {
         return 6;
     }
     0

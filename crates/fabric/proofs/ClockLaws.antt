@@ -10,15 +10,15 @@ use borrow.Author.Tests.{eq-eqb, ne-eqb, eqb-true, not-false}
 use Rattle.common_laws.proofs.Tests.{neither, passed}
 use Rattle.description_board.specs.declared.Board.{Board}
 use Rattle.description_board.specs.Records.{memoryLength}
-use Rattle.description_board.specs.Items.{checkBoard}
+use Rattle.description_board.specs.Items.{boardRefusal}
 use Rattle.fabric_bytes.specs.Bytes.{Store, bufferLength}
 use Rattle.fabric_state.specs.declared.State.{State}
 use Rattle.fabric_state.specs.Records.{noLine}
 use Rattle.fabric_state.specs.Soundness.{sound}
 use Rattle.fabric_layout.specs.Layout.{stateIn, linesIn}
-use Rattle.fabric_cycle.specs.Cycles.{Clocks as Cycled}
+use Rattle.fabric_cycle.specs.Code.Cycles.{Clocks as Cycled}
 use Rattle.fabric.specs.Calls.{clockRefusal, clock, storeAfterClock}
-use Rattle.fabric.specs.Requests.{clockRefusalBy}
+use Rattle.fabric.specs.Code.Requests.{clockRefusalBy}
 use Rattle.fabric.specs.Lent.{Clocks}
 use Rattle.fabric.proofs.PostLaws.{passed-number}
 
@@ -47,28 +47,28 @@ module _ (room memory buffer : ℕ) (sound : Bool) where
 
 module _ (b : Board) (st : State) (d : Store) where
   -- what the check of board and state found says all of it: a state is looked at on an accepted board only
-  pub refusal-found : (number : ℕ) (keeps : Bool) → number ≡ checkBoard b → (checkBoard b ≡ 0 → keeps ≡ sound b st)
+  pub refusal-found : (number : ℕ) (keeps : Bool) → number ≡ boardRefusal b → (boardRefusal b ≡ 0 → keeps ≡ sound b st)
       → clockRefusalBy number (memoryLength b) keeps (length (d .memory)) (length (d .buffer)) ≡ clockRefusal b st d
   unfolding clockRefusal clockRefusalBy
-  refusal-found number keeps e f = rw e (go (eqb (checkBoard b) 0) refl)
+  refusal-found number keeps e f = rw e (go (eqb (boardRefusal b) 0) refl)
     where
       rest : Bool → ℕ
       rest c =
           cond (not (eqb (length (d .memory)) (memoryLength b)) || not (eqb (length (d .buffer)) bufferLength)) 8
           (cond (not c) 9 0)
 
-      go : (c : Bool) → eqb (checkBoard b) 0 ≡ c
-          → cond (not (eqb (checkBoard b) 0)) (checkBoard b) (rest keeps)
-          ≡ cond (not (eqb (checkBoard b) 0)) (checkBoard b) (rest (sound b st))
-      go true z = rw (f (eqb-true (checkBoard b) 0 z))
+      go : (c : Bool) → eqb (boardRefusal b) 0 ≡ c
+          → cond (not (eqb (boardRefusal b) 0)) (boardRefusal b) (rest keeps)
+          ≡ cond (not (eqb (boardRefusal b) 0)) (boardRefusal b) (rest (sound b st))
+      go true z = rw (f (eqb-true (boardRefusal b) 0 z))
       go false z = rw z
 
-  pub not-refused : checkBoard b ≡ 0 → length (d .memory) ≡ memoryLength b → length (d .buffer) ≡ bufferLength
+  pub not-refused : boardRefusal b ≡ 0 → length (d .memory) ≡ memoryLength b → length (d .buffer) ≡ bufferLength
       → sound b st ≡ true → clockRefusal b st d ≡ 0
   unfolding clockRefusal
   not-refused ok m f h =
       rw (
-        eq-eqb (checkBoard b) 0 ok,
+        eq-eqb (boardRefusal b) 0 ok,
         eq-eqb (length (d .memory)) (memoryLength b) m,
         eq-eqb (length (d .buffer)) bufferLength f,
         h,
@@ -80,7 +80,7 @@ module _ (b : Board) (st : State) (d : Store) where
   exact-lengths e =
       let memory = eqb (length (d .memory)) (memoryLength b) in
       let buffer = eqb (length (d .buffer)) bufferLength in
-      let p = passed-number (checkBoard b) _ e in
+      let p = passed-number (boardRefusal b) _ e in
       let q = passed (not memory || not buffer) 7 _ (p .1) in
       let r = neither (not memory) (not buffer) (q .0) in (
         eqb-true (length (d .memory)) (memoryLength b) (not-false memory (r .0)),

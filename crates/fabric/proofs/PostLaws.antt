@@ -15,19 +15,19 @@ use Rattle.description_board.specs.declared.Master.{Master}
 use Rattle.description_board.specs.declared.Board.{Board}
 use Rattle.description_board.specs.Records.{masterAt, slaveAt}
 use Rattle.description_board.specs.Rules.{widths, bursts}
-use Rattle.description_board.specs.Items.{checkBoard}
+use Rattle.description_board.specs.Items.{boardRefusal}
 use Rattle.description_board.proofs.Accepted.{accepted-legal}
 use Rattle.fabric_accesses.specs.declared.Transfer.{Transfer}
 use Rattle.fabric_accesses.specs.Decoding.{targetOf}
-use Rattle.fabric_bytes.specs.Bytes.{bufferLength, posted}
+use Rattle.fabric_bytes.specs.Bytes.{bufferLength, postedWords}
 use Rattle.fabric_state.specs.declared.State.{State}
 use Rattle.fabric_state.specs.Records.{transferAt}
-use Rattle.fabric_state.specs.Posting.{Request, transferOf, wrongBeats, unaligned, wrongLanes, unmapped, passesEnd, refusalAt, transferRefusal, stateWith}
+use Rattle.fabric_state.specs.Posting.{Request, transferOf, wrongBeats, unaligned, wrongLanes, unmapped, passesEnd, transferRefusalBy, transferRefusal, withTransfer}
 use Rattle.fabric_state.specs.Soundness.{sound}
 use Rattle.fabric_state.proofs.DecodeLaws.{accepted}
 use Rattle.fabric_layout.specs.Layout.{stateIn}
 use Rattle.fabric.specs.Lent.{Posts}
-use Rattle.fabric.specs.Calls.{wrongWords, requestRefusal, refusalBy, postRefusal, post, bufferAfterPost}
+use Rattle.fabric.specs.Calls.{wrongWords, requestRefusal, postRefusalBy, postRefusal, post, bufferAfterPost}
 
 -- a refusal's number that stands where it is not 0
 pub passed-number : (r x : ℕ) → cond (not (eqb r 0)) r x ≡ 0 → (r ≡ 0) × (x ≡ 0)
@@ -54,7 +54,7 @@ late false n x p q = q
 
 module _ (b : Board) (m : ℕ) (t : Transfer) where
   late-transfer : Late (transferRefusal b m t)
-  unfolding transferRefusal refusalAt
+  unfolding transferRefusal transferRefusalBy
   late-transfer =
       let s = targetOf b m (t .address) in
       late (wrongBeats (masterAt b m) t) 13 _ (inr (omega arith))
@@ -75,12 +75,12 @@ module _ (b : Board) (m : ℕ) (t : Transfer) where
     words-right h = rw (passes, ← own, ← e, eq-eqb bytes right h)
 
   module _ (st : State) (room bytes : ℕ) where
-    pub taken : refusalBy b st room m t bytes ≡ 0
-        → (checkBoard b ≡ 0) × (room ≡ bufferLength) × Taken b st m t bytes
-    unfolding refusalBy requestRefusal wrongWords
+    pub taken : postRefusalBy b st room m t bytes ≡ 0
+        → (boardRefusal b ≡ 0) × (room ≡ bufferLength) × Taken b st m t bytes
+    unfolding postRefusalBy requestRefusal wrongWords
     taken e =
         let right = cond (t .write) (t .beats * masterAt b m .width) 0 in
-        let p = passed-number (checkBoard b) _ e in
+        let p = passed-number (boardRefusal b) _ e in
         let q = passed (not (eqb room bufferLength)) 7 _ (p .1) in
         let r = passed (not (sound b st)) 8 _ (q .1) in
         let u = passed (leb (b .«master_count») m) 10 _ (r .1) in
@@ -98,19 +98,19 @@ module _ (b : Board) (m : ℕ) (t : Transfer) where
         )
 
     -- nothing of 2 to 9 is refused: what is left
-    module _ (ok : checkBoard b ≡ 0) (full : room ≡ bufferLength) (keeps : sound b st ≡ true) where
-      pub refusal-asked : refusalBy b st room m t bytes
+    module _ (ok : boardRefusal b ≡ 0) (full : room ≡ bufferLength) (keeps : sound b st ≡ true) where
+      pub refusal-asked : postRefusalBy b st room m t bytes
           ≡ cond (leb (b .«master_count») m) 11 (cond (transferAt st m .held) 12 (requestRefusal b m t bytes))
-      unfolding refusalBy
+      unfolding postRefusalBy
       refusal-asked = rw (ok, eq-eqb room bufferLength full, keeps)
 
-      pub not-refused : Taken b st m t bytes → refusalBy b st room m t bytes ≡ 0
+      pub not-refused : Taken b st m t bytes → postRefusalBy b st room m t bytes ≡ 0
       unfolding requestRefusal wrongWords
       not-refused x =
           refusal-asked
           ∙ rw (lt-leb (b .«master_count») m (x .master), x .free, eq-eqb (transferRefusal b m t) 0 (x .fits), eq-eqb bytes _ (x .words))
 
-      pub refused-late : Late (refusalBy b st room m t bytes)
+      pub refused-late : Late (postRefusalBy b st room m t bytes)
       unfolding requestRefusal
       refused-late =
           rw refusal-asked
@@ -120,7 +120,7 @@ module _ (b : Board) (m : ℕ) (t : Transfer) where
           (late (wrongWords (masterAt b m) t bytes) 18 0 (inr (omega arith)) (inl refl)))))
 
   -- on an accepted board the master has a part of the buffer, and the words fit it
-  module _ (ok : checkBoard b ≡ 0) {st : State} {bytes : ℕ} (x : Taken b st m t bytes) where
+  module _ (ok : boardRefusal b ≡ 0) {st : State} {bytes : ℕ} (x : Taken b st m t bytes) where
     pub some-part : m < 8
     some-part = omega (arith, x .master, accepted-legal b ok .fewMasters)
 
@@ -146,8 +146,8 @@ module _ (b : Board) (before buffer : List ℕ) (q : Request) {n : ℕ} (e : n �
       let no = ne-eqb (postRefusal b (stateIn before) buffer q) 0 (λ f. z (e ∙ f)) in
       record { answer = rw (no, e); stored = rw no; kept = λ _. refl }
 
-  pub post-taken : n ≡ 0 → {after left : List ℕ} → stateIn after ≡ stateWith (stateIn before) (q .master) (transferOf q)
-      → left ≡ posted (q .master) (q .words) buffer → Posts b q before after buffer left 0
+  pub post-taken : n ≡ 0 → {after left : List ℕ} → stateIn after ≡ withTransfer (stateIn before) (q .master) (transferOf q)
+      → left ≡ postedWords (q .master) (q .words) buffer → Posts b q before after buffer left 0
   unfolding post bufferAfterPost
   post-taken z f g =
       let yes = sym e ∙ z in

@@ -11,7 +11,7 @@ use borrow.Author.Tests.{ne-eqb, not-false}
 use Rattle.common_laws.proofs.Tests.{passed}
 use Rattle.description_board.specs.declared.Board.{Board}
 use Rattle.description_board.specs.Records.{memoryLength}
-use Rattle.description_board.specs.Items.{checkBoard}
+use Rattle.description_board.specs.Items.{boardRefusal}
 use Rattle.description_board.proofs.Accepted.{accepted-legal}
 use Rattle.fabric_bytes.specs.Bytes.{Store, bufferLength}
 use Rattle.fabric_state.specs.declared.State.{State}
@@ -34,14 +34,14 @@ pub record Sized (st : State) : Type 0 where
   pub slots : length (st .slots) ≡ 16
 
 module _ (b : Board) (st : State) (d : Store) (e : clockRefusal b st d ≡ 0) where
-  pub accepted-board : checkBoard b ≡ 0
+  pub accepted-board : boardRefusal b ≡ 0
   unfolding clockRefusal
-  accepted-board = passed-number (checkBoard b) _ e .0
+  accepted-board = passed-number (boardRefusal b) _ e .0
 
   pub keeps-rules : sound b st ≡ true
   unfolding clockRefusal
   keeps-rules =
-      let p = passed-number (checkBoard b) _ e in
+      let p = passed-number (boardRefusal b) _ e in
       let memory = eqb (length (d .memory)) (memoryLength b) in
       let buffer = eqb (length (d .buffer)) bufferLength in
       let q = passed (not memory || not buffer) 7 _ (p .1) in

@@ -8,15 +8,15 @@ use lib.ListN.{length}
 use Rattle.description_board.specs.declared.Master.{Master}
 use Rattle.description_board.specs.declared.Board.{Board}
 use Rattle.description_board.specs.Records.{masterAt, memoryLength}
-use Rattle.description_board.specs.Items.{checkBoard}
+use Rattle.description_board.specs.Items.{boardRefusal}
 use Rattle.fabric_accesses.specs.declared.Transfer.{Transfer}
-use Rattle.fabric_bytes.specs.Bytes.{Store, bufferLength, posted}
+use Rattle.fabric_bytes.specs.Bytes.{Store, bufferLength, postedWords}
 use Rattle.fabric_state.specs.declared.State.{State}
 use Rattle.fabric.specs.declared.Started.{Started}
 use Rattle.fabric.specs.declared.Posted.{Posted}
 use Rattle.fabric_state.specs.declared.Clocked.{Clocked}
 use Rattle.fabric_state.specs.Records.{noState, transferAt}
-use Rattle.fabric_state.specs.Posting.{Request, transferOf, transferRefusal, stateWith}
+use Rattle.fabric_state.specs.Posting.{Request, transferOf, transferRefusal, withTransfer}
 use Rattle.fabric_state.specs.Resetting.{stateAtReset}
 use Rattle.fabric_state.specs.Soundness.{sound}
 use Rattle.fabric_state.specs.Clocking.{clockedOf, refusedClock}
@@ -24,7 +24,7 @@ use Rattle.fabric_state.specs.Carrying.{storeAfter}
 
 -- what `reset` answers; "memory and buffer are not touched"
 unfoldable pub reset : Board → Started
-reset b = record { number = checkBoard b; state = cond (eqb (checkBoard b) 0) (stateAtReset b) noState }
+reset b = record { number = boardRefusal b; state = cond (eqb (boardRefusal b) 0) (stateAtReset b) noState }
 
 -- 18: "data not beats × width bytes (0 for a read)"
 unfoldable pub wrongWords : Master → Transfer → ℕ → Bool
@@ -36,9 +36,9 @@ requestRefusal b m t bytes =
     cond (not (eqb (transferRefusal b m t) 0)) (transferRefusal b m t) (cond (wrongWords (masterAt b m) t bytes) 18 0)
 
 -- the refusal of its post, or 0, with a buffer of `room` bytes: "A call checks in rising order"
-unfoldable pub refusalBy : Board → State → ℕ → ℕ → Transfer → ℕ → ℕ
-refusalBy b st room m t bytes =
-    cond (not (eqb (checkBoard b) 0)) (checkBoard b)
+unfoldable pub postRefusalBy : Board → State → ℕ → ℕ → Transfer → ℕ → ℕ
+postRefusalBy b st room m t bytes =
+    cond (not (eqb (boardRefusal b) 0)) (boardRefusal b)
     (cond (not (eqb room bufferLength)) 8
     (cond (not (sound b st)) 9
     (cond (leb (b .«master_count») m) 11
@@ -47,24 +47,24 @@ refusalBy b st room m t bytes =
 
 -- the refusal of a post, or 0
 unfoldable pub postRefusal : Board → State → List ℕ → Request → ℕ
-postRefusal b st buffer q = refusalBy b st (length buffer) (q .master) (transferOf q) (length (q .words))
+postRefusal b st buffer q = postRefusalBy b st (length buffer) (q .master) (transferOf q) (length (q .words))
 
 -- what `post` answers: "the state stay[s] unchanged" on a refusal
 unfoldable pub post : Board → State → List ℕ → Request → Posted
 post b st buffer q = record {
   number = postRefusal b st buffer q;
-  state = cond (eqb (postRefusal b st buffer q) 0) (stateWith st (q .master) (transferOf q)) st;
+  state = cond (eqb (postRefusal b st buffer q) 0) (withTransfer st (q .master) (transferOf q)) st;
 }
 
 -- the lent buffer after a post
 unfoldable pub bufferAfterPost : Board → State → List ℕ → Request → List ℕ
 bufferAfterPost b st buffer q =
-    cond (eqb (postRefusal b st buffer q) 0) (posted (q .master) (q .words) buffer) buffer
+    cond (eqb (postRefusal b st buffer q) 0) (postedWords (q .master) (q .words) buffer) buffer
 
 -- the refusal of a clock, or 0. 8: "memory or buffer not of its exact length"
 unfoldable pub clockRefusal : Board → State → Store → ℕ
 clockRefusal b st d =
-    cond (not (eqb (checkBoard b) 0)) (checkBoard b)
+    cond (not (eqb (boardRefusal b) 0)) (boardRefusal b)
     (cond (not (eqb (length (d .memory)) (memoryLength b)) || not (eqb (length (d .buffer)) bufferLength)) 8
     (cond (not (sound b st)) 9
     0))

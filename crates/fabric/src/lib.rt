@@ -6,12 +6,12 @@ ghost use mathlib.Core.Path.{_≡_};
 ghost use mathlib.Core.Bool.{cond};
 ghost use Prim.Native.Nat.{_*_, _≤_, _<_};
 ghost use lib.ListN.{length};
-ghost use Rattle.description_board.specs.Items.{checkBoard};
+ghost use Rattle.description_board.specs.Items.{boardRefusal};
 ghost use Rattle.description_board.specs.Records.{memoryLength};
 ghost use Rattle.description_layout.specs.Layout.{boardIn};
 ghost use Rattle.fabric_layout.specs.Layout.{stateIn};
-ghost use Rattle.fabric.specs.Calls.{requestRefusal, refusalBy};
-ghost use Rattle.fabric.specs.Requests.{request, clockRefusalBy};
+ghost use Rattle.fabric.specs.Calls.{requestRefusal, postRefusalBy};
+ghost use Rattle.fabric.specs.Code.Requests.{request, clockRefusalBy};
 ghost use Rattle.fabric.specs.Lent.{Resets, Posts, Clocks, Runs};
 
 // What the definitions of reset and post answer. The calls are lent the state, and answer the number alone.
@@ -42,7 +42,7 @@ pub struct Ran {
 pub fn reset(board: &[u32; 242], state: &mut [u32; 120]) -> u32
     ensures { λ r. ⌜ Resets (boardIn (now (board .entry))) (now (state .entry)) (now (state .exit)) r ⌝ }
 {
-    let number = description_check::refusal(board);
+    let number = description_check::board_refusal(board);
     if number != 0 {
         return number;
     }
@@ -64,10 +64,10 @@ fn words_length(ma: Master, t: Transfer) -> u64
 
 // What the transfer t of master m, with `length` bytes of words, is refused for, or 0: whoever holds what.
 fn request_refusal(board: &[u32; 242], m: usize, t: Transfer, length: usize) -> u32
-    requires { ⌜ (checkBoard (boardIn (now board)) ≡ 0) × (m < boardIn (now board) .«master_count») ⌝ }
+    requires { ⌜ (boardRefusal (boardIn (now board)) ≡ 0) × (m < boardIn (now board) .«master_count») ⌝ }
     ensures { λ r. ⌜ r ≡ requestRefusal (boardIn (now (board .entry))) m t length ⌝ }
 {
-    let number = fabric_check::refusal_of(board, m, t);
+    let number = fabric_check::transfer_refusal(board, m, t);
     if number != 0 {
         return number;
     }
@@ -79,7 +79,7 @@ fn request_refusal(board: &[u32; 242], m: usize, t: Transfer, length: usize) -> 
 }
 
 // What a post is refused for, or 0: of the transfer t by master m, with a buffer of `room` bytes and `length` bytes of words.
-fn post_refusal(
+fn post_refusal_by(
     board: &[u32; 242],
     state: &[u32; 120],
     room: usize,
@@ -87,7 +87,7 @@ fn post_refusal(
     t: Transfer,
     length: usize,
 ) -> u32
-    ensures { λ r. ⌜ r ≡ refusalBy (boardIn (now (board .entry))) (stateIn (now (state .entry))) room m t length ⌝ }
+    ensures { λ r. ⌜ r ≡ postRefusalBy (boardIn (now (board .entry))) (stateIn (now (state .entry))) room m t length ⌝ }
 {
     let mut targets = [0u32; 8];
     let checked = fabric_check::ready(board, state, &mut targets);
@@ -132,7 +132,7 @@ pub fn post(
         lanes: lanes,
         beats: beats,
     };
-    let number = post_refusal(board, state, buffer.len(), master, t, words.len());
+    let number = post_refusal_by(board, state, buffer.len(), master, t, words.len());
     if number != 0 {
         return number;
     }
@@ -143,7 +143,13 @@ pub fn post(
 }
 
 // What a clock is refused for, or 0: by the board's number, whether the state breaks no rule, and the bytes lent.
-fn clock_refusal(board: &[u32; 242], number: u32, sound: bool, memory: usize, buffer: usize) -> u32
+fn clock_refusal_by(
+    board: &[u32; 242],
+    number: u32,
+    sound: bool,
+    memory: usize,
+    buffer: usize,
+) -> u32
     requires { ⌜ (number ≡ 0 → boardIn (now board) .«slave_count» ≤ 16) ⌝ }
     ensures { λ r. ⌜ r ≡ clockRefusalBy number (memoryLength (boardIn (now (board .entry)))) sound memory buffer ⌝ }
 {
@@ -151,7 +157,7 @@ fn clock_refusal(board: &[u32; 242], number: u32, sound: bool, memory: usize, bu
         return number;
     }
     let count = description_layout::slave_count(board) as usize;
-    let room = description_rules::span_total(board, count, 0);
+    let room = description_rules::total_span(board, count, 0);
     if memory as u64 != room {
         return 8;
     }
@@ -175,7 +181,7 @@ pub fn clock(
 {
     let mut targets = [0u32; 8];
     let checked = fabric_check::ready(board, state, &mut targets);
-    let number = clock_refusal(
+    let number = clock_refusal_by(
         board,
         checked.number,
         checked.sound,
@@ -183,7 +189,7 @@ pub fn clock(
         buffer.len(),
     );
     if number != 0 {
-        fabric_layout::clear_lines(lines, 0);
+        fabric_layout::first_lines(lines, 0);
         return Answer {
             number: number,
             mask: 0,
@@ -224,14 +230,14 @@ pub fn run(
 {
     let mut targets = [0u32; 8];
     let checked = fabric_check::ready(board, state, &mut targets);
-    let number = clock_refusal(
+    let number = clock_refusal_by(
         board,
         checked.number,
         checked.sound,
         memory.len(),
         buffer.len(),
     );
-    fabric_layout::clear_lines(lines, 0);
+    fabric_layout::first_lines(lines, 0);
     if number != 0 {
         return run_answer(number, 0, 0);
     }

@@ -13,7 +13,7 @@ use Rattle.description_board.specs.declared.Master.{Master}
 use Rattle.description_board.specs.declared.Slave.{Slave}
 use Rattle.description_board.specs.Rules.{widths, bursts}
 use Rattle.description_board.specs.Legal.{LegalMaster, LegalSlave}
-use Rattle.fabric_accesses.specs.Pairs.{Widths, LegalPair}
+use Rattle.fabric_accesses.specs.Code.Pairs.{Widths, LegalPair}
 
 -- a mask below a width
 pub over-width : (n width : ℕ) → member width widths ≡ true → bitAnd n (width - 1) ≡ n % width

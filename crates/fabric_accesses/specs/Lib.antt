@@ -1,4 +1,4 @@
 pub mod Decoding
 pub mod Accesses
 pub mod Runs
-pub mod Pairs
+pub mod Code

@@ -11,7 +11,7 @@ ghost use Rattle.fabric_accesses.specs.Decoding.{agrees, Span};
 ghost use Rattle.fabric_accesses.specs.Accesses.{ratio, accesses, accessBytes, firstByte, accessOffset, wordOffset};
 ghost use Rattle.fabric_accesses.specs.Accesses.{writeLanes, slaveLanes, InWord, waitOf, ownLength};
 ghost use Rattle.fabric_accesses.specs.Runs.{runLimit, placeOf, runOf};
-ghost use Rattle.fabric_accesses.specs.Pairs.{Widths, LegalPair};
+ghost use Rattle.fabric_accesses.specs.Code.Pairs.{Widths, LegalPair};
 
 // What a master posted. Where `held` is false the master is idle and the other fields say nothing; a reset and a finish leave
 // the zero record.
@@ -55,7 +55,7 @@ fn above_span(n: u32, span: u32) -> u32
 }
 
 // Whether an address agrees with the slave's base above the span.
-pub fn address_agrees(sl: Slave, address: u32) -> bool
+pub fn agrees(sl: Slave, address: u32) -> bool
     requires { ⌜ Span (sl .span) ⌝ }
     ensures { λ r. ⌜ r ≡ agrees sl address ⌝ }
 {
@@ -63,7 +63,7 @@ pub fn address_agrees(sl: Slave, address: u32) -> bool
 }
 
 // The bytes of one access.
-pub fn access_width(ma: Master, sl: Slave) -> u32
+pub fn access_bytes(ma: Master, sl: Slave) -> u32
     ensures { λ r. ⌜ r ≡ accessBytes ma sl ⌝ }
 {
     if ma.width <= sl.width {
@@ -74,20 +74,20 @@ pub fn access_width(ma: Master, sl: Slave) -> u32
 }
 
 // The accesses of one beat.
-pub fn width_ratio(ma: Master, sl: Slave) -> u32
+pub fn ratio(ma: Master, sl: Slave) -> u32
     requires { ⌜ Widths ma sl ⌝ }
     ensures { λ r. ⌜ r ≡ ratio ma sl ⌝ }
 {
-    let bytes = access_width(ma, sl);
+    let bytes = access_bytes(ma, sl);
     quotient(ma.width, bytes)
 }
 
 // The accesses of a transfer.
-pub fn access_count(ma: Master, sl: Slave, t: Transfer) -> u64
+pub fn accesses(ma: Master, sl: Slave, t: Transfer) -> u64
     requires { ⌜ Widths ma sl ⌝ }
     ensures { λ r. ⌜ r ≡ accesses ma sl t ⌝ }
 {
-    let each = width_ratio(ma, sl);
+    let each = ratio(ma, sl);
     (t.beats as u64) * (each as u64)
 }
 
@@ -95,7 +95,7 @@ pub fn access_count(ma: Master, sl: Slave, t: Transfer) -> u64
 pub fn first_byte(ma: Master, sl: Slave, a: u32) -> u64
     ensures { λ r. ⌜ r ≡ firstByte ma sl a ⌝ }
 {
-    let bytes = access_width(ma, sl);
+    let bytes = access_bytes(ma, sl);
     (a as u64) * (bytes as u64)
 }
 
@@ -123,7 +123,7 @@ fn write_lanes(ma: Master, sl: Slave, t: Transfer, a: u32) -> u32
     requires { ⌜ (Widths ma sl) × (InWord ma sl t a) ⌝ }
     ensures { λ r. ⌜ r ≡ writeLanes ma sl t a ⌝ }
 {
-    let bytes = access_width(ma, sl);
+    let bytes = access_bytes(ma, sl);
     let first = first_byte(ma, sl, a);
     let at = access_offset(ma, sl, t, a);
     let from = over_width(first, ma.width);
@@ -133,7 +133,7 @@ fn write_lanes(ma: Master, sl: Slave, t: Transfer, a: u32) -> u32
 }
 
 // The slave's lanes in access a: a read fetches the whole slave word.
-pub fn lanes_of(ma: Master, sl: Slave, t: Transfer, a: u32) -> u32
+pub fn slave_lanes(ma: Master, sl: Slave, t: Transfer, a: u32) -> u32
     requires { ⌜ (Widths ma sl) × (InWord ma sl t a) ⌝ }
     ensures { λ r. ⌜ r ≡ slaveLanes ma sl t a ⌝ }
 {
@@ -155,7 +155,7 @@ pub fn own_length(ma: Master, sl: Slave, t: Transfer) -> u64
     requires { ⌜ (Widths ma sl) × (waitOf sl t ≤ 255) ⌝ }
     ensures { λ r. ⌜ r ≡ ownLength ma sl t ⌝ }
 {
-    let count = access_count(ma, sl, t);
+    let count = accesses(ma, sl, t);
     let wait = wait_of(sl, t);
     count * (1 + wait as u64)
 }
@@ -184,7 +184,7 @@ pub fn run_of(ma: Master, sl: Slave, t: Transfer, a: u32) -> u32
     let limit = run_limit(ma, sl);
     let place = place_of(ma, sl, a);
     let start = a - place;
-    let total = access_count(ma, sl, t);
+    let total = accesses(ma, sl, t);
     let rest = difference(total, start as u64);
     if (limit as u64) <= rest {
         limit

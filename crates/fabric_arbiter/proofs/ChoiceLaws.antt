@@ -6,7 +6,7 @@ use Prim.Native.Nat.{ℕ, zero, suc, _-_}
 use native.Mathlib.Omega.{arith}
 use Rattle.fabric_arbiter.specs.declared.Choice.{Choice}
 use Rattle.fabric_arbiter.specs.declared.Choice.the-variants.{Requester, Nobody}
-use Rattle.fabric_arbiter.specs.Choosing.{above, tried}
+use Rattle.fabric_arbiter.specs.Choosing.{nextMaster, tried}
 
 module _ (requests : ℕ → Bool) (n m : ℕ) where
   pub tried-none : (k : ℕ) → k ≡ 0 → tried requests n m k ≡ Nobody
@@ -18,7 +18,7 @@ module _ (requests : ℕ → Bool) (n m : ℕ) where
   tried-found zero ne q = absurd (ne refl)
   tried-found (suc k) ne q = rw q
 
-  pub tried-on : (k : ℕ) → (k ≡ 0 → ⊥) → requests m ≡ false → tried requests n m k ≡ tried requests n (above n m) (k - 1)
+  pub tried-on : (k : ℕ) → (k ≡ 0 → ⊥) → requests m ≡ false → tried requests n m k ≡ tried requests n (nextMaster n m) (k - 1)
   unfolding tried
   tried-on zero ne q = absurd (ne refl)
   tried-on (suc k) ne q =
@@ -27,10 +27,10 @@ module _ (requests : ℕ → Bool) (n m : ℕ) where
 
 -- a turn of the loop: x is the whole search, m the master tried last, m′ the next, left how many are left to try
 module _
-    (requests : ℕ → Bool) (n m m′ left : ℕ) (x : Choice) (rest : x ≡ tried requests n (above n m) left)
-    (more : left ≡ 0 → ⊥) (next : m′ ≡ above n m)
+    (requests : ℕ → Bool) (n m m′ left : ℕ) (x : Choice) (rest : x ≡ tried requests n (nextMaster n m) left)
+    (more : left ≡ 0 → ⊥) (next : m′ ≡ nextMaster n m)
   where
-    pub turn-on : requests m′ ≡ false → x ≡ tried requests n (above n m′) (left - 1)
+    pub turn-on : requests m′ ≡ false → x ≡ tried requests n (nextMaster n m′) (left - 1)
     turn-on q = cc (tried-on requests n m′ left more q)
 
     pub turn-found : requests m′ ≡ true → Requester m′ ≡ x

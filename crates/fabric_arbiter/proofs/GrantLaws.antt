@@ -15,22 +15,22 @@ use Rattle.fabric_arbiter.specs.declared.Winner.{Winner}
 use Rattle.fabric_arbiter.specs.declared.Winner.the-variants.{Again, First, NoOne}
 use Rattle.fabric_arbiter.specs.declared.Grant.{Grant}
 use Rattle.fabric_arbiter.specs.declared.Grant.the-variants.{Granted, Silent}
-use Rattle.fabric_arbiter.specs.Choosing.{above, tried, chosen}
+use Rattle.fabric_arbiter.specs.Choosing.{nextMaster, tried, firstRequester}
 use Rattle.fabric_arbiter.specs.Granting.{kept, grantTo, granted, arbiterAfter}
-use Rattle.fabric_arbiter.specs.Winning.{firstOf, winner, grantBy}
+use Rattle.fabric_arbiter.specs.Code.Winning.{firstOf, winnerOf, grantBy}
 
 -- ---- who is granted
 
 none-tried : (requests : ℕ → Bool) → ((m : ℕ) → requests m ≡ false) → (n m k : ℕ) → tried requests n m k ≡ Nobody
 unfolding tried
 none-tried requests f n m zero = refl
-none-tried requests f n m (suc k) = rw (f m) (none-tried requests f n (above n m) k)
+none-tried requests f n m (suc k) = rw (f m) (none-tried requests f n (nextMaster n m) k)
 
-pub none-requests : (n requests : ℕ) (a : Arbiter) → requests ≡ 0 → NoOne ≡ winner n (bit requests) a
-unfolding winner chosen firstOf
+pub none-requests : (n requests : ℕ) (a : Arbiter) → requests ≡ 0 → NoOne ≡ winnerOf n (bit requests) a
+unfolding winnerOf firstRequester firstOf
 none-requests n requests a e =
     let none : (m : ℕ) → bit 0 m ≡ false = λ m. bit-above 0 0 m (omega arith) (omega arith) in
-    rw (e, none (a .owner), none-tried (bit 0) none n (above n (a .owner)) n, firstOf)
+    rw (e, none (a .owner), none-tried (bit 0) none n (nextMaster n (a .owner)) n, firstOf)
 
 module _ (n : ℕ) (requests : ℕ → Bool) (a : Arbiter) where
   -- the last owner is not granted again
@@ -45,13 +45,13 @@ module _ (n : ℕ) (requests : ℕ → Bool) (a : Arbiter) where
   unfolding PassedOver
   owner-silent h = rw h
 
-  pub owner-again : requests (a .owner) ≡ true → 0 < a .remaining → Again ≡ winner n requests a
-  unfolding winner
+  pub owner-again : requests (a .owner) ≡ true → 0 < a .remaining → Again ≡ winnerOf n requests a
+  unfolding winnerOf
   owner-again q h = rw (q, lt-ltb _ _ h)
 
-  pub search-wins : (c : Choice) (w : Winner) → PassedOver → c ≡ chosen requests n (a .owner) → w ≡ firstOf c
-      → w ≡ winner n requests a
-  unfolding winner PassedOver
+  pub search-wins : (c : Choice) (w : Winner) → PassedOver → c ≡ firstRequester requests n (a .owner) → w ≡ firstOf c
+      → w ≡ winnerOf n requests a
+  unfolding winnerOf PassedOver
   search-wins c w p e f = rw (p, ← e, f)
 
 pub first-requester : {c : Choice} {m : ℕ} → c ≡ Requester m → First m ≡ firstOf c
@@ -89,7 +89,7 @@ after-silent a g e = rw e
 -- ---- both steps together are rule 1
 
 module _ (n : ℕ) (requests : ℕ → Bool) (shares beats : ℕ → ℕ) (a : Arbiter) where
-  -- a winner w, and the grant that the rule gives
+  -- a winnerOf w, and the grant that the rule gives
   Rules : Winner → Grant → Type 0
   Rules w g = (y x : ℕ) → (w ≡ Again → x ≡ beats (a .owner)) → ((m : ℕ) → w ≡ First m → (y ≡ shares m) × (x ≡ beats m))
       → grantBy a w y x ≡ g
@@ -103,19 +103,19 @@ module _ (n : ℕ) (requests : ℕ → Bool) (shares beats : ℕ → ℕ) (a : A
   unfolding Rules grantBy
   again-rules y x f g = rw (f refl)
 
-  winner-rules : Rules (winner n requests a) (granted n requests shares beats a)
-  unfolding winner granted
+  winner-rules : Rules (winnerOf n requests a) (granted n requests shares beats a)
+  unfolding winnerOf granted
   winner-rules = go (requests (a .owner) && ltb 0 (a .remaining))
     where
       go : (c : Bool)
-          → Rules (cond c Again (firstOf (chosen requests n (a .owner))))
+          → Rules (cond c Again (firstOf (firstRequester requests n (a .owner))))
           (cond c (Granted (a .owner) (kept (beats (a .owner)) (a .remaining - 1)))
-          (grantTo shares beats (chosen requests n (a .owner))))
+          (grantTo shares beats (firstRequester requests n (a .owner))))
       go true = again-rules
-      go false = first-rules (chosen requests n (a .owner))
+      go false = first-rules (firstRequester requests n (a .owner))
 
-  -- the grant of whoever is chosen, by the shares y and the beats x of that master, is the one of rule 1
-  module _ {w : Winner} (e : w ≡ winner n requests a) where
+  -- the grant of whoever is firstRequester, by the shares y and the beats x of that master, is the one of rule 1
+  module _ {w : Winner} (e : w ≡ winnerOf n requests a) where
     wins : (y x : ℕ) → (w ≡ Again → x ≡ beats (a .owner)) → ((m : ℕ) → w ≡ First m → (y ≡ shares m) × (x ≡ beats m))
         → grantBy a w y x ≡ granted n requests shares beats a
     unfolding Rules

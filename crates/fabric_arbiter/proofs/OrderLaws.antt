@@ -13,12 +13,12 @@ use Rattle.fabric_arbiter.specs.declared.Choice.{Choice}
 use Rattle.fabric_arbiter.specs.declared.Choice.the-variants.{Requester, Nobody}
 use Rattle.fabric_arbiter.specs.declared.Winner.the-variants.{Again, First}
 use Rattle.fabric_arbiter.specs.declared.Grant.the-variants.{Granted}
-use Rattle.fabric_arbiter.specs.Choosing.{above, tried, chosen}
+use Rattle.fabric_arbiter.specs.Choosing.{nextMaster, tried, firstRequester}
 use Rattle.fabric_arbiter.specs.Granting.{kept, grantTo, granted}
-use Rattle.fabric_arbiter.specs.Winning.{firstOf, winner}
+use Rattle.fabric_arbiter.specs.Code.Winning.{firstOf, winnerOf}
 
-pub above-lt : (n m : ℕ) → 0 < n → above n m < n
-unfolding above
+pub above-lt : (n m : ℕ) → 0 < n → nextMaster n m < n
+unfolding nextMaster
 above-lt n m h = go (ltb (m + 1) n) refl
   where
     go : (c : Bool) → ltb (m + 1) n ≡ c → cond c (m + 1) 0 < n
@@ -38,24 +38,24 @@ pub tried-asks : (requests : ℕ → Bool) (n k m j : ℕ) → m < n → tried r
 unfolding tried
 tried-asks requests n zero m j h e = let z : _≡_ {A = ℕ} 0 1 = cc in absurd (omega arith)
 tried-asks requests n (suc k) m j h e =
-    go (requests m) refl (tried-asks requests n k (above n m) j (above-lt n m (omega arith)))
+    go (requests m) refl (tried-asks requests n k (nextMaster n m) j (above-lt n m (omega arith)))
   where
     go : (c : Bool) → requests m ≡ c
-        → (tried requests n (above n m) k ≡ Requester j → (requests j ≡ true) × (j < n)) → (requests j ≡ true) × (j < n)
+        → (tried requests n (nextMaster n m) k ≡ Requester j → (requests j ≡ true) × (j < n)) → (requests j ≡ true) × (j < n)
     go true q f = let i : m ≡ j = cc in (cc, omega arith)
     go false q f = f (rw (q, tried) at e)
 
-pub chosen-asks : (requests : ℕ → Bool) (n owner j : ℕ) → chosen requests n owner ≡ Requester j
+pub chosen-asks : (requests : ℕ → Bool) (n owner j : ℕ) → firstRequester requests n owner ≡ Requester j
     → (requests j ≡ true) × (j < n)
-unfolding chosen tried
+unfolding firstRequester tried
 chosen-asks requests zero owner j e = let z : _≡_ {A = ℕ} 0 1 = cc in absurd (omega arith)
 chosen-asks requests (suc n) owner j e =
-    tried-asks requests (suc n) (suc n) (above (suc n) owner) j (above-lt (suc n) owner (omega arith)) e
+    tried-asks requests (suc n) (suc n) (nextMaster (suc n) owner) j (above-lt (suc n) owner (omega arith)) e
 
 -- whoever is to be granted requests
 module _ (n : ℕ) (requests : ℕ → Bool) (a : Arbiter) where
-  pub winner-again : winner n requests a ≡ Again → requests (a .owner) ≡ true
-  unfolding winner firstOf
+  pub winner-again : winnerOf n requests a ≡ Again → requests (a .owner) ≡ true
+  unfolding winnerOf firstOf
   winner-again e = go (requests (a .owner) && ltb 0 (a .remaining)) refl
     where
       none : (c : Choice) → firstOf c ≡ Again → requests (a .owner) ≡ true
@@ -64,19 +64,19 @@ module _ (n : ℕ) (requests : ℕ → Bool) (a : Arbiter) where
 
       go : (c : Bool) → (requests (a .owner) && ltb 0 (a .remaining)) ≡ c → requests (a .owner) ≡ true
       go true q = both (requests (a .owner)) (ltb 0 (a .remaining)) q .0
-      go false q = none (chosen requests n (a .owner)) (rw (q, winner) at e)
+      go false q = none (firstRequester requests n (a .owner)) (rw (q, winnerOf) at e)
 
-  pub winner-first : (j : ℕ) → winner n requests a ≡ First j → (requests j ≡ true) × (j < n)
-  unfolding winner firstOf
+  pub winner-first : (j : ℕ) → winnerOf n requests a ≡ First j → (requests j ≡ true) × (j < n)
+  unfolding winnerOf firstOf
   winner-first j e = go (requests (a .owner) && ltb 0 (a .remaining)) refl
     where
-      found : (c : Choice) → chosen requests n (a .owner) ≡ c → firstOf c ≡ First j → (requests j ≡ true) × (j < n)
+      found : (c : Choice) → firstRequester requests n (a .owner) ≡ c → firstOf c ≡ First j → (requests j ≡ true) × (j < n)
       found (Requester m) q f = let i : m ≡ j = cc in chosen-asks requests n (a .owner) j (rw i at q)
       found Nobody q f = let z : _≡_ {A = ℕ} 0 1 = cc in absurd (omega arith)
 
       go : (c : Bool) → (requests (a .owner) && ltb 0 (a .remaining)) ≡ c → (requests j ≡ true) × (j < n)
-      go true q = let f : Again ≡ First j = rw (q, winner) at e in let z : _≡_ {A = ℕ} 0 1 = cc in absurd (omega arith)
-      go false q = found (chosen requests n (a .owner)) refl (rw (q, winner) at e)
+      go true q = let f : Again ≡ First j = rw (q, winnerOf) at e in let z : _≡_ {A = ℕ} 0 1 = cc in absurd (omega arith)
+      go false q = found (firstRequester requests n (a .owner)) refl (rw (q, winnerOf) at e)
 
 -- a grant looks at the beats of a requester alone
 pub granted-agree : (n : ℕ) (requests : ℕ → Bool) (shares beats others : ℕ → ℕ) (a : Arbiter)
@@ -85,17 +85,17 @@ pub granted-agree : (n : ℕ) (requests : ℕ → Bool) (shares beats others : �
 unfolding granted grantTo
 granted-agree n requests shares beats others a same = go (requests (a .owner) && ltb 0 (a .remaining)) refl
   where
-    another : (c : Choice) → chosen requests n (a .owner) ≡ c → grantTo shares beats c ≡ grantTo shares others c
+    another : (c : Choice) → firstRequester requests n (a .owner) ≡ c → grantTo shares beats c ≡ grantTo shares others c
     another (Requester m) e = rw (same m (chosen-asks requests n (a .owner) m e .0))
     another Nobody e = refl
 
     go : (c : Bool) → (requests (a .owner) && ltb 0 (a .remaining)) ≡ c
         → cond c (Granted (a .owner) (kept (beats (a .owner)) (a .remaining - 1)))
-        (grantTo shares beats (chosen requests n (a .owner)))
+        (grantTo shares beats (firstRequester requests n (a .owner)))
         ≡ cond c (Granted (a .owner) (kept (others (a .owner)) (a .remaining - 1)))
-        (grantTo shares others (chosen requests n (a .owner)))
+        (grantTo shares others (firstRequester requests n (a .owner)))
     go true q = rw (same (a .owner) (both (requests (a .owner)) (ltb 0 (a .remaining)) q .0))
-    go false q = another (chosen requests n (a .owner)) refl
+    go false q = another (firstRequester requests n (a .owner)) refl
 
 -- master j is granted, and r grants remain to it
 pub record Grants (n : ℕ) (requests : ℕ → Bool) (shares : ℕ → ℕ) (j r : ℕ) : Type 0 where
@@ -128,7 +128,7 @@ module _
           left = ⊎-elim (λ (e : a .remaining ≡ 0). omega arith) (λ (e : a .remaining < shares (a .owner)). omega arith) less;
         }
 
-    another : (c : Choice) (j r : ℕ) → chosen requests n (a .owner) ≡ c → grantTo shares beats c ≡ Granted j r
+    another : (c : Choice) (j r : ℕ) → firstRequester requests n (a .owner) ≡ c → grantTo shares beats c ≡ Granted j r
         → Grants n requests shares j r
     unfolding grantTo
     another (Requester m) j r e g =
@@ -144,4 +144,4 @@ module _
       where
         go : (c : Bool) → (requests (a .owner) && ltb 0 (a .remaining)) ≡ c → Grants n requests shares j r
         go true q = grants-same n requests shares (a .owner) _ j r (rw (q, granted) at g) (again q)
-        go false q = another (chosen requests n (a .owner)) j r refl (rw (q, granted) at g)
+        go false q = another (firstRequester requests n (a .owner)) j r refl (rw (q, granted) at g)

@@ -6,15 +6,15 @@ use lib.Dec.{ltb}
 use Rattle.fabric_arbiter.specs.declared.Choice.{Choice}
 use Rattle.fabric_arbiter.specs.declared.Choice.the-variants.{Requester, Nobody}
 
--- the master above m, round past the highest of n
-unfoldable pub above : ℕ → ℕ → ℕ
-above n m = cond (ltb (m + 1) n) (m + 1) 0
+-- the master nextMaster m, round past the highest of n
+unfoldable pub nextMaster : ℕ → ℕ → ℕ
+nextMaster n m = cond (ltb (m + 1) n) (m + 1) 0
 
 -- the first requester among k masters, from m upward, round past the highest of n
 unfoldable pub tried : (ℕ → Bool) → ℕ → ℕ → ℕ → Choice
 tried requests n m zero = Nobody
-tried requests n m (suc k) = cond (requests m) (Requester m) (tried requests n (above n m) k)
+tried requests n m (suc k) = cond (requests m) (Requester m) (tried requests n (nextMaster n m) k)
 
 -- the first requester upward from the last owner, the last owner last
-unfoldable pub chosen : (ℕ → Bool) → ℕ → ℕ → Choice
-chosen requests n owner = tried requests n (above n owner) n
+unfoldable pub firstRequester : (ℕ → Bool) → ℕ → ℕ → Choice
+firstRequester requests n owner = tried requests n (nextMaster n owner) n

@@ -8,7 +8,7 @@ use Rattle.fabric_arbiter.specs.declared.Choice.{Choice}
 use Rattle.fabric_arbiter.specs.declared.Choice.the-variants.{Requester, Nobody}
 use Rattle.fabric_arbiter.specs.declared.Grant.{Grant}
 use Rattle.fabric_arbiter.specs.declared.Grant.the-variants.{Granted, Silent}
-use Rattle.fabric_arbiter.specs.Choosing.{chosen}
+use Rattle.fabric_arbiter.specs.Choosing.{firstRequester}
 
 -- "A granted burst of two or more beats sets remaining to 0."
 unfoldable pub kept : ℕ → ℕ → ℕ
@@ -24,7 +24,7 @@ unfoldable pub granted : ℕ → (ℕ → Bool) → (ℕ → ℕ) → (ℕ → �
 granted n requests shares beats a =
     cond (requests (a .owner) && ltb 0 (a .remaining))
     (Granted (a .owner) (kept (beats (a .owner)) (a .remaining - 1)))
-    (grantTo shares beats (chosen requests n (a .owner)))
+    (grantTo shares beats (firstRequester requests n (a .owner)))
 
 -- "The granted master is the last owner from then on."; "With none, remaining becomes 0."
 unfoldable pub arbiterAfter : Arbiter → Grant → Arbiter

@@ -1,3 +1,3 @@
 pub mod Choosing
 pub mod Granting
-pub mod Winning
+pub mod Code

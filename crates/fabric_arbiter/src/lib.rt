@@ -2,9 +2,9 @@
 ghost use mathlib.Core.Path.{_≡_};
 ghost use Prim.Native.Nat.{_-_};
 ghost use Rattle.common_laws.specs.Bits.{bit};
-ghost use Rattle.fabric_arbiter.specs.Choosing.{above, chosen};
+ghost use Rattle.fabric_arbiter.specs.Choosing.{nextMaster, firstRequester};
 ghost use Rattle.fabric_arbiter.specs.Granting.{kept, arbiterAfter};
-ghost use Rattle.fabric_arbiter.specs.Winning.{winner, grantBy};
+ghost use Rattle.fabric_arbiter.specs.Code.Winning.{winnerOf, grantBy};
 
 // What a slave remembers of its grants: the last owner, and the grants remaining to it.
 pub struct Arbiter {
@@ -41,9 +41,9 @@ fn is_requesting(requests: u32, m: u32) -> bool
     (requests >> m) % 2 == 1
 }
 
-// The master above m, round past the highest of n.
+// The master nextMaster m, round past the highest of n.
 fn next_master(n: u32, m: u32) -> u32
-    ensures { λ r. ⌜ r ≡ above n m ⌝ }
+    ensures { λ r. ⌜ r ≡ nextMaster n m ⌝ }
 {
     if n <= m {
         return 0;
@@ -54,7 +54,7 @@ fn next_master(n: u32, m: u32) -> u32
 
 // Masters are tried upward from the last owner, round past the highest, the last owner last.
 fn first_requester(requests: u32, n: u32, owner: u32) -> Choice
-    ensures { λ r. ⌜ r ≡ chosen (bit requests) n owner ⌝ }
+    ensures { λ r. ⌜ r ≡ firstRequester (bit requests) n owner ⌝ }
 {
     let mut m = owner;
     let mut left = n;
@@ -72,8 +72,8 @@ fn first_requester(requests: u32, n: u32, owner: u32) -> Choice
 }
 
 // Who is granted a slave that is not serving. Most slaves of a large board are idle: an empty mask is not searched.
-pub fn choose(n: u32, requests: u32, a: Arbiter) -> Winner
-    ensures { λ r. ⌜ r ≡ winner n (bit requests) a ⌝ }
+pub fn winner_of(n: u32, requests: u32, a: Arbiter) -> Winner
+    ensures { λ r. ⌜ r ≡ winnerOf n (bit requests) a ⌝ }
 {
     if requests == 0 {
         return Winner::NoOne;
@@ -91,7 +91,7 @@ pub fn choose(n: u32, requests: u32, a: Arbiter) -> Winner
 }
 
 // A granted burst of two or more beats leaves no grants.
-fn kept_grants(beats: u32, remaining: u32) -> u32
+fn kept(beats: u32, remaining: u32) -> u32
     ensures { λ r. ⌜ r ≡ kept beats remaining ⌝ }
 {
     if 1 < beats { 0 } else { remaining }
@@ -104,19 +104,19 @@ fn less_one(n: u32) -> u32
     if n == 0 { 0 } else { n - 1 }
 }
 
-// The grant of the winner, by its shares at this slave and the beats of its transfer.
+// The grant of the winnerOf, by its shares at this slave and the beats of its transfer.
 fn grant_by(a: Arbiter, w: Winner, shares: u32, beats: u32) -> Grant
     ensures { λ r. ⌜ r ≡ grantBy a w shares beats ⌝ }
 {
     match w {
-        Winner::Again => Grant::Granted(a.owner, kept_grants(beats, less_one(a.remaining))),
-        Winner::First(m) => Grant::Granted(m, kept_grants(beats, less_one(shares))),
+        Winner::Again => Grant::Granted(a.owner, kept(beats, less_one(a.remaining))),
+        Winner::First(m) => Grant::Granted(m, kept(beats, less_one(shares))),
         Winner::NoOne => Grant::Silent,
     }
 }
 
 // The slave's record after the grant; with none, no grants remain.
-fn record_after(a: Arbiter, g: Grant) -> Arbiter
+fn arbiter_after(a: Arbiter, g: Grant) -> Arbiter
     ensures { λ r. ⌜ r ≡ arbiterAfter a g ⌝ }
 {
     match g {
@@ -139,7 +139,7 @@ pub fn arbitrate_record(a: &mut Arbiter, w: Winner, shares: u32, beats: u32) -> 
 {
     let last = *a;
     let g = grant_by(last, w, shares, beats);
-    let next = record_after(last, g);
+    let next = arbiter_after(last, g);
     *a = next;
     g
 }

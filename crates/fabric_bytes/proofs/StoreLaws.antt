@@ -12,38 +12,38 @@ use Rattle.description_board.specs.declared.Slave.{Slave}
 use Rattle.fabric_accesses.specs.declared.Transfer.{Transfer}
 use Rattle.fabric_accesses.specs.Accesses.{accessBytes, firstByte}
 use Rattle.fabric_bytes.specs.Moving.{all, move}
-use Rattle.fabric_bytes.specs.Bytes.{Store, partOf, posted, enabled, memoryPlace, written, fetched, accessed}
+use Rattle.fabric_bytes.specs.Bytes.{Store, partOf, postedWords, enabled, memoryIndex, written, fetched, carriedAccess}
 use Rattle.fabric_bytes.proofs.MoveLaws.{length-move, move-join, less-or}
 use Rattle.fabric_bytes.proofs.Ranges.{Agree, agree-refl, Apart, move-apart, move-agree}
 
 -- ---- a post, and one access by its direction
 
-pub length-posted : (m : ℕ) (words buffer : List ℕ) → length (posted m words buffer) ≡ length buffer
-unfolding posted
+pub length-posted : (m : ℕ) (words buffer : List ℕ) → length (postedWords m words buffer) ≡ length buffer
+unfolding postedWords
 length-posted m words buffer = length-move all words 0 (partOf m) 0 (length words) buffer
 
 module _ (ma : Master) (sl : Slave) (t : Transfer) (m start a : ℕ) (d : Store) where
-  pub accessed-write : t .write ≡ true → accessed ma sl t m start a d ≡ written ma sl t m start a d
-  unfolding accessed
+  pub accessed-write : t .write ≡ true → carriedAccess ma sl t m start a d ≡ written ma sl t m start a d
+  unfolding carriedAccess
   accessed-write e = rw e
 
-  pub accessed-read : t .write ≡ false → accessed ma sl t m start a d ≡ fetched ma sl t m start a d
-  unfolding accessed
+  pub accessed-read : t .write ≡ false → carriedAccess ma sl t m start a d ≡ fetched ma sl t m start a d
+  unfolding carriedAccess
   accessed-read e = rw e
 
-  pub length-memory : length (accessed ma sl t m start a d .memory) ≡ length (d .memory)
+  pub length-memory : length (carriedAccess ma sl t m start a d .memory) ≡ length (d .memory)
   unfolding written fetched
   length-memory = go (t .write) refl
     where
-      go : (w : Bool) → t .write ≡ w → length (accessed ma sl t m start a d .memory) ≡ length (d .memory)
+      go : (w : Bool) → t .write ≡ w → length (carriedAccess ma sl t m start a d .memory) ≡ length (d .memory)
       go true e = rw (accessed-write e) (length-move _ _ _ _ _ _ (d .memory))
       go false e = rw (accessed-read e)
 
-  pub length-buffer : length (accessed ma sl t m start a d .buffer) ≡ length (d .buffer)
+  pub length-buffer : length (carriedAccess ma sl t m start a d .buffer) ≡ length (d .buffer)
   unfolding written fetched
   length-buffer = go (t .write) refl
     where
-      go : (w : Bool) → t .write ≡ w → length (accessed ma sl t m start a d .buffer) ≡ length (d .buffer)
+      go : (w : Bool) → t .write ≡ w → length (carriedAccess ma sl t m start a d .buffer) ≡ length (d .buffer)
       go true e = rw (accessed-write e)
       go false e = rw (accessed-read e) (length-move _ _ _ _ _ _ (d .buffer))
 
@@ -57,9 +57,9 @@ carry write on part place first n d =
 
 -- an access carries its own
 pub accessed-carries : (ma : Master) (sl : Slave) (t : Transfer) (m start a : ℕ) (d : Store)
-    → accessed ma sl t m start a d
-    ≡ carry (t .write) (enabled ma t) (partOf m) (memoryPlace sl t start) (firstByte ma sl a) (accessBytes ma sl) d
-unfolding accessed written fetched carry
+    → carriedAccess ma sl t m start a d
+    ≡ carry (t .write) (enabled ma t) (partOf m) (memoryIndex sl t start) (firstByte ma sl a) (accessBytes ma sl) d
+unfolding carriedAccess written fetched carry
 accessed-carries ma sl t m start a d = refl
 
 -- the stores have their lengths in common, and agree from lo to hi in memory and from lo′ to hi′ in the buffer

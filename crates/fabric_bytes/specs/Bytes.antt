@@ -25,22 +25,22 @@ abbrev pub partOf : ℕ → ℕ
 partOf m = 512 * m
 
 -- "the words, which post copies to the front of the master's part"
-unfoldable pub posted : ℕ → List ℕ → List ℕ → List ℕ
-posted m words buffer = move all words 0 (partOf m) 0 (length words) buffer
+unfoldable pub postedWords : ℕ → List ℕ → List ℕ → List ℕ
+postedWords m words buffer = move all words 0 (partOf m) 0 (length words) buffer
 
 -- "lanes (bit k for byte k)": byte i of the transfer t is enabled by lane i modulo the master's width
 unfoldable pub enabled : Master → Transfer → ℕ → Bool
 enabled ma t i = bit (t .lanes) (i % ma .width)
 
 -- where the transfer's first byte lies in memory, for a slave whose span starts at `start`
-unfoldable pub memoryPlace : Slave → Transfer → ℕ → ℕ
-memoryPlace sl t start = start + (t .address - sl .base)
+unfoldable pub memoryIndex : Slave → Transfer → ℕ → ℕ
+memoryIndex sl t start = start + (t .address - sl .base)
 
 -- access a of a write: "Only enabled lanes are written."
 unfoldable pub written : Master → Slave → Transfer → ℕ → ℕ → ℕ → Store → Store
 written ma sl t m start a d = record {
   memory =
-      move (enabled ma t) (d .buffer) (partOf m) (memoryPlace sl t start) (firstByte ma sl a) (accessBytes ma sl) (d .memory);
+      move (enabled ma t) (d .buffer) (partOf m) (memoryIndex sl t start) (firstByte ma sl a) (accessBytes ma sl) (d .memory);
   buffer = d .buffer;
 }
 
@@ -48,9 +48,9 @@ written ma sl t m start a d = record {
 unfoldable pub fetched : Master → Slave → Transfer → ℕ → ℕ → ℕ → Store → Store
 fetched ma sl t m start a d = record {
   memory = d .memory;
-  buffer = move all (d .memory) (memoryPlace sl t start) (partOf m) (firstByte ma sl a) (accessBytes ma sl) (d .buffer);
+  buffer = move all (d .memory) (memoryIndex sl t start) (partOf m) (firstByte ma sl a) (accessBytes ma sl) (d .buffer);
 }
 
 -- access a of the transfer t that master number m holds
-unfoldable pub accessed : Master → Slave → Transfer → ℕ → ℕ → ℕ → Store → Store
-accessed ma sl t m start a d = cond (t .write) (written ma sl t m start a d) (fetched ma sl t m start a d)
+unfoldable pub carriedAccess : Master → Slave → Transfer → ℕ → ℕ → ℕ → Store → Store
+carriedAccess ma sl t m start a d = cond (t .write) (written ma sl t m start a d) (fetched ma sl t m start a d)

@@ -1,3 +1,3 @@
 pub mod Moving
 pub mod Bytes
-pub mod Reaching
+pub mod Code

@@ -11,8 +11,8 @@ ghost use Rattle.common_laws.specs.Bits.{bit};
 ghost use Rattle.common_laws.specs.Lists.{member};
 ghost use Rattle.description_board.specs.Rules.{widths};
 ghost use Rattle.fabric_bytes.specs.Moving.{all, move};
-ghost use Rattle.fabric_bytes.specs.Bytes.{bufferLength, partOf, posted, accessed};
-ghost use Rattle.fabric_bytes.specs.Reaching.{Reached};
+ghost use Rattle.fabric_bytes.specs.Bytes.{bufferLength, partOf, postedWords, carriedAccess};
+ghost use Rattle.fabric_bytes.specs.Code.Reaching.{Reached};
 
 // The words of a post, to the front of the part.
 fn take_words(part: &mut [u8], words: &[u8])
@@ -30,7 +30,7 @@ fn take_words(part: &mut [u8], words: &[u8])
 // The words of a post, to the part of master m.
 pub fn post_words(buffer: &mut [u8], m: usize, words: &[u8])
     requires { ⌜ (length (now buffer) ≡ bufferLength) × (m < 8) × (length (now words) ≤ 512) ⌝ }
-    ensures { λ r. ⌜ now (buffer .exit) ≡ posted m (now (words .entry)) (now (buffer .entry)) ⌝ }
+    ensures { λ r. ⌜ now (buffer .exit) ≡ postedWords m (now (words .entry)) (now (buffer .entry)) ⌝ }
 {
     let start = 512 * m;
     let end = start + 512;
@@ -130,11 +130,11 @@ pub fn carry_access(
 )
     requires { ⌜ Reached ma sl t m start a (record { memory = now memory; buffer = now buffer }) ⌝ }
     ensures { λ r. ⌜ record { memory = now (memory .exit); buffer = now (buffer .exit) }
-        ≡ accessed ma sl t m start a (record { memory = now (memory .entry); buffer = now (buffer .entry) }) ⌝ }
+        ≡ carriedAccess ma sl t m start a (record { memory = now (memory .entry); buffer = now (buffer .entry) }) ⌝ }
 {
     let place = start + ((t.address - sl.base) as usize);
     let first = fabric_accesses::first_byte(ma, sl, a) as usize;
-    let count = fabric_accesses::access_width(ma, sl) as usize;
+    let count = fabric_accesses::access_bytes(ma, sl) as usize;
     if t.write {
         write_access(memory, place, buffer, m, first, count, t.lanes, ma.width);
         return;

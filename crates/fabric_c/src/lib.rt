@@ -4,10 +4,10 @@ ghost use mathlib.Core.Path.{_≡_};
 ghost use lib.ListN.{getD, length};
 ghost use Rattle.description_layout.specs.Layout.{boardIn};
 ghost use Rattle.description.specs.Lent.{Read};
-ghost use Rattle.description.specs.Blame.{refusalOf};
+ghost use Rattle.description.specs.Blame.{refusedAt};
 ghost use Rattle.fabric_layout.specs.Layout.{marked};
 ghost use Rattle.wait.specs.Answers.{waitRefusal, waitOutput};
-ghost use Rattle.fabric.specs.Requests.{request};
+ghost use Rattle.fabric.specs.Code.Requests.{request};
 ghost use Rattle.fabric.specs.Lent.{Resets, Posts, Clocks, Runs};
 
 #[no_mangle]
@@ -34,8 +34,8 @@ fn count(l: &[usize]) -> usize
 
 #[no_mangle]
 pub extern "C" fn fabric_refused_at(text: &[u8], line: &mut [usize; 1]) -> u32
-    ensures answer { λ r. ⌜ r ≡ refusalOf (now (text .entry)) .number ⌝ }
-    ensures line { λ _. ⌜ getD (now (line .exit)) 0 0 ≡ refusalOf (now (text .entry)) .line ⌝ }
+    ensures answer { λ r. ⌜ r ≡ refusedAt (now (text .entry)) .number ⌝ }
+    ensures line { λ _. ⌜ getD (now (line .exit)) 0 0 ≡ refusedAt (now (text .entry)) .line ⌝ }
 {
     count(line);
     let r = description::refused_at(text);

@@ -17,19 +17,19 @@ use Rattle.description_board.specs.declared.Slave.{Slave}
 use Rattle.description_board.specs.declared.Board.{Board}
 use Rattle.description_board.specs.Records.{masterAt, slaveAt, sharesAt}
 use Rattle.description_board.specs.Rules.{widths}
-use Rattle.description_board.specs.Items.{checkBoard}
+use Rattle.description_board.specs.Items.{boardRefusal}
 use Rattle.description_board.proofs.Accepted.{accepted-legal}
 use Rattle.fabric_accesses.specs.declared.Transfer.{Transfer}
 use Rattle.fabric_accesses.specs.Accesses.{accesses, waitOf}
 use Rattle.fabric_accesses.specs.Decoding.{targetOf}
-use Rattle.fabric_accesses.specs.Pairs.{Widths}
+use Rattle.fabric_accesses.specs.Code.Pairs.{Widths}
 use Rattle.fabric_state.specs.declared.Slot.{Slot}
 use Rattle.fabric_state.specs.declared.State.{State}
 use Rattle.fabric_state.specs.Records.{transferAt, slotAt}
 use Rattle.fabric_state.specs.Posting.{transferRefusal}
-use Rattle.fabric_state.specs.Soundness.{soundTransfer, soundOwner, soundRemaining, soundService, soundRest, slotSound, soundSlot}
-use Rattle.fabric_check.specs.Targets.{heldTarget, targetIn, targetsIn}
-use Rattle.fabric_check.specs.Parts.{heldSound, Held, Decoded}
+use Rattle.fabric_state.specs.Soundness.{soundTransfer, soundOwner, soundRemaining, soundService, soundRest, soundSlotBy, soundSlot}
+use Rattle.fabric_check.specs.Code.Targets.{heldTarget, targetIn, targetsIn}
+use Rattle.fabric_check.specs.Code.Checks.{soundHeld, Held, Decoded}
 use Rattle.fabric_check.proofs.TargetLaws.{target-requests}
 
 -- a loop over the numbers below n: one more passes, one fails
@@ -64,7 +64,7 @@ module _ (b : Board) (m : ℕ) (t : Transfer) (before : List ℕ) where
   pub held-ours : {masters target number : ℕ} → t .held ≡ true → masters ≡ b .«master_count» → m < masters
       → target ≡ targetOf b m (t .address) → number ≡ transferRefusal b m t
       → Held b m t (eqb number 0) before (set before m target)
-  unfolding heldSound heldTarget
+  unfolding soundHeld heldTarget
   held-ours on em h e f = record {
     sound =
         ap (λ (n : ℕ). eqb n 0) f
@@ -75,7 +75,7 @@ module _ (b : Board) (m : ℕ) (t : Transfer) (before : List ℕ) where
 
   pub held-stranger : {masters : ℕ} → t .held ≡ true → masters ≡ b .«master_count» → masters ≤ m → (after : List ℕ)
       → Held b m t false before after
-  unfolding heldSound
+  unfolding soundHeld
   held-stranger on em h after = record {
     sound =
         sym (ap (λ (c : Bool). c && passes) (le-ltb m (b .«master_count») (rw (← em) h)))
@@ -84,7 +84,7 @@ module _ (b : Board) (m : ℕ) (t : Transfer) (before : List ℕ) where
   }
 
   pub held-none : {count : ℕ} → t .held ≡ false → count ≡ b .«slave_count» → Held b m t true before (set before m count)
-  unfolding heldSound heldTarget
+  unfolding soundHeld heldTarget
   held-none off e = record {
     sound = sym (cond-left (ours && passes) true off);
     target = λ q. ap (set before m) (e ∙ sym (cond-left (targetOf b m (t .address)) (b .«slave_count») off));
@@ -92,8 +92,8 @@ module _ (b : Board) (m : ℕ) (t : Transfer) (before : List ℕ) where
 
 -- a transfer that was read: its rule, and its slave put behind those of the transfers before it
 module _ (b : Board) (st : State) (m : ℕ) {t : Transfer} (et : t ≡ transferAt st m) where
-  pub read-sound : heldSound b m t ≡ soundTransfer b st m
-  unfolding heldSound soundTransfer
+  pub read-sound : soundHeld b m t ≡ soundTransfer b st m
+  unfolding soundHeld soundTransfer
   read-sound = rw et
 
   read-target : heldTarget b m t ≡ targetIn b (st .transfers) m
@@ -126,18 +126,18 @@ grants remaining share = go (eqb share 0) refl (eqb remaining 0) refl
 
 module _ (slot : Slot) (share : ℕ) (here : Bool) (ma : Master) (sl : Slave) (t : Transfer) where
   pub slot-serving : (eqb (slot .remaining) 0 || ltb (slot .remaining) share) ≡ true → slot .serving ≡ true
-      → slotSound share here ma sl t slot
+      → soundSlotBy share here ma sl t slot
       ≡ (here && (ltb (slot .done) (accesses ma sl t) && leb (slot .waited) (waitOf sl t)))
-  unfolding slotSound soundRemaining soundService
+  unfolding soundSlotBy soundRemaining soundService
   slot-serving e on = rw (← grants (slot .remaining) share, e, on)
 
   pub slot-resting : (eqb (slot .remaining) 0 || ltb (slot .remaining) share) ≡ true → slot .serving ≡ false
-      → slotSound share here ma sl t slot ≡ (eqb (slot .done) 0 && eqb (slot .waited) 0)
-  unfolding slotSound soundRemaining soundRest
+      → soundSlotBy share here ma sl t slot ≡ (eqb (slot .done) 0 && eqb (slot .waited) 0)
+  unfolding soundSlotBy soundRemaining soundRest
   slot-resting e off = rw (← grants (slot .remaining) share, e, off)
 
-  pub slot-over : (eqb (slot .remaining) 0 || ltb (slot .remaining) share) ≡ false → slotSound share here ma sl t slot ≡ false
-  unfolding slotSound soundRemaining
+  pub slot-over : (eqb (slot .remaining) 0 || ltb (slot .remaining) share) ≡ false → soundSlotBy share here ma sl t slot ≡ false
+  unfolding soundSlotBy soundRemaining
   slot-over e = rw (← grants (slot .remaining) share, e)
 
 module _ (b : Board) (st : State) (s : ℕ) {slot : Slot} {masters : ℕ} (eslot : slot ≡ slotAt st s)
@@ -153,12 +153,12 @@ module _ (b : Board) (st : State) (s : ℕ) {slot : Slot} {masters : ℕ} (eslot
       → slot .owner < masters
       → {share : ℕ} {ma : Master} {sl : Slave} {t : Transfer} → share ≡ sharesAt b (slot .owner) s
       → ma ≡ masterAt b (slot .owner) → sl ≡ slaveAt b s → t ≡ transferAt st (slot .owner)
-      → slotSound share (eqb (getD targets (slot .owner) 0) s) ma sl t slot ≡ soundSlot b st s
+      → soundSlotBy share (eqb (getD targets (slot .owner) 0) s) ma sl t slot ≡ soundSlot b st s
   unfolding soundSlot soundOwner
   slot-parts targets decoded full here h e f g k = rw (e, f, g, k, eslot) (whole (rw (← em, ← eslot) h))
     where
       whole : slotAt st s .owner < b .«master_count»
-          → slotSound (sharesAt b (slotAt st s .owner) s) (eqb (getD targets (slotAt st s .owner) 0) s)
+          → soundSlotBy (sharesAt b (slotAt st s .owner) s) (eqb (getD targets (slotAt st s .owner) 0) s)
           (masterAt b (slotAt st s .owner)) (slaveAt b s) (transferAt st (slotAt st s .owner)) (slotAt st s)
           ≡ soundSlot b st s
       whole l =
@@ -170,11 +170,11 @@ module _ (b : Board) (st : State) (s : ℕ) {slot : Slot} {masters : ℕ} (eslot
           )
 
 -- the width of a master of an accepted board, and that of a slave
-pub legal-width : (b : Board) → checkBoard b ≡ 0 → (m : ℕ) {masters : ℕ} → masters ≡ b .«master_count» → m < masters
+pub legal-width : (b : Board) → boardRefusal b ≡ 0 → (m : ℕ) {masters : ℕ} → masters ≡ b .«master_count» → m < masters
     → {ma : Master} → ma ≡ masterAt b m → member (ma .width) widths ≡ true
 legal-width b ok m e h f = rw f (accepted-legal b ok .master m (rw (← e) h) .width)
 
-pub legal-widths : (b : Board) → checkBoard b ≡ 0 → (m s : ℕ) → m < b .«master_count» → s < b .«slave_count»
+pub legal-widths : (b : Board) → boardRefusal b ≡ 0 → (m s : ℕ) → m < b .«master_count» → s < b .«slave_count»
     → {ma : Master} {sl : Slave} → ma ≡ masterAt b m → sl ≡ slaveAt b s → Widths ma sl
 legal-widths b ok m s h k e f =
     record { master = legal-width b ok m refl h e; slave = rw f (accepted-legal b ok .slave s k .width) }

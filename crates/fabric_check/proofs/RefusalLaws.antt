@@ -17,11 +17,11 @@ use Rattle.description_board.specs.declared.Slave.{Slave}
 use Rattle.description_board.specs.declared.Board.{Board}
 use Rattle.description_board.specs.Records.{noSlave, masterAt, slaveAt}
 use Rattle.description_board.specs.Rules.{widths}
-use Rattle.description_board.specs.Items.{checkBoard}
+use Rattle.description_board.specs.Items.{boardRefusal}
 use Rattle.description_board.proofs.Accepted.{accepted-legal}
 use Rattle.fabric_accesses.specs.declared.Transfer.{Transfer}
 use Rattle.fabric_accesses.specs.Decoding.{targetOf}
-use Rattle.fabric_state.specs.Posting.{unmapped, refusalAt, transferRefusal}
+use Rattle.fabric_state.specs.Posting.{unmapped, transferRefusalBy, transferRefusal}
 use Rattle.fabric_accesses.proofs.SelectLaws.{target-first}
 
 pub width-some : (width : ℕ) → member width widths ≡ true → 0 < width
@@ -36,13 +36,13 @@ bytes-most beats width h e = product-le beats width 4294967295 8 h (width-most w
 
 -- a transfer for no slave is not refused for its slave: 16 stands before 17
 refusal-slave : (ma : Master) (slaves : List Slave) (t : Transfer) (target count : ℕ) → target ≤ count → count ≤ 16
-    → refusalAt ma (getD slaves (target % 16) noSlave) t target count ≡ refusalAt ma (getD slaves target noSlave) t target count
-unfolding refusalAt unmapped
+    → transferRefusalBy ma (getD slaves (target % 16) noSlave) t target count ≡ transferRefusalBy ma (getD slaves target noSlave) t target count
+unfolding transferRefusalBy unmapped
 refusal-slave ma slaves t target count h l = go (eqb target count) refl
   where
     go : (c : Bool) → eqb target count ≡ c
-        → refusalAt ma (getD slaves (target % 16) noSlave) t target count
-        ≡ refusalAt ma (getD slaves target noSlave) t target count
+        → transferRefusalBy ma (getD slaves (target % 16) noSlave) t target count
+        ≡ transferRefusalBy ma (getD slaves target noSlave) t target count
     go true e = rw e
     go false e =
         let none = eqb-false target count e in
@@ -50,9 +50,9 @@ refusal-slave ma slaves t target count h l = go (eqb target count) refl
         rw (mod-eq-of-lt small)
 
 -- the code has read the master, the slave at the target's remainder by 16, and the count of slaves
-pub refusal-parts : (b : Board) → checkBoard b ≡ 0 → (m : ℕ) (t : Transfer) (target : ℕ) {ma : Master} {sl : Slave} {count : ℕ}
+pub refusal-parts : (b : Board) → boardRefusal b ≡ 0 → (m : ℕ) (t : Transfer) (target : ℕ) {ma : Master} {sl : Slave} {count : ℕ}
     → target ≡ targetOf b m (t .address) → ma ≡ masterAt b m → sl ≡ slaveAt b (target % 16) → count ≡ b .«slave_count»
-    → refusalAt ma sl t target count ≡ transferRefusal b m t
+    → transferRefusalBy ma sl t target count ≡ transferRefusal b m t
 unfolding transferRefusal
 refusal-parts b ok m t target e f g h =
     rw (f, g, h)
@@ -61,5 +61,5 @@ refusal-parts b ok m t target e f g h =
     ∙ same target e)
   where
     same : (x : ℕ) → x ≡ targetOf b m (t .address)
-        → refusalAt (masterAt b m) (slaveAt b x) t x (b .«slave_count») ≡ transferRefusal b m t
+        → transferRefusalBy (masterAt b m) (slaveAt b x) t x (b .«slave_count») ≡ transferRefusal b m t
     same x q = rw q

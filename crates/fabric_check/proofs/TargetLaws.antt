@@ -20,7 +20,7 @@ use Rattle.common_laws.proofs.FrontLaws.{table-same}
 use Rattle.description_board.specs.declared.Slave.{Slave}
 use Rattle.description_board.specs.declared.Board.{Board}
 use Rattle.description_board.specs.Records.{slaveAt, sharesAt, connected}
-use Rattle.description_board.specs.Items.{checkBoard}
+use Rattle.description_board.specs.Items.{boardRefusal}
 use Rattle.description_board.proofs.Accepted.{accepted-legal}
 use Rattle.fabric_accesses.specs.declared.Transfer.{Transfer}
 use Rattle.fabric_accesses.specs.Accesses.{noTransfer}
@@ -29,8 +29,8 @@ use Rattle.fabric_accesses.proofs.DecodeLaws.{span-of}
 use Rattle.fabric_state.specs.declared.State.{State}
 use Rattle.fabric_state.specs.Records.{transferAt}
 use Rattle.fabric_state.specs.Soundness.{requests}
-use Rattle.fabric_check.specs.Targets.{heldTarget, targetIn, targetsIn, requestMask}
-use Rattle.fabric_check.specs.Decoded.{Decodes}
+use Rattle.fabric_check.specs.Code.Targets.{heldTarget, targetIn, targetsIn, requestMask}
+use Rattle.fabric_check.specs.Code.Decoded.{Decodes}
 use Rattle.fabric_accesses.proofs.SelectLaws.{target-first, selects-target}
 use Rattle.fabric_state.proofs.DecodeLaws.{requests-not}
 
@@ -77,7 +77,7 @@ module _ (b : Board) (m address s : ℕ) where
       go false = refl
 
 -- an accepted board can be decoded
-pub decodes : (b : Board) → checkBoard b ≡ 0 → Decodes b
+pub decodes : (b : Board) → boardRefusal b ≡ 0 → Decodes b
 decodes b ok =
     let legal = accepted-legal b ok in
     record { few = legal .fewSlaves; span = λ s h. span-of (slaveAt b s .span) (legal .slave s h .span) }
@@ -153,7 +153,7 @@ module _ (ts : List ℕ) where
   mask-at s h e = rw e (getD-table (requestMask ts) 16 0 s h)
 
 -- on an accepted board a master's target is slave s exactly where it requests slave s
-module _ (b : Board) (ok : checkBoard b ≡ 0) (st : State) (full : length (st .transfers) ≡ 8) (s : ℕ)
+module _ (b : Board) (ok : boardRefusal b ≡ 0) (st : State) (full : length (st .transfers) ≡ 8) (s : ℕ)
     (here : s < b .«slave_count») where
   target-selects : (m address : ℕ) → eqb (targetOf b m address) s ≡ selects b m address s
   target-selects m address = go (selects b m address s) refl

@@ -1,3 +1,1 @@
-pub mod Targets
-pub mod Decoded
-pub mod Parts
+pub mod Code

@@ -9,31 +9,31 @@ use fabric_state::Slot;
 ghost use mathlib.Core.Path.{_≡_};
 ghost use Prim.Native.Nat.{_<_};
 ghost use Rattle.common_laws.specs.Lists.{every};
-ghost use Rattle.description_board.specs.Items.{checkBoard};
-ghost use Rattle.fabric_accesses.specs.Pairs.{Widths};
-ghost use Rattle.fabric_state.specs.Soundness.{soundTransfer, slotSound, soundSlot, sound};
+ghost use Rattle.description_board.specs.Items.{boardRefusal};
+ghost use Rattle.fabric_accesses.specs.Code.Pairs.{Widths};
+ghost use Rattle.fabric_state.specs.Soundness.{soundTransfer, soundSlotBy, soundSlot, sound};
 ghost use Rattle.description_layout.specs.Layout.{boardIn};
 ghost use Rattle.fabric_layout.specs.Layout.{stateIn};
-ghost use Rattle.fabric_check.specs.Parts.{Held, Answered, Decoded, Preconditions};
-pub use transfers::refusal_of;
+ghost use Rattle.fabric_check.specs.Code.Checks.{Held, Answered, Decoded, Preconditions};
 pub use transfers::request_masks;
+pub use transfers::transfer_refusal;
 pub use transfers::weight_of;
 
 // Whether the transfer t of master m breaks no rule; where it breaks none, the slave that it is for is left in `targets`. The
 // rules ask for that slave and so does the call that follows: an address is decoded once.
 fn held_at(board: &[u32; 242], m: usize, t: Transfer, targets: &mut [u32; 8]) -> bool
-    requires { ⌜ (checkBoard (boardIn (now board)) ≡ 0) × (m < 8) ⌝ }
+    requires { ⌜ (boardRefusal (boardIn (now board)) ≡ 0) × (m < 8) ⌝ }
     ensures { λ r. ⌜ Held (boardIn (now (board .entry))) m t r (now (targets .entry)) (now (targets .exit)) ⌝ }
 {
     let count = description_layout::slave_count(board);
     if t.held {
         if m < description_layout::master_count(board) as usize {
-            let target = transfers::target(board, m, t.address);
+            let target = transfers::target_of(board, m, t.address);
             targets[m] = target;
             // the number of slaves can be 16: what stands for no slave is looked up, and not used
             let sl = description_layout::slave_at(board, (target % 16) as usize);
             let ma = description_layout::master_at(board, m);
-            return transfers::transfer_refusal(ma, sl, t, target, count) == 0;
+            return transfers::transfer_refusal_by(ma, sl, t, target, count) == 0;
         }
         return false;
     }
@@ -42,8 +42,8 @@ fn held_at(board: &[u32; 242], m: usize, t: Transfer, targets: &mut [u32; 8]) ->
 }
 
 // Whether no transfer breaks a rule; where none does, the slave of each is left in `targets`. One pass decodes and checks.
-fn transfers_sound(board: &[u32; 242], st: &[u32; 120], targets: &mut [u32; 8]) -> bool
-    requires { ⌜ checkBoard (boardIn (now board)) ≡ 0 ⌝ }
+fn sound_transfers(board: &[u32; 242], st: &[u32; 120], targets: &mut [u32; 8]) -> bool
+    requires { ⌜ boardRefusal (boardIn (now board)) ≡ 0 ⌝ }
     ensures { λ r. ⌜ Answered (boardIn (now (board .entry))) (stateIn (now (st .entry)))
         (every (soundTransfer (boardIn (now (board .entry))) (stateIn (now (st .entry)))) 8) r (now (targets .exit)) ⌝ }
 {
@@ -61,13 +61,13 @@ fn transfers_sound(board: &[u32; 242], st: &[u32; 120], targets: &mut [u32; 8]) 
 
 // Whether a slot whose owner is a master of the board breaks no rule: of its owner's shares, whether its owner's transfer is
 // for this slave, and the two and that transfer.
-fn slot_sound(slot: Slot, share: u32, here: bool, ma: Master, sl: Slave, t: Transfer) -> bool
+fn sound_slot_by(slot: Slot, share: u32, here: bool, ma: Master, sl: Slave, t: Transfer) -> bool
     requires { ⌜ Widths ma sl ⌝ }
-    ensures { λ r. ⌜ r ≡ slotSound share here ma sl t slot ⌝ }
+    ensures { λ r. ⌜ r ≡ soundSlotBy share here ma sl t slot ⌝ }
 {
     if (slot.remaining == 0) | (slot.remaining < share) {
         if slot.serving {
-            let left = (slot.done as u64) < fabric_accesses::access_count(ma, sl, t);
+            let left = (slot.done as u64) < fabric_accesses::accesses(ma, sl, t);
             return here & (left & (slot.waited <= fabric_accesses::wait_of(sl, t)));
         }
         return (slot.done == 0) & (slot.waited == 0);
@@ -76,7 +76,7 @@ fn slot_sound(slot: Slot, share: u32, here: bool, ma: Master, sl: Slave, t: Tran
 }
 
 // Whether no slot breaks a rule. Each slot is read once.
-fn slots_sound(board: &[u32; 242], st: &[u32; 120], targets: &[u32; 8]) -> bool
+fn sound_slots(board: &[u32; 242], st: &[u32; 120], targets: &[u32; 8]) -> bool
     requires { ⌜ Decoded (boardIn (now board)) (stateIn (now st)) (now targets) ⌝ }
     ensures { λ r. ⌜ r ≡ every (soundSlot (boardIn (now (board .entry))) (stateIn (now (st .entry))))
         (boardIn (now (board .entry)) .«slave_count») ⌝ }
@@ -91,11 +91,11 @@ fn slots_sound(board: &[u32; 242], st: &[u32; 120], targets: &[u32; 8]) -> bool
             return false;
         }
         let owner = slot.owner as usize;
-        let share = description_layout::share_at(board, owner, i);
+        let share = description_layout::shares_at(board, owner, i);
         let ma = description_layout::master_at(board, owner);
         let sl = description_layout::slave_at(board, i);
         let t = fabric_layout::transfer_at(st, owner);
-        if !slot_sound(slot, share, targets[owner] == s, ma, sl, t) {
+        if !sound_slot_by(slot, share, targets[owner] == s, ma, sl, t) {
             return false;
         }
         s += 1;
@@ -104,13 +104,13 @@ fn slots_sound(board: &[u32; 242], st: &[u32; 120], targets: &[u32; 8]) -> bool
 }
 
 // Whether the state breaks no rule; where it breaks none, the slave of each transfer is left in `targets`.
-fn state_sound(board: &[u32; 242], st: &[u32; 120], targets: &mut [u32; 8]) -> bool
-    requires { ⌜ checkBoard (boardIn (now board)) ≡ 0 ⌝ }
+fn sound(board: &[u32; 242], st: &[u32; 120], targets: &mut [u32; 8]) -> bool
+    requires { ⌜ boardRefusal (boardIn (now board)) ≡ 0 ⌝ }
     ensures { λ r. ⌜ Answered (boardIn (now (board .entry))) (stateIn (now (st .entry)))
         (sound (boardIn (now (board .entry))) (stateIn (now (st .entry)))) r (now (targets .exit)) ⌝ }
 {
-    if transfers_sound(board, st, targets) {
-        return slots_sound(board, st, targets);
+    if sound_transfers(board, st, targets) {
+        return sound_slots(board, st, targets);
     }
     false
 }
@@ -127,14 +127,14 @@ pub struct Checked {
 pub fn ready(board: &[u32; 242], st: &[u32; 120], targets: &mut [u32; 8]) -> Checked
     ensures { λ r. ⌜ Preconditions (boardIn (now (board .entry))) (stateIn (now (st .entry))) r (now (targets .exit)) ⌝ }
 {
-    let number = description_check::refusal(board);
+    let number = description_check::board_refusal(board);
     if number != 0 {
         return Checked {
             number: number,
             sound: false,
         };
     }
-    let sound = state_sound(board, st, targets);
+    let sound = sound(board, st, targets);
     Checked {
         number: 0,
         sound: sound,

@@ -9,16 +9,16 @@ ghost use Prim.Native.Nat.{_^_, _<_};
 ghost use lib.ListN.{replicate};
 ghost use Rattle.common_laws.specs.Lists.{member, table};
 ghost use Rattle.description_board.specs.Rules.{widths};
-ghost use Rattle.description_board.specs.Items.{checkBoard};
+ghost use Rattle.description_board.specs.Items.{boardRefusal};
 ghost use Rattle.fabric_accesses.specs.Decoding.{targetOf};
-ghost use Rattle.fabric_state.specs.Posting.{refusalAt, transferRefusal};
+ghost use Rattle.fabric_state.specs.Posting.{transferRefusalBy, transferRefusal};
 ghost use Rattle.description_layout.specs.Layout.{boardIn};
-ghost use Rattle.fabric_check.specs.Targets.{requestMask};
-ghost use Rattle.fabric_check.specs.Decoded.{Decodes};
+ghost use Rattle.fabric_check.specs.Code.Targets.{requestMask};
+ghost use Rattle.fabric_check.specs.Code.Decoded.{Decodes};
 
 // The first slave that an address selects for master m, or the count of slaves. Most slaves are ruled out by their address, so
 // that shares are read only where it agrees.
-pub fn target(board: &[u32; 242], m: usize, address: u32) -> u32
+pub fn target_of(board: &[u32; 242], m: usize, address: u32) -> u32
     requires { ⌜ Decodes (boardIn (now board)) × m < 8 ⌝ }
     ensures { λ r. ⌜ r ≡ targetOf (boardIn (now (board .entry))) m address ⌝ }
 {
@@ -27,8 +27,8 @@ pub fn target(board: &[u32; 242], m: usize, address: u32) -> u32
     while s < count {
         let i = s as usize;
         let sl = description_layout::slave_at(board, i);
-        if fabric_accesses::address_agrees(sl, address) {
-            if 0 < description_layout::share_at(board, m, i) {
+        if fabric_accesses::agrees(sl, address) {
+            if 0 < description_layout::shares_at(board, m, i) {
                 return s;
             }
         }
@@ -63,9 +63,9 @@ pub fn request_masks(targets: &[u32; 8], out: &mut [u32; 16])
 
 // What a transfer is refused for (13 to 17), or 0: of the master, the slave that it is for, that slave's number, or the count
 // of slaves where it is for none. A width is a power of two, so that a mask leaves what is over a multiple of it.
-pub fn transfer_refusal(ma: Master, sl: Slave, t: Transfer, target: u32, count: u32) -> u32
+pub fn transfer_refusal_by(ma: Master, sl: Slave, t: Transfer, target: u32, count: u32) -> u32
     requires { ⌜ member (ma .width) widths ≡ true ⌝ }
-    ensures { λ r. ⌜ r ≡ refusalAt ma sl t target count ⌝ }
+    ensures { λ r. ⌜ r ≡ transferRefusalBy ma sl t target count ⌝ }
 {
     if (t.beats == 0) | (ma.burst < t.beats) {
         return 13;
@@ -73,7 +73,7 @@ pub fn transfer_refusal(ma: Master, sl: Slave, t: Transfer, target: u32, count: 
     if t.address & (ma.width - 1) != 0 {
         return 14;
     }
-    if !fabric_lanes::lanes_postable(ma.width, t.lanes, t.beats) {
+    if !fabric_lanes::post_lanes(ma.width, t.lanes, t.beats) {
         return 15;
     }
     if target == count {
@@ -88,13 +88,13 @@ pub fn transfer_refusal(ma: Master, sl: Slave, t: Transfer, target: u32, count: 
 }
 
 // What the transfer t of master m is refused for, or 0.
-pub fn refusal_of(board: &[u32; 242], m: usize, t: Transfer) -> u32
-    requires { ⌜ (checkBoard (boardIn (now board)) ≡ 0) × (m < boardIn (now board) .«master_count») ⌝ }
+pub fn transfer_refusal(board: &[u32; 242], m: usize, t: Transfer) -> u32
+    requires { ⌜ (boardRefusal (boardIn (now board)) ≡ 0) × (m < boardIn (now board) .«master_count») ⌝ }
     ensures { λ r. ⌜ r ≡ transferRefusal (boardIn (now (board .entry))) m t ⌝ }
 {
-    let at = target(board, m, t.address);
+    let at = target_of(board, m, t.address);
     // the number of slaves can be 16: what stands for no slave is looked up, and not used
     let sl = description_layout::slave_at(board, (at % 16) as usize);
     let ma = description_layout::master_at(board, m);
-    transfer_refusal(ma, sl, t, at, description_layout::slave_count(board))
+    transfer_refusal_by(ma, sl, t, at, description_layout::slave_count(board))
 }

@@ -18,8 +18,8 @@ use Rattle.fabric_state.specs.declared.Line.{Line}
 use Rattle.fabric_state.specs.Control.{finished, maskOf, transferAfter, stateAfter}
 use Rattle.fabric_state.proofs.StateLaws.{mask-bit, transfer-kept}
 use Rattle.fabric_state.proofs.SoundLaws.{sound-test, clock-sound}
-use Rattle.fabric_check.specs.Targets.{targetsIn, requestMask}
-use Rattle.fabric_cycle.specs.Cycles.{Runs, Clocks}
+use Rattle.fabric_check.specs.Code.Targets.{targetsIn, requestMask}
+use Rattle.fabric_cycle.specs.Code.Cycles.{Passes, Clocks}
 use Rattle.fabric_cycle.proofs.PassLaws.{runs-legal, runs-sound}
 
 -- for a state of 8 transfers
@@ -36,7 +36,7 @@ module _ (b : Board) (u : State) (l : length (u .transfers) ≡ 8) where
 -- the state v, the mask r and the bytes e that a clock leaves of the state u and the bytes d
 module _ (b : Board) (u v : State) (shown : List Line) (r : ℕ) (d e : Store) (l : length (u .transfers) ≡ 8)
     (c : Clocks b u v shown r d e) where
-  pub runs-again : length (u .slots) ≡ 16 → Runs b u → Runs b v
+  pub runs-again : length (u .slots) ≡ 16 → Passes b u → Passes b v
   runs-again k p = record {
     board = p .board;
     state = rw (c .state)

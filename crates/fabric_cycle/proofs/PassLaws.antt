@@ -31,9 +31,9 @@ use Rattle.fabric_state.specs.declared.Slot.{Slot}
 use Rattle.fabric_state.specs.declared.State.{State}
 use Rattle.fabric_state.specs.declared.Line.{Line}
 use Rattle.fabric_state.specs.declared.Step.{Step}
-use Rattle.fabric_state.specs.Records.{noLine, noSlot, transferAt, slotAt, recordOf}
+use Rattle.fabric_state.specs.Records.{noLine, noSlot, transferAt, slotAt, arbiterOf}
 use Rattle.fabric_state.specs.Soundness.{requests}
-use Rattle.fabric_state.specs.Posting.{stateWith}
+use Rattle.fabric_state.specs.Posting.{withTransfer}
 use Rattle.fabric_state.specs.Control.{grantAt, slotAfterGrant, stepOf, lineAfter, slotAfter, finishes, finished, maskOf}
 use Rattle.fabric_state.specs.Control.{transferAfter, stateAfter, linesOf}
 use Rattle.fabric_state.specs.Carrying.{carried, carriedBy, storeAfter}
@@ -43,13 +43,13 @@ use Rattle.fabric_state.proofs.StepLaws.{line-owner, finished-serving}
 use Rattle.fabric_state.proofs.DecodeLaws.{requests-one}
 use Rattle.fabric_layout.specs.Layout.{withSlot, firstLines}
 use Rattle.fabric_layout.proofs.StateLaws.{first-put}
-use Rattle.fabric_check.specs.Targets.{targetsIn, requestMask}
+use Rattle.fabric_check.specs.Code.Targets.{targetsIn, requestMask}
 use Rattle.fabric_check.proofs.TargetLaws.{mask-requests}
-use Rattle.fabric_cycle.specs.Serving.{stepFrom, carriedFrom}
+use Rattle.fabric_cycle.specs.Code.Serving.{stepFrom, carriedFrom}
 use Rattle.fabric_cycle.proofs.ServeLaws.{from-resting, carried-resting, step-is, carried-is}
 use Rattle.fabric_cycle.proofs.PlaceLaws.{start-next, grant-placed, grant-reached}
-use Rattle.fabric_cycle.specs.Cycles.{Runs, Clocks}
-use Rattle.fabric_cycle.specs.Turns.{slotAsked, stepAt, carriedAt, ended, stateTurned, Serving, Ready, Turned}
+use Rattle.fabric_cycle.specs.Code.Cycles.{Passes, Clocks}
+use Rattle.fabric_cycle.specs.Code.Turns.{slotAsked, stepAt, carriedAt, endedTransfer, stateTurned, Serving, Ready, Turned}
 
 -- ---- a mask with one number more, and a list with one place more
 
@@ -97,7 +97,7 @@ module _ (test now : ℕ → Bool) (o n : ℕ) (on : Bool) (low : o < n) (fresh 
           (λ m k. ap (λ (c : Bool). cond c (2 ^ m) 0) (g m ∙ or-false (test m))) in
           omega (arith, same)
 
--- a transfer ended before now, or now
+-- a transfer endedTransfer before now, or now
 ended-now : {X : Type 0} (before on : Bool) (d x : X) → cond on d (cond before d x) ≡ cond (before || (on && true)) d x
 ended-now true true d x = refl
 ended-now true false d x = refl
@@ -145,25 +145,25 @@ pub record Pass (b : Board) (u v : State) (s start : ℕ) (lines shown : List Li
 -- what a turn changes of the state
 module _ (b : Board) (v : State) (s : ℕ) (x : Slot) where
   turned-slots : stateTurned b v s x .slots ≡ set (v .slots) s (stepAt b v s x .slot)
-  unfolding stateTurned ended stateWith withSlot
+  unfolding stateTurned endedTransfer withTransfer withSlot
   turned-slots = go (stepAt b v s x .finished)
     where
-      go : (c : Bool) → ended (withSlot v s (stepAt b v s x .slot)) (x .owner) c .slots ≡ set (v .slots) s (stepAt b v s x .slot)
+      go : (c : Bool) → endedTransfer (withSlot v s (stepAt b v s x .slot)) (x .owner) c .slots ≡ set (v .slots) s (stepAt b v s x .slot)
       go true = refl
       go false = refl
 
   turned-transfers : stateTurned b v s x .transfers
       ≡ set (v .transfers) (x .owner) (cond (stepAt b v s x .finished) noTransfer (getD (v .transfers) (x .owner) noTransfer))
-  unfolding stateTurned ended stateWith withSlot
+  unfolding stateTurned endedTransfer withTransfer withSlot
   turned-transfers = go (stepAt b v s x .finished)
     where
-      go : (c : Bool) → ended (withSlot v s (stepAt b v s x .slot)) (x .owner) c .transfers
+      go : (c : Bool) → endedTransfer (withSlot v s (stepAt b v s x .slot)) (x .owner) c .transfers
           ≡ set (v .transfers) (x .owner) (cond c noTransfer (getD (v .transfers) (x .owner) noTransfer))
       go true = refl
       go false = sym (set-getD (v .transfers) (x .owner) noTransfer)
 
 -- what the call is handed, for a state of 8 transfers and 16 slots
-module _ (b : Board) (u : State) (l : length (u .transfers) ≡ 8) (k : length (u .slots) ≡ 16) (r : Runs b u) where
+module _ (b : Board) (u : State) (l : length (u .transfers) ≡ 8) (k : length (u .slots) ≡ 16) (r : Passes b u) where
   pub runs-legal : Legal b
   runs-legal = accepted-legal b (r .board)
 
@@ -236,7 +236,7 @@ module _ (b : Board) (u : State) (l : length (u .transfers) ≡ 8) (k : length (
         asked-same =
             let f : bit mask ≡ requests b u s = rw e (fun-ext (mask-requests b (r .board) u l s h)) in
             let g = granted-agree (b .«master_count») (requests b u s) (λ m. sharesAt b m s) (λ m. transferAt v m .beats)
-            (λ m. transferAt u m .beats) (recordOf (slotAt u s))
+            (λ m. transferAt u m .beats) (arbiterOf (slotAt u s))
             (λ m q. ap (λ (t : Transfer). t .beats) (transfer-same m q)) in
             rw (slot-same, f, g)
 

@@ -18,12 +18,12 @@ use Rattle.fabric_accesses.proofs.DecodeLaws.{span-of}
 use Rattle.fabric_accesses.proofs.AccessLaws.{width-pos, width-le, base-aligned, first-in-word, first-byte-within}
 use Rattle.fabric_accesses.proofs.AccessLaws.{word-within, in-word, ratio-le, accesses-le}
 use Rattle.fabric_accesses.proofs.PowerLaws.{legal-pair}
-use Rattle.fabric_bytes.specs.Bytes.{Store, bufferLength, memoryPlace}
-use Rattle.fabric_bytes.specs.Reaching.{Reached}
+use Rattle.fabric_bytes.specs.Bytes.{Store, bufferLength, memoryIndex}
+use Rattle.fabric_bytes.specs.Code.Reaching.{Reached}
 use Rattle.fabric_state.specs.declared.State.{State}
 use Rattle.fabric_state.specs.Records.{transferAt}
 use Rattle.fabric_state.specs.Control.{slotAfterGrant}
-use Rattle.fabric_cycle.specs.Serving.{Placed}
+use Rattle.fabric_cycle.specs.Code.Serving.{Placed}
 use Rattle.fabric_state.proofs.Sound.{Sound}
 use Rattle.fabric_state.proofs.DecodeLaws.{Accepted}
 use Rattle.fabric_state.proofs.SoundLaws.{requester, grant-sound}
@@ -62,7 +62,7 @@ module _ (b : Board) (legal : Legal b) (m s : ℕ) (t : Transfer) (known : m < b
 
   pub accepted-reached : (d : Store) → b .«master_count» ≤ 8 → length (d .memory) ≡ memoryLength b
       → length (d .buffer) ≡ bufferLength → Reached (masterAt b m) (slaveAt b s) t m (startOf b s) a d
-  unfolding memoryPlace
+  unfolding memoryIndex
   accepted-reached d few p q =
       let wm = legal .master m known .width in
       let ws = legal .slave s (ok .within) .width in

@@ -8,9 +8,9 @@ use Rattle.fabric_arbiter.specs.declared.Grant.{Grant}
 use Rattle.fabric_arbiter.specs.declared.Grant.the-variants.{Granted, Silent}
 use Rattle.fabric_arbiter.specs.declared.Winner.{Winner}
 use Rattle.fabric_arbiter.specs.Granting.{arbiterAfter}
-use Rattle.fabric_arbiter.specs.Winning.{grantBy}
+use Rattle.fabric_arbiter.specs.Code.Winning.{grantBy}
 use Rattle.fabric_state.specs.declared.Slot.{Slot}
-use Rattle.fabric_state.specs.Records.{recordOf}
+use Rattle.fabric_state.specs.Records.{arbiterOf}
 use Rattle.fabric_state.specs.Control.{slotBy, slotGranted}
 
 module _ (slot : Slot) (a : Arbiter) {g : Grant} where
@@ -26,8 +26,8 @@ module _ (slot : Slot) (a : Arbiter) {g : Grant} where
   by-silent e = rw e
 
 -- what the three calls give together: the record h that is lent, the grant g, the record a that comes back, the slot r
-pub ruled : (slot : Slot) (w : Winner) (shares beats : ℕ) {h a : Arbiter} {g : Grant} {r : Slot} → h ≡ recordOf slot
+pub ruled : (slot : Slot) (w : Winner) (shares beats : ℕ) {h a : Arbiter} {g : Grant} {r : Slot} → h ≡ arbiterOf slot
     → g ≡ grantBy h w shares beats → a ≡ arbiterAfter h (grantBy h w shares beats) → r ≡ slotBy slot a g
-    → r ≡ slotGranted slot (grantBy (recordOf slot) w shares beats)
+    → r ≡ slotGranted slot (grantBy (arbiterOf slot) w shares beats)
 unfolding slotGranted
 ruled slot w shares beats e f k q = q ∙ rw (k, f, e)

@@ -11,7 +11,7 @@ use Rattle.description_board.specs.declared.Board.{Board}
 use Rattle.description_board.specs.Records.{masterAt, slaveAt, startOf}
 use Rattle.fabric_accesses.specs.declared.Transfer.{Transfer}
 use Rattle.fabric_accesses.specs.Accesses.{accesses, waitOf}
-use Rattle.fabric_bytes.specs.Bytes.{Store, accessed}
+use Rattle.fabric_bytes.specs.Bytes.{Store, carriedAccess}
 use Rattle.fabric_state.specs.declared.Slot.{Slot}
 use Rattle.fabric_state.specs.declared.State.{State}
 use Rattle.fabric_state.specs.declared.Line.{Line}
@@ -20,7 +20,7 @@ use Rattle.fabric_state.specs.Records.{noLine, transferAt}
 use Rattle.fabric_state.specs.Control.{slotAfterGrant, lineOf, waits}
 use Rattle.fabric_state.specs.Control.{slotWaiting, slotAccessed, slotFinished, served, stepOf}
 use Rattle.fabric_state.specs.Carrying.{carriesOut, carried}
-use Rattle.fabric_cycle.specs.Serving.{stepFrom, carriedFrom}
+use Rattle.fabric_cycle.specs.Code.Serving.{stepFrom, carriedFrom}
 
 -- a wait is a number of 32 bits, so that waits passed stay one
 pub wait-fits : (sl : Slave) (t : Transfer) (n : ℕ) → sl .«read_wait» < n → sl .«write_wait» < n → waitOf sl t < n
@@ -79,7 +79,7 @@ module _ (ma : Master) (sl : Slave) (t : Transfer) (slot : Slot) where
   carried-waiting start d on h = rw (on, lt-ltb (slot .waited) (waitOf sl t) h)
 
   pub carried-access : (start : ℕ) (d : Store) → slot .serving ≡ true → waitOf sl t ≤ slot .waited
-      → accessed ma sl t (slot .owner) start (slot .done) d ≡ carriedFrom ma sl t slot start d
+      → carriedAccess ma sl t (slot .owner) start (slot .done) d ≡ carriedFrom ma sl t slot start d
   unfolding carriedFrom waits
   carried-access start d on h = rw (on, le-ltb (slot .waited) (waitOf sl t) h)
 

@@ -20,7 +20,7 @@ use Rattle.fabric_arbiter.specs.declared.Winner.{Winner}
 use Rattle.fabric_arbiter.specs.declared.Winner.the-variants.{Again, First, NoOne}
 use Rattle.fabric_arbiter.specs.declared.Grant.{Grant}
 use Rattle.fabric_arbiter.specs.Granting.{granted}
-use Rattle.fabric_arbiter.specs.Winning.{winner, grantBy}
+use Rattle.fabric_arbiter.specs.Code.Winning.{winnerOf, grantBy}
 use Rattle.fabric_arbiter.proofs.GrantLaws.{again-wins, first-wins, none-wins}
 use Rattle.fabric_arbiter.proofs.OrderLaws.{winner-again, winner-first}
 use Rattle.fabric_bytes.specs.Bytes.{Store}
@@ -28,12 +28,12 @@ use Rattle.fabric_state.specs.declared.Slot.{Slot}
 use Rattle.fabric_state.specs.declared.State.{State}
 use Rattle.fabric_state.specs.declared.Line.{Line}
 use Rattle.fabric_state.specs.declared.Step.{Step}
-use Rattle.fabric_state.specs.Records.{noLine, transferAt, slotAt, recordOf}
+use Rattle.fabric_state.specs.Records.{noLine, transferAt, slotAt, arbiterOf}
 use Rattle.fabric_state.specs.Control.{slotGranted}
 use Rattle.fabric_layout.specs.Layout.{withSlot}
-use Rattle.fabric_cycle.specs.Serving.{stepFrom, Serves, Served}
+use Rattle.fabric_cycle.specs.Code.Serving.{stepFrom, Serves, Served}
 use Rattle.fabric_cycle.proofs.ServeLaws.{from-resting, carried-resting}
-use Rattle.fabric_cycle.specs.Turns.{slotAsked, stepAt, carriedAt, ended, stateTurned, Serving, Turned}
+use Rattle.fabric_cycle.specs.Code.Turns.{slotAsked, stepAt, carriedAt, endedTransfer, stateTurned, Serving, Turned}
 
 -- ---- rule 1
 
@@ -45,8 +45,8 @@ bit-low mask m h e = go (ltb m 8) refl
     go true q = ltb-true m 8 q
     go false q = absurd (true≢false (sym e ∙ bit-above 8 mask m h (ltb-false m 8 q)))
 
--- so the winner by such a mask is one of 8 masters
-module _ (mask : ℕ) (small : mask < 256) (n : ℕ) (a : Arbiter) {w : Winner} (won : w ≡ winner n (bit mask) a) where
+-- so the winnerOf by such a mask is one of 8 masters
+module _ (mask : ℕ) (small : mask < 256) (n : ℕ) (a : Arbiter) {w : Winner} (won : w ≡ winnerOf n (bit mask) a) where
   pub again-low : w ≡ Again → a .owner < 8
   again-low q = bit-low mask (a .owner) small (winner-again n (bit mask) a (sym won ∙ q))
 
@@ -59,37 +59,37 @@ module _ (b : Board) (st : State) (s mask : ℕ) {x : Slot} (own : x ≡ slotAt 
   asked-serving on = own ∙ rw (rw own at on)
 
   asked-by : {g : Grant} {r : Slot} → x .serving ≡ false
-      → g ≡ granted (b .«master_count») (bit mask) (λ m. sharesAt b m s) (λ m. transferAt st m .beats) (recordOf x)
+      → g ≡ granted (b .«master_count») (bit mask) (λ m. sharesAt b m s) (λ m. transferAt st m .beats) (arbiterOf x)
       → r ≡ slotGranted x g → r ≡ slotAsked b st s mask
   unfolding slotAsked
   asked-by off e q = q ∙ rw (e, own, rw own at off)
 
-  -- the winner w among n masters, on the record a
-  module _ (off : x .serving ≡ false) {n : ℕ} {a : Arbiter} {w : Winner} (masters : n ≡ b .«master_count») (last : a ≡ recordOf x)
-      (won : w ≡ winner n (bit mask) a) where
-    chosen : w ≡ winner (b .«master_count») (bit mask) (recordOf x)
+  -- the winnerOf w among n masters, on the record a
+  module _ (off : x .serving ≡ false) {n : ℕ} {a : Arbiter} {w : Winner} (masters : n ≡ b .«master_count») (last : a ≡ arbiterOf x)
+      (won : w ≡ winnerOf n (bit mask) a) where
+    chosen : w ≡ winnerOf (b .«master_count») (bit mask) (arbiterOf x)
     chosen = rw (← masters, ← last) won
 
     pub asked-again : (y : ℕ) {v : ℕ} {r : Slot} → w ≡ Again → v ≡ transferAt st (a .owner) .beats
-        → r ≡ slotGranted x (grantBy (recordOf x) w y v) → r ≡ slotAsked b st s mask
+        → r ≡ slotGranted x (grantBy (arbiterOf x) w y v) → r ≡ slotAsked b st s mask
     asked-again y {v} q f e =
         asked-by off
-        (again-wins (b .«master_count») (bit mask) (λ m. sharesAt b m s) (λ m. transferAt st m .beats) (recordOf x) chosen y v q
+        (again-wins (b .«master_count») (bit mask) (λ m. sharesAt b m s) (λ m. transferAt st m .beats) (arbiterOf x) chosen y v q
         (f ∙ ap (λ (z : Arbiter). transferAt st (z .owner) .beats) last)) e
 
     pub asked-first : (m : ℕ) {y v : ℕ} {r : Slot} → w ≡ First m → y ≡ sharesAt b m s → v ≡ transferAt st m .beats
-        → r ≡ slotGranted x (grantBy (recordOf x) (First m) y v) → r ≡ slotAsked b st s mask
+        → r ≡ slotGranted x (grantBy (arbiterOf x) (First m) y v) → r ≡ slotAsked b st s mask
     asked-first m {y} {v} q f g e =
         asked-by off
-        (first-wins (b .«master_count») (bit mask) (λ m. sharesAt b m s) (λ m. transferAt st m .beats) (recordOf x) chosen m y v q
+        (first-wins (b .«master_count») (bit mask) (λ m. sharesAt b m s) (λ m. transferAt st m .beats) (arbiterOf x) chosen m y v q
         f g)
-        (e ∙ ap (λ (z : Winner). slotGranted x (grantBy (recordOf x) z y v)) (sym q))
+        (e ∙ ap (λ (z : Winner). slotGranted x (grantBy (arbiterOf x) z y v)) (sym q))
 
-    pub asked-none : (y v : ℕ) {r : Slot} → w ≡ NoOne → r ≡ slotGranted x (grantBy (recordOf x) w y v)
+    pub asked-none : (y v : ℕ) {r : Slot} → w ≡ NoOne → r ≡ slotGranted x (grantBy (arbiterOf x) w y v)
         → r ≡ slotAsked b st s mask
     asked-none y v q e =
         asked-by off
-        (none-wins (b .«master_count») (bit mask) (λ m. sharesAt b m s) (λ m. transferAt st m .beats) (recordOf x) chosen y v q) e
+        (none-wins (b .«master_count») (bit mask) (λ m. sharesAt b m s) (λ m. transferAt st m .beats) (arbiterOf x) chosen y v q) e
 
 -- ---- rules 2 and 3
 
@@ -97,7 +97,7 @@ module _ (b : Board) (before after : State) (s : ℕ) (x : Slot) (start : ℕ) (
   -- a slave that rests
   pub turned-resting : x .serving ≡ false → after ≡ withSlot before s x → shown ≡ set lines s noLine
       → Turned b before after s x start lines shown 0 d d
-  unfolding stateTurned stepAt carriedAt ended
+  unfolding stateTurned stepAt carriedAt endedTransfer
   turned-resting off e f =
       let ma = masterAt b (x .owner) in
       let t = transferAt before (x .owner) in
@@ -118,7 +118,7 @@ serves-as x start d e f g p = rw (e, f, g) p
 module _ (b : Board) (before : State) (s : ℕ) (x : Slot) (start : ℕ) (d : Store) {ma : Master} {sl : Slave} {t : Transfer}
     (e : ma ≡ masterAt b (x .owner)) (f : sl ≡ slaveAt b s) (g : t ≡ transferAt before (x .owner)) where
   pub turned-serving : (mid after : State) (lines shown : List Line) (y : Step) {r : ℕ} (c : Store) → Served ma sl t x start d c y
-      → mid ≡ withSlot before s (y .slot) → shown ≡ set lines s (y .line) → after ≡ ended mid (x .owner) (y .finished)
+      → mid ≡ withSlot before s (y .slot) → shown ≡ set lines s (y .line) → after ≡ endedTransfer mid (x .owner) (y .finished)
       → r ≡ cond (y .finished) (2 ^ x .owner) 0 → Turned b before after s x start lines shown r d c
   unfolding stateTurned stepAt carriedAt
   turned-serving mid after lines shown y c p u v w z =

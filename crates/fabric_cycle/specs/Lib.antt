@@ -1,3 +1,1 @@
-pub mod Serving
-pub mod Cycles
-pub mod Turns
+pub mod Code

@@ -15,12 +15,12 @@ ghost use Rattle.description_board.specs.Records.{memoryLength};
 ghost use Rattle.fabric_bytes.specs.Bytes.{bufferLength};
 ghost use Rattle.description_layout.specs.Layout.{boardIn};
 ghost use Rattle.fabric_layout.specs.Layout.{stateIn, linesIn};
-ghost use Rattle.fabric_check.specs.Targets.{targetsIn, requestMask};
-ghost use Rattle.fabric_cycle.specs.Cycles.{Runs, Clocks};
-ghost use Rattle.fabric_cycle.specs.Turns.{slotAsked, ended, Ready, Serving, Turned};
+ghost use Rattle.fabric_check.specs.Code.Targets.{targetsIn, requestMask};
+ghost use Rattle.fabric_cycle.specs.Code.Cycles.{Passes, Clocks};
+ghost use Rattle.fabric_cycle.specs.Code.Turns.{slotAsked, endedTransfer, Ready, Serving, Turned};
 
 // Rule 1 at slave s, by a mask of who requests it: shares and beats are read once it is known whose.
-fn grant_at(board: &[u32; 242], st: &[u32; 120], s: usize, mask: u32) -> Slot
+fn slot_asked(board: &[u32; 242], st: &[u32; 120], s: usize, mask: u32) -> Slot
     requires { ⌜ (s < 16) × (mask < 256) ⌝ }
     ensures { λ r. ⌜ r ≡ slotAsked (boardIn (now (board .entry))) (stateIn (now (st .entry))) s mask ⌝ }
 {
@@ -28,29 +28,29 @@ fn grant_at(board: &[u32; 242], st: &[u32; 120], s: usize, mask: u32) -> Slot
     if slot.serving {
         return slot;
     }
-    let last = slave::record_of(slot);
-    let w = fabric_arbiter::choose(description_layout::master_count(board), mask, last);
+    let last = slave::arbiter_of(slot);
+    let w = fabric_arbiter::winner_of(description_layout::master_count(board), mask, last);
     match w {
-        Winner::Again => slave::slot_ruled(
+        Winner::Again => slave::slot_granted(
             slot,
             w,
             0,
             fabric_layout::beats_at(st, last.owner as usize),
         ),
-        Winner::First(m) => slave::slot_ruled(
+        Winner::First(m) => slave::slot_granted(
             slot,
             w,
-            description_layout::share_at(board, m as usize, s),
+            description_layout::shares_at(board, m as usize, s),
             fabric_layout::beats_at(st, m as usize),
         ),
-        Winner::NoOne => slave::slot_ruled(slot, w, 0, 0),
+        Winner::NoOne => slave::slot_granted(slot, w, 0, 0),
     }
 }
 
 // The transfer of a finished master ends.
 fn end_transfer(st: &mut [u32; 120], m: usize, finished: bool)
     requires { ⌜ m < 8 ⌝ }
-    ensures { λ _. ⌜ stateIn (now (st .exit)) ≡ ended (stateIn (now (st .entry))) m finished ⌝ }
+    ensures { λ _. ⌜ stateIn (now (st .exit)) ≡ endedTransfer (stateIn (now (st .entry))) m finished ⌝ }
 {
     if finished {
         let idle = Transfer {
@@ -115,7 +115,7 @@ fn turn(
         (record { memory = now (memory .entry); buffer = now (buffer .entry) })
         (record { memory = now (memory .exit); buffer = now (buffer .exit) }) ⌝ }
 {
-    let slot = grant_at(board, st, s, mask);
+    let slot = slot_asked(board, st, s, mask);
     if slot.serving {
         return serve_at(board, st, s, slot, start, lines, memory, buffer);
     }
@@ -143,7 +143,7 @@ pub fn cycle(
     memory: &mut [u8],
     buffer: &mut [u8],
 ) -> u32
-    requires { ⌜ Runs (boardIn (now board)) (stateIn (now st))
+    requires { ⌜ Passes (boardIn (now board)) (stateIn (now st))
         × (now requests ≡ table (requestMask (targetsIn (boardIn (now board)) (stateIn (now st) .transfers))) 16)
         × (length (now memory) ≡ memoryLength (boardIn (now board))) × (length (now buffer) ≡ bufferLength) ⌝ }
     ensures { λ r. ⌜ Clocks (boardIn (now (board .entry))) (stateIn (now (st .entry))) (stateIn (now (st .exit)))
@@ -160,6 +160,6 @@ pub fn cycle(
         start += sl.span as usize;
         s += 1;
     }
-    fabric_layout::clear_lines(lines, count);
+    fabric_layout::first_lines(lines, count);
     finished
 }

@@ -10,15 +10,15 @@ use fabric_state::Slot;
 use fabric_state::Step;
 ghost use mathlib.Core.Path.{_≡_};
 ghost use mathlib.Core.Bool.{true};
-ghost use Rattle.fabric_arbiter.specs.Winning.{grantBy};
-ghost use Rattle.fabric_bytes.specs.Reaching.{Reached};
-ghost use Rattle.fabric_state.specs.Records.{recordOf};
+ghost use Rattle.fabric_arbiter.specs.Code.Winning.{grantBy};
+ghost use Rattle.fabric_bytes.specs.Code.Reaching.{Reached};
+ghost use Rattle.fabric_state.specs.Records.{arbiterOf};
 ghost use Rattle.fabric_state.specs.Control.{slotBy, slotGranted, lineOf, waits, served};
-ghost use Rattle.fabric_cycle.specs.Serving.{Placed, Serves, Served, carriedFrom};
+ghost use Rattle.fabric_cycle.specs.Code.Serving.{Placed, Serves, Served, carriedFrom};
 
 // The slave's arbiter record.
-pub fn record_of(slot: Slot) -> Arbiter
-    ensures { λ r. ⌜ r ≡ recordOf slot ⌝ }
+pub fn arbiter_of(slot: Slot) -> Arbiter
+    ensures { λ r. ⌜ r ≡ arbiterOf slot ⌝ }
 {
     Arbiter {
         owner: slot.owner,
@@ -52,10 +52,10 @@ fn slot_by(slot: Slot, a: Arbiter, g: Grant) -> Slot
 
 // Rule 1 at a slave that is not serving, by the winner's shares at it and the beats of the winner's transfer: the slave's
 // record is lent to the rule, and stands in the slot after it.
-pub fn slot_ruled(slot: Slot, w: Winner, shares: u32, beats: u32) -> Slot
-    ensures { λ r. ⌜ r ≡ slotGranted slot (grantBy (recordOf slot) w shares beats) ⌝ }
+pub fn slot_granted(slot: Slot, w: Winner, shares: u32, beats: u32) -> Slot
+    ensures { λ r. ⌜ r ≡ slotGranted slot (grantBy (arbiterOf slot) w shares beats) ⌝ }
 {
-    let mut a = record_of(slot);
+    let mut a = arbiter_of(slot);
     let g = fabric_arbiter::arbitrate_record(&mut a, w, shares, beats);
     slot_by(slot, a, g)
 }
@@ -67,7 +67,7 @@ fn line_of(ma: Master, sl: Slave, t: Transfer, slot: Slot, phase: u32) -> Line
 {
     let a = slot.done;
     let offset = fabric_accesses::word_offset(ma, sl, t, a);
-    let lanes = fabric_accesses::lanes_of(ma, sl, t, a);
+    let lanes = fabric_accesses::slave_lanes(ma, sl, t, a);
     let run = fabric_accesses::run_of(ma, sl, t, a);
     let place = fabric_accesses::place_of(ma, sl, a);
     Line {
@@ -81,7 +81,7 @@ fn line_of(ma: Master, sl: Slave, t: Transfer, slot: Slot, phase: u32) -> Line
 }
 
 // Rule 2: whether the access in hand has still to wait. Each access waits anew: waits passed return to 0 with it.
-fn still_waits(sl: Slave, t: Transfer, slot: Slot) -> bool
+fn waits(sl: Slave, t: Transfer, slot: Slot) -> bool
     ensures { λ r. ⌜ r ≡ waits sl t slot ⌝ }
 {
     let waited = slot.waited;
@@ -89,7 +89,7 @@ fn still_waits(sl: Slave, t: Transfer, slot: Slot) -> bool
 }
 
 // Rules 2 and 3 at a slave that serves.
-fn served_step(ma: Master, sl: Slave, t: Transfer, slot: Slot, waiting: bool) -> Step
+fn served(ma: Master, sl: Slave, t: Transfer, slot: Slot, waiting: bool) -> Step
     requires { ⌜ (Placed ma sl t (slot .done)) × (waiting ≡ waits sl t slot) ⌝ }
     ensures { λ r. ⌜ r ≡ served ma sl t slot ⌝ }
 {
@@ -105,7 +105,7 @@ fn served_step(ma: Master, sl: Slave, t: Transfer, slot: Slot, waiting: bool) ->
         };
     }
     let line = line_of(ma, sl, t, slot, 2);
-    let total = fabric_accesses::access_count(ma, sl, t);
+    let total = fabric_accesses::accesses(ma, sl, t);
     let done = slot.done + 1;
     after.waited = 0;
     if (done as u64) < total {
@@ -126,7 +126,7 @@ fn served_step(ma: Master, sl: Slave, t: Transfer, slot: Slot, waiting: bool) ->
 }
 
 // The bytes of the access that the slave carries out in this clock, if it does; its span starts at `start`.
-fn carry_slot(
+fn carry_from(
     ma: Master,
     sl: Slave,
     t: Transfer,
@@ -162,7 +162,7 @@ pub fn serve(
     ensures { λ r. ⌜ Served ma sl t slot start (record { memory = now (memory .entry); buffer = now (buffer .entry) })
         (record { memory = now (memory .exit); buffer = now (buffer .exit) }) r ⌝ }
 {
-    let waiting = still_waits(sl, t, slot);
-    carry_slot(ma, sl, t, slot, waiting, start, memory, buffer);
-    served_step(ma, sl, t, slot, waiting)
+    let waiting = waits(sl, t, slot);
+    carry_from(ma, sl, t, slot, waiting, start, memory, buffer);
+    served(ma, sl, t, slot, waiting)
 }

@@ -14,7 +14,7 @@ pub fn all_lanes(width: u32) -> u32
 
 // Whether a master of this width may enable these lanes. The count of ones is a power of two, and the lowest lane a multiple of
 // it, where each has no bit below the count's own.
-pub fn lanes_legal(width: u32, lanes: u32) -> bool
+pub fn legal_lanes(width: u32, lanes: u32) -> bool
     requires { ⌜ width ≤ 8 ⌝ }
     ensures { λ r. ⌜ r ≡ legalLanes width lanes ⌝ }
 {
@@ -32,7 +32,7 @@ pub fn lanes_legal(width: u32, lanes: u32) -> bool
 
 // Whether a master of this width may post these lanes with so many beats. All lanes, which most posts have, are as many as the
 // width, and legal where it is a power of two.
-pub fn lanes_postable(width: u32, lanes: u32, beats: u32) -> bool
+pub fn post_lanes(width: u32, lanes: u32, beats: u32) -> bool
     requires { ⌜ width ≤ 8 ⌝ }
     ensures { λ r. ⌜ r ≡ postLanes width lanes beats ⌝ }
 {
@@ -43,5 +43,5 @@ pub fn lanes_postable(width: u32, lanes: u32, beats: u32) -> bool
     if 1 < beats {
         return false;
     }
-    lanes_legal(width, lanes)
+    legal_lanes(width, lanes)
 }

@@ -17,7 +17,7 @@ use Rattle.fabric_accesses.specs.Accesses.{noTransfer}
 use Rattle.fabric_state.specs.declared.Slot.{Slot}
 use Rattle.fabric_state.specs.declared.Line.{Line}
 use Rattle.fabric_state.specs.Records.{noSlot, transferAt, slotAt}
-use Rattle.fabric_state.specs.Posting.{stateWith}
+use Rattle.fabric_state.specs.Posting.{withTransfer}
 use Rattle.fabric_layout.specs.Layout.{marked, transferFrom, slotFrom, stateIn, withSlot, lineFrom, linesIn}
 
 mark-back : (b : Bool) {n : ℕ} → n ≡ cond b 1 0 → marked n ≡ b
@@ -209,8 +209,8 @@ module _ (l : List ℕ) where
         far i w = ⊎-elim (λ g. inl (omega arith)) (λ g. inr (omega arith)) (below-above i s w)
 
     pub transfer-put : (m : ℕ) (t : Transfer) {held write : ℕ} → m < 8 → held ≡ cond (t .held) 1 0 → write ≡ cond (t .write) 1 0
-        → stateIn (five l (5 * m) held write (t .address) (t .lanes) (t .beats)) ≡ stateWith (stateIn l) m t
-    unfolding stateIn stateWith
+        → stateIn (five l (5 * m) held write (t .address) (t .lanes) (t .beats)) ≡ withTransfer (stateIn l) m t
+    unfolding stateIn withTransfer
     transfer-put m t {held} {write} h eh ew =
         let p = 5 * m in
         let vs = held ∷ write ∷ t .address ∷ t .lanes ∷ t .beats ∷ [] in

@@ -17,8 +17,8 @@ use Rattle.fabric_state.specs.declared.Slot.{Slot}
 use Rattle.fabric_state.specs.declared.State.{State}
 use Rattle.fabric_state.specs.declared.Line.{Line}
 use Rattle.fabric_state.specs.Records.{noSlot, noLine, transferAt, slotAt}
-use Rattle.fabric_state.specs.Posting.{stateWith}
-use Rattle.fabric_state.specs.Resetting.{ownedBy}
+use Rattle.fabric_state.specs.Posting.{withTransfer}
+use Rattle.fabric_state.specs.Resetting.{resetState}
 use Rattle.fabric_layout.specs.Layout.{stateIn, transferFrom, slotFrom, withSlot, lineFrom, linesIn, firstLines, resetSlot}
 
 module _ (l : List ℕ) where
@@ -83,12 +83,12 @@ first-none lines = refl
 
 -- what a put changes, and what it leaves
 module _ (u v : State) where
-  pub transfers-put : (m : ℕ) (t : Transfer) → u ≡ stateWith v m t → u .transfers ≡ set (v .transfers) m t
-  unfolding stateWith
+  pub transfers-put : (m : ℕ) (t : Transfer) → u ≡ withTransfer v m t → u .transfers ≡ set (v .transfers) m t
+  unfolding withTransfer
   transfers-put m t e = ap (λ (y : State). y .transfers) e
 
-  pub slots-left : (m : ℕ) (t : Transfer) → u ≡ stateWith v m t → u .slots ≡ v .slots
-  unfolding stateWith
+  pub slots-left : (m : ℕ) (t : Transfer) → u ≡ withTransfer v m t → u .slots ≡ v .slots
+  unfolding withTransfer
   slots-left m t e = ap (λ (y : State). y .slots) e
 
   pub slots-put : (s : ℕ) (x : Slot) → u ≡ withSlot v s x → u .slots ≡ set (v .slots) s x
@@ -106,8 +106,8 @@ unfolding table gather
 idle-all e = e
 
 pub reset-end : (u : State) (owner n : ℕ) → u .transfers ≡ replicate 8 noTransfer → u .slots ≡ table (resetSlot owner n) 16
-    → u ≡ ownedBy owner n
-unfolding ownedBy resetSlot
+    → u ≡ resetState owner n
+unfolding resetState resetSlot
 reset-end u owner n t s = rw (← t, ← s) refl
 
 pub fresh-owned : (owner n s : ℕ) → s < n

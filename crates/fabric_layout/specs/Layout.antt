@@ -43,7 +43,7 @@ stateIn l = record {
   slots = table (λ s. slotFrom l (40 + 5 * s)) 16;
 }
 
--- a state with one slot set. With a transfer set: `Posting.stateWith`
+-- a state with one slot set. With a transfer set: `Posting.withTransfer`
 unfoldable pub withSlot : State → ℕ → Slot → State
 withSlot st s x = record { transfers = st .transfers; slots = set (st .slots) s x }
 

@@ -8,8 +8,8 @@ ghost use Prim.Native.Nat.{_<_};
 ghost use lib.ListN.{set, replicate};
 ghost use Rattle.fabric_accesses.specs.Accesses.{noTransfer};
 ghost use Rattle.fabric_state.specs.Records.{transferAt, slotAt};
-ghost use Rattle.fabric_state.specs.Posting.{stateWith};
-ghost use Rattle.fabric_state.specs.Resetting.{ownedBy};
+ghost use Rattle.fabric_state.specs.Posting.{withTransfer};
+ghost use Rattle.fabric_state.specs.Resetting.{resetState};
 ghost use Rattle.fabric_layout.specs.Layout.{stateIn, withSlot, linesIn, firstLines, resetSlot};
 
 fn mark_of(b: bool) -> u32
@@ -56,7 +56,7 @@ pub fn slot_at(st: &[u32; 120], s: usize) -> Slot
 
 pub fn put_transfer(st: &mut [u32; 120], m: usize, t: Transfer)
     requires { ⌜ m < 8 ⌝ }
-    ensures { λ _. ⌜ stateIn (now (st .exit)) ≡ stateWith (stateIn (now (st .entry))) m t ⌝ }
+    ensures { λ _. ⌜ stateIn (now (st .exit)) ≡ withTransfer (stateIn (now (st .entry))) m t ⌝ }
 {
     description_layout::count(st);
     let p = 5 * m;
@@ -95,7 +95,7 @@ pub fn put_line(lines: &mut [u32; 96], s: usize, x: Line)
 }
 
 // The lines from n on show nothing.
-pub fn clear_lines(lines: &mut [u32; 96], n: usize)
+pub fn first_lines(lines: &mut [u32; 96], n: usize)
     ensures { λ _. ⌜ linesIn (now (lines .exit)) ≡ firstLines n (linesIn (now (lines .entry))) ⌝ }
 {
     let blank = Line {
@@ -114,7 +114,7 @@ pub fn clear_lines(lines: &mut [u32; 96], n: usize)
 }
 
 // The slot of slave s after a reset, where the first n slaves have an owner.
-fn slot_at_reset(owner: u32, n: u32, s: usize) -> Slot
+fn reset_slot(owner: u32, n: u32, s: usize) -> Slot
     ensures { λ r. ⌜ r ≡ resetSlot owner n s ⌝ }
 {
     let mut x = Slot {
@@ -149,12 +149,12 @@ fn clear_transfers(st: &mut [u32; 120])
 
 // The state after a reset where `owner` is the last at the first n slaves. What stood in the array before does not matter.
 pub fn reset_state(st: &mut [u32; 120], owner: u32, n: u32)
-    ensures { λ _. ⌜ stateIn (now (st .exit)) ≡ ownedBy owner n ⌝ }
+    ensures { λ _. ⌜ stateIn (now (st .exit)) ≡ resetState owner n ⌝ }
 {
     clear_transfers(st);
     let mut s: usize = 0;
     while s < 16 {
-        put_slot(st, s, slot_at_reset(owner, n, s));
+        put_slot(st, s, reset_slot(owner, n, s));
         s += 1;
     }
 }

@@ -18,7 +18,7 @@ use Rattle.fabric_accesses.proofs.SelectLaws.{target-first, selects-facts, sele
 use Rattle.fabric_accesses.proofs.AccessLaws.{width-pos, accesses-pos}
 use Rattle.fabric_state.specs.declared.State.{State}
 use Rattle.fabric_state.specs.Records.{transferAt}
-use Rattle.fabric_state.specs.Posting.{wrongBeats, unaligned, wrongLanes, unmapped, passesEnd, refusalAt, transferRefusal}
+use Rattle.fabric_state.specs.Posting.{wrongBeats, unaligned, wrongLanes, unmapped, passesEnd, transferRefusalBy, transferRefusal}
 use Rattle.fabric_state.specs.Soundness.{requests}
 
 -- a requester holds a transfer whose address selects the slave
@@ -64,7 +64,7 @@ pub record Accepted (b : Board) (m : ℕ) (t : Transfer) (s : ℕ) : Type 0 wher
 module _ (b : Board) (legal : Legal b) (m : ℕ) (t : Transfer) (ok : transferRefusal b m t ≡ 0) where
   -- it is for a slave
   pub accepted : Accepted b m t (targetOf b m (t .address))
-  unfolding transferRefusal refusalAt wrongBeats unaligned wrongLanes unmapped passesEnd
+  unfolding transferRefusal transferRefusalBy wrongBeats unaligned wrongLanes unmapped passesEnd
   accepted =
       let s = targetOf b m (t .address) in
       let p = passed (wrongBeats (masterAt b m) t) 12 _ ok in

@@ -25,12 +25,12 @@ use Rattle.fabric_state.specs.declared.Slot.{Slot}
 use Rattle.fabric_state.specs.declared.State.{State}
 use Rattle.fabric_state.specs.Records.{transferAt, slotAt}
 use Rattle.fabric_state.specs.Posting.{transferRefusal}
-use Rattle.fabric_state.specs.Soundness.{requests, soundTransfer, slotSound, soundSlot, sound}
+use Rattle.fabric_state.specs.Soundness.{requests, soundTransfer, soundSlotBy, soundSlot, sound}
 use Rattle.fabric_state.specs.Soundness.{soundOwner, soundRemaining, soundService, soundRest}
 use Rattle.fabric_state.specs.Control.{grantAt, slotBy, slotGranted, slotAfterGrant, slotWaiting, slotAccessed, slotFinished}
 use Rattle.fabric_state.specs.Control.{stepOf, finished, stateAfter}
-use Rattle.fabric_state.specs.Resetting.{ownedBy, stateAtReset}
-use Rattle.fabric_state.specs.Posting.{stateWith}
+use Rattle.fabric_state.specs.Resetting.{resetState, stateAtReset}
+use Rattle.fabric_state.specs.Posting.{withTransfer}
 use Rattle.fabric_state.proofs.Sound.{Sound}
 use Rattle.fabric_state.proofs.StateLaws.{transfers-after, slots-after, slot-after, transfer-after, finished-by}
 use Rattle.fabric_state.proofs.StateLaws.{transfer-kept, held-after, transfer-reset, slot-reset}
@@ -87,7 +87,7 @@ module _ (b : Board) (st : State) (s : ℕ) (x : Slot) where
   abbrev passes : Bool
   passes =
       soundOwner b x
-      && slotSound (sharesAt b (x .owner) s) (requests b st s (x .owner)) (masterAt b (x .owner)) (slaveAt b s)
+      && soundSlotBy (sharesAt b (x .owner) s) (requests b st s (x .owner)) (masterAt b (x .owner)) (slaveAt b s)
       (transferAt st (x .owner)) x
 
   remaining-facts : kept ≡ true → (x .remaining ≡ 0) ⊎ (x .remaining < sharesAt b (x .owner) s)
@@ -129,7 +129,7 @@ module _ (b : Board) (st : State) (s : ℕ) (x : Slot) where
       (le-leb (x .waited) (waitOf (slaveAt b s) (transferAt st (x .owner))) (v .waited))
 
   slot-facts : passes ≡ true → SlotSound b st s x
-  unfolding soundOwner slotSound soundService soundRest
+  unfolding soundOwner soundSlotBy soundService soundRest
   slot-facts e =
       let service = cond (x .serving) serves (soundRest x) in
       let p = both (soundOwner b x) (kept && service) e in
@@ -144,7 +144,7 @@ module _ (b : Board) (st : State) (s : ℕ) (x : Slot) where
       }
 
   slot-test : SlotSound b st s x → passes ≡ true
-  unfolding soundOwner slotSound soundRest
+  unfolding soundOwner soundSlotBy soundRest
   slot-test v = rw (lt-ltb (x .owner) (b .«master_count») (v .owner), remaining-test (v .remaining)) (go (x .serving) refl)
     where
       go : (c : Bool) → x .serving ≡ c → cond c serves (soundRest x) ≡ true
@@ -188,7 +188,7 @@ module _ (b : Board) (st : State) where
       held m false q = refl
 
 pub reset-sound : (b : Board) → Legal b → Sound b (stateAtReset b)
-unfolding stateAtReset ownedBy
+unfolding stateAtReset resetState
 reset-sound b legal =
     sound-of b (stateAtReset b) (length-replicate 8 noTransfer) (length-table _ 16)
     (λ m q. absurd (false≢true (rw (transfer-reset b m) at q)))
@@ -215,18 +215,18 @@ serves-on b st u s x same v = record {
 }
 
 pub post-sound : (b : Board) (st : State) (m : ℕ) (t : Transfer) → Legal b → Sound b st → m < b .«master_count»
-    → transferAt st m .held ≡ false → transferRefusal b m t ≡ 0 → t .held ≡ true → Sound b (stateWith st m t)
+    → transferAt st m .held ≡ false → transferRefusal b m t ≡ 0 → t .held ≡ true → Sound b (withTransfer st m t)
 post-sound b st m t legal x h free ok _ =
-    sound-of b (stateWith st m t) (transfers-with st m t ∙ x .transfers) (ap length (slots-with st m t) ∙ x .slots) holds slots
+    sound-of b (withTransfer st m t) (transfers-with st m t ∙ x .transfers) (ap length (slots-with st m t) ∙ x .slots) holds slots
   where
-    posted : transferAt (stateWith st m t) m ≡ t
+    posted : transferAt (withTransfer st m t) m ≡ t
     posted = transfer-with st m t (x .transfers) (omega (arith, legal .fewMasters))
 
-    holds : (k : ℕ) → transferAt (stateWith st m t) k .held ≡ true
-        → (k < b .«master_count») × (transferRefusal b k (transferAt (stateWith st m t) k) ≡ 0)
+    holds : (k : ℕ) → transferAt (withTransfer st m t) k .held ≡ true
+        → (k < b .«master_count») × (transferRefusal b k (transferAt (withTransfer st m t) k) ≡ 0)
     holds k q = go (ℕ-discrete k m)
       where
-        go : Dec (k ≡ m) → (k < b .«master_count») × (transferRefusal b k (transferAt (stateWith st m t) k) ≡ 0)
+        go : Dec (k ≡ m) → (k < b .«master_count») × (transferRefusal b k (transferAt (withTransfer st m t) k) ≡ 0)
         go (yes e) = rw e (h, rw posted ok)
         go (no e) =
             let same = transfer-with-other st m t k e in
@@ -237,14 +237,14 @@ post-sound b st m t legal x h free ok _ =
         let held = requests-held b st s (slotAt st s .owner) (x .serving s l q .asks) in
         true≢false (sym (rw e at held) ∙ free)
 
-    slots : (s : ℕ) → s < b .«slave_count» → SlotSound b (stateWith st m t) s (slotAt (stateWith st m t) s)
+    slots : (s : ℕ) → s < b .«slave_count» → SlotSound b (withTransfer st m t) s (slotAt (withTransfer st m t) s)
     slots s l =
         let v = slot-sound b st x s l in
         rw (slot-with st m t s) (record {
           owner = v .owner;
           remaining = v .remaining;
           serving = λ q.
-              serves-on b st (stateWith st m t) s (slotAt st s)
+              serves-on b st (withTransfer st m t) s (slotAt st s)
               (transfer-with-other st m t (slotAt st s .owner) (other s l q))
               (v .serving q);
           resting = v .resting;

@@ -20,8 +20,8 @@ use Rattle.fabric_state.specs.declared.State.{State}
 use Rattle.fabric_state.specs.Records.{noLine, noSlot, transferAt, slotAt}
 use Rattle.fabric_state.specs.Control.{stepOf, lineAfter, slotAfter, finishes, finished, maskOf, transferAfter}
 use Rattle.fabric_state.specs.Control.{stateAfter, linesOf}
-use Rattle.fabric_state.specs.Resetting.{ownedBy, stateAtReset}
-use Rattle.fabric_state.specs.Posting.{stateWith}
+use Rattle.fabric_state.specs.Resetting.{resetState, stateAtReset}
+use Rattle.fabric_state.specs.Posting.{withTransfer}
 
 module _ (b : Board) (st : State) where
   pub transfers-after : length (stateAfter b st .transfers) ≡ 8
@@ -115,33 +115,33 @@ module _ (b : Board) (st : State) where
 
 -- a post changes one transfer, and no slot
 module _ (st : State) (m : ℕ) (t : Transfer) where
-  pub transfers-with : length (stateWith st m t .transfers) ≡ length (st .transfers)
-  unfolding stateWith
+  pub transfers-with : length (withTransfer st m t .transfers) ≡ length (st .transfers)
+  unfolding withTransfer
   transfers-with = length-set (st .transfers) m t
 
-  pub slots-with : stateWith st m t .slots ≡ st .slots
-  unfolding stateWith
+  pub slots-with : withTransfer st m t .slots ≡ st .slots
+  unfolding withTransfer
   slots-with = refl
 
-  pub transfer-with : length (st .transfers) ≡ 8 → m < 8 → transferAt (stateWith st m t) m ≡ t
-  unfolding stateWith
+  pub transfer-with : length (st .transfers) ≡ 8 → m < 8 → transferAt (withTransfer st m t) m ≡ t
+  unfolding withTransfer
   transfer-with e h = getD-set-same (st .transfers) m t noTransfer (rw e h)
 
-  pub transfer-with-other : (k : ℕ) → k ≢ m → transferAt (stateWith st m t) k ≡ transferAt st k
-  unfolding stateWith
+  pub transfer-with-other : (k : ℕ) → k ≢ m → transferAt (withTransfer st m t) k ≡ transferAt st k
+  unfolding withTransfer
   transfer-with-other k h = getD-set-other (st .transfers) m k t noTransfer h
 
-  pub slot-with : (s : ℕ) → slotAt (stateWith st m t) s ≡ slotAt st s
-  unfolding stateWith
+  pub slot-with : (s : ℕ) → slotAt (withTransfer st m t) s ≡ slotAt st s
+  unfolding withTransfer
   slot-with s = refl
 
 -- reset: no transfers, and every slave's last owner is the highest master
 pub transfer-reset : (b : Board) (m : ℕ) → transferAt (stateAtReset b) m ≡ noTransfer
-unfolding stateAtReset ownedBy
+unfolding stateAtReset resetState
 transfer-reset b m = getD-replicate-all 8 m noTransfer
 
 pub slot-reset : (b : Board) (s : ℕ) → s < b .«slave_count» → b .«slave_count» ≤ 16
     → slotAt (stateAtReset b) s
     ≡ record { owner = b .«master_count» - 1; remaining = 0; serving = false; done = 0; waited = 0 }
-unfolding stateAtReset ownedBy
+unfolding stateAtReset resetState
 slot-reset b s h l = getD-table _ 16 noSlot s (omega arith) ∙ rw (lt-ltb s (b .«slave_count») h)

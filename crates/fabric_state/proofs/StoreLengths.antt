@@ -6,7 +6,7 @@ use Prim.Native.Nat.{ℕ, zero, suc}
 use lib.ListN.{length}
 use Rattle.description_board.specs.declared.Board.{Board}
 use Rattle.description_board.specs.Records.{masterAt, slaveAt, startOf}
-use Rattle.fabric_bytes.specs.Bytes.{Store, accessed}
+use Rattle.fabric_bytes.specs.Bytes.{Store, carriedAccess}
 use Rattle.fabric_bytes.proofs.StoreLaws.{length-memory, length-buffer}
 use Rattle.fabric_state.specs.declared.Slot.{Slot}
 use Rattle.fabric_state.specs.declared.State.{State}
@@ -29,7 +29,7 @@ carried-one b st s d = go (carriesOut b st s (slotAfterGrant b st s))
     then : Bool → Store
     then c =
         cond c
-        (accessed (masterAt b (slot .owner)) (slaveAt b s) (transferAt st (slot .owner)) (slot .owner) (startOf b s) (slot .done) d)
+        (carriedAccess (masterAt b (slot .owner)) (slaveAt b s) (transferAt st (slot .owner)) (slot .owner) (startOf b s) (slot .done) d)
         d
 
     go : (c : Bool) → SameLengths (then c) d

@@ -4,7 +4,7 @@ use mathlib.Core.Bool.{Bool, cond, not, _&&_}
 use Prim.Native.Nat.{ℕ, zero, suc}
 use Rattle.description_board.specs.declared.Board.{Board}
 use Rattle.description_board.specs.Records.{masterAt, slaveAt, startOf}
-use Rattle.fabric_bytes.specs.Bytes.{Store, accessed}
+use Rattle.fabric_bytes.specs.Bytes.{Store, carriedAccess}
 use Rattle.fabric_state.specs.declared.Slot.{Slot}
 use Rattle.fabric_state.specs.declared.State.{State}
 use Rattle.fabric_state.specs.Records.{transferAt}
@@ -19,7 +19,7 @@ unfoldable pub carried : Board → State → ℕ → Store → Store
 carried b st s d =
     let slot = slotAfterGrant b st s in
     cond (carriesOut b st s slot)
-    (accessed (masterAt b (slot .owner)) (slaveAt b s) (transferAt st (slot .owner)) (slot .owner) (startOf b s) (slot .done) d)
+    (carriedAccess (masterAt b (slot .owner)) (slaveAt b s) (transferAt st (slot .owner)) (slot .owner) (startOf b s) (slot .done) d)
     d
 
 -- the bytes of the first n slaves

@@ -20,14 +20,14 @@ use Rattle.fabric_state.specs.declared.Slot.{Slot}
 use Rattle.fabric_state.specs.declared.State.{State}
 use Rattle.fabric_state.specs.declared.Line.{Line}
 use Rattle.fabric_state.specs.declared.Step.{Step}
-use Rattle.fabric_state.specs.Records.{noLine, transferAt, slotAt, recordOf}
+use Rattle.fabric_state.specs.Records.{noLine, transferAt, slotAt, arbiterOf}
 use Rattle.fabric_state.specs.Soundness.{requests}
 
 -- Rule 1. The grant of slave s, which is not serving
 unfoldable pub grantAt : Board → State → ℕ → Grant
 grantAt b st s =
     granted (b .«master_count») (requests b st s) (λ m. sharesAt b m s) (λ m. transferAt st m .beats)
-    (recordOf (slotAt st s))
+    (arbiterOf (slotAt st s))
 
 -- the slot by its arbiter record a after the grant g: a grant begins a service, with none the slave does not serve
 unfoldable pub slotBy : Slot → Arbiter → Grant → Slot
@@ -37,7 +37,7 @@ slotBy slot a Silent =
 
 -- "One clock changes a slave's last owner and remaining grants by these rules."
 unfoldable pub slotGranted : Slot → Grant → Slot
-slotGranted slot g = slotBy slot (arbiterAfter (recordOf slot) g) g
+slotGranted slot g = slotBy slot (arbiterAfter (arbiterOf slot) g) g
 
 -- "The grant and the first cycle fall in the same clock.": slave s after rule 1, before rules 2 and 3
 unfoldable pub slotAfterGrant : Board → State → ℕ → Slot

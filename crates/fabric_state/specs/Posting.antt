@@ -49,8 +49,8 @@ passesEnd ma sl t = ltb (sl .base + sl .span) (t .address + t .beats * ma .width
 
 -- what a transfer is refused for, or 0: of its master, the slave that it is for and that slave's number s, which is the count
 -- of slaves where it is for none
-unfoldable pub refusalAt : Master → Slave → Transfer → ℕ → ℕ → ℕ
-refusalAt ma sl t s count =
+unfoldable pub transferRefusalBy : Master → Slave → Transfer → ℕ → ℕ → ℕ
+transferRefusalBy ma sl t s count =
     cond (wrongBeats ma t) 13
     (cond (unaligned ma t) 14
     (cond (wrongLanes ma t) 15
@@ -61,8 +61,8 @@ refusalAt ma sl t s count =
 -- what the transfer t of master m is refused for, or 0
 unfoldable pub transferRefusal : Board → ℕ → Transfer → ℕ
 transferRefusal b m t =
-    let s = targetOf b m (t .address) in refusalAt (masterAt b m) (slaveAt b s) t s (b .«slave_count»)
+    let s = targetOf b m (t .address) in transferRefusalBy (masterAt b m) (slaveAt b s) t s (b .«slave_count»)
 
 -- "A master holds one transfer until it is finished."
-unfoldable pub stateWith : State → ℕ → Transfer → State
-stateWith st m t = record { transfers = set (st .transfers) m t; slots = st .slots }
+unfoldable pub withTransfer : State → ℕ → Transfer → State
+withTransfer st m t = record { transfers = set (st .transfers) m t; slots = st .slots }

@@ -27,5 +27,5 @@ abbrev pub slotAt : State → ℕ → Slot
 slotAt st s = getD (st .slots) s noSlot
 
 -- "Each remembers its last owner, the grants remaining to it": a slave's arbiter record
-abbrev pub recordOf : Slot → Arbiter
-recordOf slot = record { owner = slot .owner; remaining = slot .remaining }
+abbrev pub arbiterOf : Slot → Arbiter
+arbiterOf slot = record { owner = slot .owner; remaining = slot .remaining }

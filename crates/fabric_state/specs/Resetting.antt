@@ -11,8 +11,8 @@ use Rattle.fabric_state.specs.declared.State.{State}
 use Rattle.fabric_state.specs.Records.{noSlot}
 
 -- "no transfers, last owner .., all else in the state 0": the owner is the last at the first count slaves
-unfoldable pub ownedBy : ℕ → ℕ → State
-ownedBy owner count = record {
+unfoldable pub resetState : ℕ → ℕ → State
+resetState owner count = record {
   transfers = replicate 8 noTransfer;
   slots =
       table
@@ -22,4 +22,4 @@ ownedBy owner count = record {
 
 -- "Reset: .. last owner the highest master"
 unfoldable pub stateAtReset : Board → State
-stateAtReset b = ownedBy (b .«master_count» - 1) (b .«slave_count»)
+stateAtReset b = resetState (b .«master_count» - 1) (b .«slave_count»)

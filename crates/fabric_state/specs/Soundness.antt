@@ -43,15 +43,15 @@ unfoldable pub soundRest : Slot → Bool
 soundRest slot = eqb (slot .done) 0 && eqb (slot .waited) 0
 
 -- a slot whose last owner is a master, by that owner's shares here and its transfer
-unfoldable pub slotSound : ℕ → Bool → Master → Slave → Transfer → Slot → Bool
-slotSound shares asks ma sl t slot =
+unfoldable pub soundSlotBy : ℕ → Bool → Master → Slave → Transfer → Slot → Bool
+soundSlotBy shares asks ma sl t slot =
     soundRemaining shares slot && cond (slot .serving) (soundService asks ma sl t slot) (soundRest slot)
 
 unfoldable pub soundSlot : Board → State → ℕ → Bool
 soundSlot b st s =
     let slot = slotAt st s in
     let m = slot .owner in
-    soundOwner b slot && slotSound (sharesAt b m s) (requests b st s m) (masterAt b m) (slaveAt b s) (transferAt st m) slot
+    soundOwner b slot && soundSlotBy (sharesAt b m s) (requests b st s m) (masterAt b m) (slaveAt b s) (transferAt st m) slot
 
 -- the state breaks no rule
 unfoldable pub sound : Board → State → Bool

@@ -43,13 +43,13 @@ fn alone(mode: Mode) -> Mode {
 fn option_of(word: &[u8]) -> Word
     ensures { λ r. ⌜ r ≡ optionOf (now (word .entry)) ⌝ }
 {
-    if common_text::same_bytes(word, b"-h") | common_text::same_bytes(word, b"--help") {
+    if common_text::same(word, b"-h") | common_text::same(word, b"--help") {
         return Word::Help;
     }
-    if common_text::same_bytes(word, b"--version") {
+    if common_text::same(word, b"--version") {
         return Word::Version;
     }
-    if common_text::same_bytes(word, b"--") {
+    if common_text::same(word, b"--") {
         return Word::End;
     }
     Word::Unknown

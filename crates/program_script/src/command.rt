@@ -1,7 +1,7 @@
 // Lines of the simulator's script. A line is a word and its fields, parted by commas.
 ghost use Prim.Native.Nat.{_≤_, _<_};
 ghost use lib.ListN.{length};
-ghost use Rattle.program_script.specs.Places.{Place};
+ghost use Rattle.program_script.specs.Code.Positions.{Place};
 use crate::hex;
 use common_text::Number;
 
@@ -115,7 +115,7 @@ fn is_word_of(word: &[u8], kind: usize) -> bool
     let end = start + 8;
     let own = &words[start..end];
     let e = piece_end(own, b',');
-    common_text::same_bytes(word, &own[..e])
+    common_text::same(word, &own[..e])
 }
 
 // The kind that a first word names, or KINDS.
@@ -134,10 +134,10 @@ fn kind_of(word: &[u8]) -> usize
 
 // One of two names: 0 for the first, 1 for the second.
 fn named(field: &[u8], first: &[u8], second: &[u8]) -> Field {
-    if common_text::same_bytes(field, first) {
+    if common_text::same(field, first) {
         return value(0);
     }
-    if common_text::same_bytes(field, second) {
+    if common_text::same(field, second) {
         return value(1);
     }
     no_value(NOT_A_LINE)
@@ -157,7 +157,7 @@ fn most(letter: u8) -> u64 {
 }
 
 fn number(field: &[u8], letter: u8) -> Field {
-    let read = common_text::parse_number(field);
+    let read = common_text::number_of(field);
     let Number::Value(n) = read else {
         return no_value(NOT_A_LINE);
     };

@@ -37,7 +37,7 @@ fn all_digits(field: &[u8]) -> bool {
 // The count of bytes of a field: `-` has none, any other field spells at least one.
 pub fn byte_count(field: &[u8]) -> Field {
     let n = field.len();
-    if common_text::same_bytes(field, b"-") {
+    if common_text::same(field, b"-") {
         return command::value(0);
     }
     if (0 < n) & (n % 2 == 0) & all_digits(field) {

@@ -1,4 +1,4 @@
--- What the tests of a call's answer and of errno, which the code makes on their bits, say of `told`.
+-- What the tests of a call's answer and of errno, which the code makes on their bits, say of `judged`.
 -- Assumes nothing.
 use mathlib.Core.Bool.{Bool, true, false, cond, false≢true}
 use mathlib.Core.List.{List}
@@ -15,14 +15,14 @@ use mir.Val.{Fits, SFits, ofZ, toZ}
 use borrow.Author.Tests.{lt-ltb, eq-eqb, ne-eqb}
 use Rattle.common_laws.proofs.TextLists.{part-rest-length}
 use Rattle.libc.specs.Io.{Moved}
-use Rattle.program_streams.specs.Calls.{interrupted, unready, is, told, Call}
+use Rattle.program_streams.specs.Calls.{interrupted, unready, is, judged, Call}
 use Rattle.program_streams.specs.declared.Told.{Told}
 use Rattle.program_streams.specs.declared.Told.the-variants.{Bytes, Nothing, Again, Later, Failed}
 
 -- an answer that is not above 0 and not 0 is a failure
 refused :
-    (got error : ℤ) → ltZ (pos 0) got ≡ false → (ofZ w64 got ≡ 0 → ⊥) → told got error ≡ told (negsuc 0) error
-unfolding told
+    (got error : ℤ) → ltZ (pos 0) got ≡ false → (ofZ w64 got ≡ 0 → ⊥) → judged got error ≡ judged (negsuc 0) error
+unfolding judged
 refused (pos zero) error h g = absurd (g refl)
 refused (pos (suc n)) error h g = absurd (false≢true (sym h ∙ lt-ltb 0 (suc n) (omega arith)))
 refused (negsuc n) error h g = refl
@@ -43,15 +43,15 @@ counted : (got : ℤ) → SFits w64 got → ltZ (pos 0) got ≡ true → T (nonN
 counted (pos n) f h = (tt, let g : n < 2 ^ 63 = f .sfits in record { fits = omega arith })
 counted (negsuc n) f h = absurd (false≢true h)
 
-bytes : (got error : ℤ) → ltZ (pos 0) got ≡ true → Bytes (natAbs got) ≡ told got error
-unfolding told
+bytes : (got error : ℤ) → ltZ (pos 0) got ≡ true → Bytes (natAbs got) ≡ judged got error
+unfolding judged
 bytes (pos zero) error h = absurd (false≢true h)
 bytes (pos (suc n)) error h = refl
 bytes (negsuc n) error h = absurd (false≢true h)
 
 -- the test for 0
-pub told-nothing : (got error : ℤ) → SFits w64 got → ofZ w64 got ≡ 0 → Nothing ≡ told got error
-unfolding told
+pub told-nothing : (got error : ℤ) → SFits w64 got → ofZ w64 got ≡ 0 → Nothing ≡ judged got error
+unfolding judged
 told-nothing (pos zero) error f e = refl
 told-nothing (pos (suc n)) error f e = absurd (omega arith)
 told-nothing (negsuc n) error f e = absurd (let g : n < 2 ^ 63 = f .sfits in omega arith)
@@ -68,46 +68,46 @@ module _ (got error : ℤ) (f : SFits w64 got) where
       (counted got f)
 
   pub told-bytes :
-      ltZ (pos 0) (toZ w64 (ofZ w64 got)) ≡ true → Bytes (natAbs (toZ w64 (ofZ w64 got))) ≡ told got error
+      ltZ (pos 0) (toZ w64 (ofZ w64 got)) ≡ true → Bytes (natAbs (toZ w64 (ofZ w64 got))) ≡ judged got error
   told-bytes =
-      subst (λ (z : ℤ). ltZ (pos 0) z ≡ true → Bytes (natAbs z) ≡ told got error) (sym (toZ-ofZ f)) (bytes got error)
+      subst (λ (z : ℤ). ltZ (pos 0) z ≡ true → Bytes (natAbs z) ≡ judged got error) (sym (toZ-ofZ f)) (bytes got error)
 
 -- the tests of errno, of a call that failed
 module _
     (got error : ℤ) (f : SFits w64 got) (g : SFits w32 error) (h : ltZ (pos 0) (toZ w64 (ofZ w64 got)) ≡ false)
     (e : ofZ w64 got ≡ 0 → ⊥)
   where
-    failure : told got error ≡ told (negsuc 0) error
+    failure : judged got error ≡ judged (negsuc 0) error
     failure = refused got error (subst (λ (z : ℤ). ltZ (pos 0) z ≡ false) (toZ-ofZ f) h) e
 
-    pub told-again : ofZ w32 error ≡ interrupted → Again ≡ told got error
-    unfolding told
+    pub told-again : ofZ w32 error ≡ interrupted → Again ≡ judged got error
+    unfolding judged
     told-again a = rw (failure, is-yes interrupted error g (omega arith) a)
 
-    pub told-later : (ofZ w32 error ≡ interrupted → ⊥) → ofZ w32 error ≡ unready → Later ≡ told got error
-    unfolding told
+    pub told-later : (ofZ w32 error ≡ interrupted → ⊥) → ofZ w32 error ≡ unready → Later ≡ judged got error
+    unfolding judged
     told-later a b = rw (failure, is-no interrupted error a, is-yes unready error g (omega arith) b)
 
     pub told-failed :
-        (ofZ w32 error ≡ interrupted → ⊥) → (ofZ w32 error ≡ unready → ⊥) → Failed ≡ told got error
-    unfolding told
+        (ofZ w32 error ≡ interrupted → ⊥) → (ofZ w32 error ≡ unready → ⊥) → Failed ≡ judged got error
+    unfolding judged
     told-failed a b = rw (failure, is-no interrupted error a, is-no unready error b)
 
--- a call, from what `libc` says of its answer and what is told of that
+-- a call, from what `libc` says of its answer and what is judged of that
 pub call-told :
     (got error : ℤ) (bytes : List ℕ) (n : ℕ) (r : Told) → SFits w64 got → SFits w32 error → length bytes ≡ n
-    → Moved n got → r ≡ told (toZ w64 (ofZ w64 got)) (toZ w32 (ofZ w32 error)) → Call bytes r
+    → Moved n got → r ≡ judged (toZ w64 (ofZ w64 got)) (toZ w32 (ofZ w32 error)) → Call bytes r
 call-told got error bytes n r f g l m e =
     record {
       got = got;
       error = error;
       moved = subst (λ (k : ℕ). Moved k got) (sym l) m;
-      tells = e ∙ ap₂ told (toZ-ofZ f) (toZ-ofZ g);
+      tells = e ∙ ap₂ judged (toZ-ofZ f) (toZ-ofZ g);
     }
 
 -- the bytes that a call moved are within what it was lent
-moved-within : (most n : ℕ) (got error : ℤ) → Moved most got → Bytes n ≡ told got error → n ≤ most
-unfolding told
+moved-within : (most n : ℕ) (got error : ℤ) → Moved most got → Bytes n ≡ judged got error → n ≤ most
+unfolding judged
 moved-within most n (pos zero) error m h = absurd (let z : _≡_ {A = ℕ} 0 1 = cc in omega arith)
 moved-within most n (pos (suc k)) error m h = let e : n ≡ suc k = cc in omega arith
 moved-within most n (negsuc k) error m h = go (is interrupted error) (is unready error) h

@@ -6,8 +6,8 @@ use Prim.Native.Nat.{ℕ, zero, suc, _+_, _-_, _≤_}
 use native.Mathlib.Omega.{arith}
 use lib.ListN.{length, take, length-append, length-take}
 use lib.Seq.{length-take-le, length-sets, sets-eq, take-all, take-at, take-append-add}
-use Rattle.common_text.specs.Scanning.{Put}
-use Rattle.program_streams.specs.Lines.{head, Holds}
+use Rattle.common_text.specs.Code.Scanning.{Put}
+use Rattle.program_streams.specs.Code.Reports.{head, Holds}
 
 -- what does not fit is cut once
 take-cut : (n : ℕ) (x y : List ℕ) → take n (take n x ++ y) ≡ take n (x ++ y)

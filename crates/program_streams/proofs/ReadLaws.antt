@@ -12,7 +12,7 @@ use lib.Seq.{length-take-le, take-append-le, take-append-add}
 use borrow.Rule.Slice.PartMut.{putMid, same-len-mid}
 use Rattle.common_laws.proofs.TextLists.{part-rest-length}
 use Rattle.libc.specs.Io.{Moved}
-use Rattle.program_streams.specs.Calls.{interrupted, unready, is, retried, told, Call}
+use Rattle.program_streams.specs.Calls.{interrupted, unready, is, retried, judged, Call}
 use Rattle.program_streams.specs.Reading.{
   Answer,
   gave,
@@ -138,8 +138,8 @@ record Tells (room : List ℕ) (a : Answer) (end : ℕ) (r : Told) : Type 0 wher
 
 tells-of :
     (room : List ℕ) (end : ℕ) (got error : ℤ) → Moved (length room) got
-    → Tells room (answered got error room) end (told got error)
-unfolding answered retried told given standing
+    → Tells room (answered got error room) end (judged got error)
+unfolding answered retried judged given standing
 tells-of room end (pos zero) error m = record { stand = refl; count = omega arith; front = refl; fits = omega arith }
 tells-of [] end (pos (suc n)) error m = absurd (omega arith)
 tells-of (b ∷ room) end (pos (suc n)) error m =

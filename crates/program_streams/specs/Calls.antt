@@ -29,10 +29,10 @@ unfoldable pub retried : ℤ → Bool
 retried error = is interrupted error || is unready error
 
 -- what a call of read or write did that answered `got`, where errno was `error` after it: 0 alone is the end
-unfoldable pub told : ℤ → ℤ → Told
-told (pos zero) error = Nothing
-told (pos (suc n)) error = Bytes (suc n)
-told (negsuc n) error = cond (is interrupted error) Again (cond (is unready error) Later Failed)
+unfoldable pub judged : ℤ → ℤ → Told
+judged (pos zero) error = Nothing
+judged (pos (suc n)) error = Bytes (suc n)
+judged (negsuc n) error = cond (is interrupted error) Again (cond (is unready error) Later Failed)
 
 -- r tells of a call that was lent `bytes`. Of its answer `libc` promises only that it is -1 or at most their number, and of errno
 -- nothing.
@@ -40,4 +40,4 @@ pub record Call (bytes : List ℕ) (r : Told) : Type 0 where
   pub got : ℤ
   pub error : ℤ
   pub moved : Moved (length bytes) got
-  pub tells : r ≡ told got error
+  pub tells : r ≡ judged got error

@@ -1,3 +1,3 @@
 pub mod Calls
-pub mod Lines
 pub mod Reading
+pub mod Code

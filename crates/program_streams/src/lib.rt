@@ -3,7 +3,7 @@
 mod lines;
 
 ghost use mathlib.Core.Path.{_≡_};
-ghost use Rattle.program_streams.specs.Calls.{told, Call};
+ghost use Rattle.program_streams.specs.Calls.{judged, Call};
 ghost use Rattle.program_streams.specs.Reading.{outcomeOf, Gathered};
 use libc::EAGAIN;
 use libc::EINTR;
@@ -29,7 +29,7 @@ enum Told {
 
 // What a call that answered `got` did, where errno was `error` after it.
 fn judge(got: isize, error: i32) -> Told
-    ensures { λ r. ⌜ r ≡ told got error ⌝ }
+    ensures { λ r. ⌜ r ≡ judged got error ⌝ }
 {
     if got > 0 {
         return Told::Bytes(got as usize);
@@ -78,7 +78,7 @@ fn write_once(fd: i32, bytes: &[u8]) -> Told
     judge(got, error)
 }
 
-fn outcome(end: usize, ended: bool, failed: bool) -> Got
+fn outcome_of(end: usize, ended: bool, failed: bool) -> Got
     ensures { λ r. ⌜ r ≡ outcomeOf end ended failed ⌝ }
 {
     Got {
@@ -98,19 +98,19 @@ pub fn read_all(fd: i32, into: &mut [u8]) -> Got
     let mut end = 0;
     while end < into.len() {
         if reads == 0 {
-            return outcome(end, false, true);
+            return outcome_of(end, false, true);
         }
         reads -= 1;
         let r = read_once(fd, &mut into[end..]);
         match r {
             Told::Bytes(n) => end += n,
-            Told::Nothing => return outcome(end, true, false),
+            Told::Nothing => return outcome_of(end, true, false),
             Told::Again => {}
             Told::Later => pause(),
-            Told::Failed => return outcome(end, false, true),
+            Told::Failed => return outcome_of(end, false, true),
         }
     }
-    outcome(end, false, false)
+    outcome_of(end, false, false)
 }
 
 // Writes all of `bytes`, with EINTR and EAGAIN as `read_all` has them. false: a write failed for good, and errno says why, or it

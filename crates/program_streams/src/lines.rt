@@ -2,7 +2,7 @@
 ghost use Prim.Native.Nat.{_≤_};
 ghost use mathlib.Core.List.{_++_};
 ghost use lib.ListN.{length, take};
-ghost use Rattle.program_streams.specs.Lines.{Holds, head as Lines·head};
+ghost use Rattle.program_streams.specs.Code.Reports.{Holds, head as Lines·head};
 
 // Two paths, each of 4,095 bytes at most, and `: ` between them.
 pub const ROOM: usize = 8192;

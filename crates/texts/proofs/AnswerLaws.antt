@@ -11,18 +11,18 @@ use borrow.Author.Tests.{ltb-false}
 use Rattle.common_text.specs.Digits.{lineText}
 use Rattle.common_text.proofs.Decimal.{line-length, fields-long}
 use Rattle.description_board.specs.declared.Board.{Board}
-use Rattle.description_board.specs.Items.{checkBoard}
+use Rattle.description_board.specs.Items.{boardRefusal}
 use Rattle.description.specs.declared.Written.{Written}
-use Rattle.description.specs.Writer.{writeText, writeRefusal, written}
+use Rattle.description.specs.Writer.{writeText, writeRefusal, writeAnswer}
 
 -- a line of one number behind a word of four bytes
 pub line-short : (word : List ℕ) (n : ℕ) → length word ≡ 4 → length (lineText word (n ∷ [])) ≤ 26
 line-short word n e = omega (arith, line-length word (n ∷ []), fields-long (n ∷ []))
 
--- what is written is no longer than the output
-written-within : (b : Board) (out : List ℕ) → written b out .length ≤ length out
-unfolding written writeRefusal
-written-within b out = go (checkBoard b) (eqb (checkBoard b) 0) (ltb (length out) (length (writeText b))) refl refl
+-- what is writeAnswer is no longer than the output
+written-within : (b : Board) (out : List ℕ) → writeAnswer b out .length ≤ length out
+unfolding writeAnswer writeRefusal
+written-within b out = go (boardRefusal b) (eqb (boardRefusal b) 0) (ltb (length out) (length (writeText b))) refl refl
   where
     go :
         (n : ℕ) (e t : Bool) → eqb n 0 ≡ e → ltb (length out) (length (writeText b)) ≡ t
@@ -33,7 +33,7 @@ written-within b out = go (checkBoard b) (eqb (checkBoard b) 0) (ltb (length out
 
 -- the same of an output that is lent from `next` on
 pub part-written :
-    (b : Board) (out : List ℕ) (next : ℕ) (w : Written) → w ≡ written b (take (length out - next) (drop next out))
+    (b : Board) (out : List ℕ) (next : ℕ) (w : Written) → w ≡ writeAnswer b (take (length out - next) (drop next out))
     → next ≤ length out → next + w .length ≤ length out
 part-written b out next w e h =
     let part : List ℕ = take (length out - next) (drop next out) in

@@ -82,7 +82,7 @@ fn take_head(piece: &mut [u8], first: Input) -> Head
         input.at = at + 1;
         if piece[at] == b'\n' {
             return Head {
-                length: common_text::parse_number(&line[..kept]),
+                length: common_text::number_of(&line[..kept]),
                 input: input,
             };
         }

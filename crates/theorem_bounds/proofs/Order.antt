@@ -13,7 +13,7 @@ use borrow.Author.Tests.{ltb-true, ltb-false, eq-eqb, ne-eqb}
 use Rattle.common_laws.specs.Lists.{sum}
 use Rattle.fabric_arbiter.specs.declared.Choice.{Choice}
 use Rattle.fabric_arbiter.specs.declared.Choice.the-variants.{Requester, Nobody}
-use Rattle.fabric_arbiter.specs.Choosing.{above, tried, chosen}
+use Rattle.fabric_arbiter.specs.Choosing.{nextMaster, tried, firstRequester}
 use Rattle.fabric_arbiter.proofs.OrderLaws.{above-lt}
 use Rattle.fabric_arbiter.proofs.ChoiceLaws.{tried-none, tried-found, tried-on}
 
@@ -58,8 +58,8 @@ sum-except cost m (suc n) h = go (ℕ-discrete n m) (sum-except cost m n)
 
 -- ---- the next master
 
-pub above-cases : (n o : ℕ) → ((suc o < n) × (above n o ≡ suc o)) ⊎ ((n ≤ suc o) × (above n o ≡ 0))
-unfolding above
+pub above-cases : (n o : ℕ) → ((suc o < n) × (nextMaster n o ≡ suc o)) ⊎ ((n ≤ suc o) × (nextMaster n o ≡ 0))
+unfolding nextMaster
 above-cases n o = go (ltb (o + 1) n) refl
   where
     go : (b : Bool) → ltb (o + 1) n ≡ b → ((suc o < n) × (cond b (o + 1) 0 ≡ suc o)) ⊎ ((n ≤ suc o) × (cond b (o + 1) 0 ≡ 0))
@@ -83,7 +83,7 @@ between-cases cost n o m h = go (ltb o m) refl
 
 module _ (cost : ℕ → ℕ) (n o m : ℕ) (ho : o < n) (hm : m < n) where
   -- nothing lies between a master and the next one
-  between-next : above n o ≡ m → between cost n o m ≡ 0
+  between-next : nextMaster n o ≡ m → between cost n o m ≡ 0
   between-next e =
       ⊎-elim
       (λ a. ⊎-elim (λ b. omega (arith, ap (sum cost) (sym (a .1) ∙ e))) (λ b. omega arith) cases)
@@ -119,7 +119,7 @@ module _ (cost : ℕ → ℕ) (n o m : ℕ) (ho : o < n) (hm : m < n) where
       (between-cases cost n o m ho)
 
   -- or the next one does, and what lies between that one and m
-  between-step : above n o ≢ m → between cost n o m ≡ cost (above n o) + between cost n (above n o) m
+  between-step : nextMaster n o ≢ m → between cost n o m ≡ cost (nextMaster n o) + between cost n (nextMaster n o) m
   between-step e =
       ⊎-elim
       (λ a. rw (a .1) (step-up (a .0) (λ q. e (a .1 ∙ q))))
@@ -141,11 +141,11 @@ between-owner cost n o m ho hm e =
 -- ---- the first requester
 
 -- a master that does not request is passed over
-tried-next : (requests : ℕ → Bool) (n k o : ℕ) → requests (above n o) ≡ false
-    → tried requests n (above n o) (suc k) ≡ tried requests n (above n (above n o)) k
+tried-next : (requests : ℕ → Bool) (n k o : ℕ) → requests (nextMaster n o) ≡ false
+    → tried requests n (nextMaster n o) (suc k) ≡ tried requests n (nextMaster n (nextMaster n o)) k
 tried-next requests n k o e =
     let z : suc k - 1 ≡ k = omega arith in
-    rw z at (tried-on requests n (above n o) (suc k) (λ i. omega arith) e)
+    rw z at (tried-on requests n (nextMaster n o) (suc k) (λ i. omega arith) e)
 
 -- going up from o, m is met among the next k
 abbrev Within : ℕ → ℕ → ℕ → ℕ → Type 0
@@ -161,7 +161,7 @@ within-all n o m h = go (ltb o m) refl
     go true e = inl (ltb-true o m e, omega arith)
     go false e = let l = ltb-false o m e in inr (l, omega arith)
 
-within-step : (n k o m : ℕ) → o < n → m < n → above n o ≢ m → Within n (suc k) o m → Within n k (above n o) m
+within-step : (n k o m : ℕ) → o < n → m < n → nextMaster n o ≢ m → Within n (suc k) o m → Within n k (nextMaster n o) m
 within-step n k o m ho hm e w =
     ⊎-elim
     (λ a. rw (a .1) (⊎-elim (λ b. low (λ q. e (a .1 ∙ q)) b) (λ b. inr (omega arith, omega arith)) w))
@@ -187,12 +187,12 @@ pub record Found (requests : ℕ → Bool) (cost : ℕ → ℕ) (n o m : ℕ) (x
       ⊎ ((master ≢ m) × (skipped + cost master + between cost n master m ≡ between cost n o m))
 
 module _ (requests : ℕ → Bool) (cost : ℕ → ℕ) (n m : ℕ) (hm : m < n) (asked : requests m ≡ true) where
-  here : (k o : ℕ) → o < n → requests (above n o) ≡ true → Dec (above n o ≡ m)
-      → Found requests cost n o m (tried requests n (above n o) (suc k))
+  here : (k o : ℕ) → o < n → requests (nextMaster n o) ≡ true → Dec (nextMaster n o ≡ m)
+      → Found requests cost n o m (tried requests n (nextMaster n o) (suc k))
   here k o ho e (yes q) =
       record {
-        master = above n o;
-        is = tried-found requests n (above n o) (suc k) (λ z. omega arith) e;
+        master = nextMaster n o;
+        is = tried-found requests n (nextMaster n o) (suc k) (λ z. omega arith) e;
         asks = e;
         low = above-lt n o (omega arith);
         skipped = 0;
@@ -201,8 +201,8 @@ module _ (requests : ℕ → Bool) (cost : ℕ → ℕ) (n m : ℕ) (hm : m < n)
       }
   here k o ho e (no q) =
       record {
-        master = above n o;
-        is = tried-found requests n (above n o) (suc k) (λ z. omega arith) e;
+        master = nextMaster n o;
+        is = tried-found requests n (nextMaster n o) (suc k) (λ z. omega arith) e;
         asks = e;
         low = above-lt n o (omega arith);
         skipped = 0;
@@ -210,17 +210,17 @@ module _ (requests : ℕ → Bool) (cost : ℕ → ℕ) (n m : ℕ) (hm : m < n)
         place = inr (q, omega (arith, between-step cost n o m ho hm q));
       }
 
-  later : (k o : ℕ) → o < n → requests (above n o) ≡ false → above n o ≢ m
-      → Found requests cost n (above n o) m (tried requests n (above n (above n o)) k)
-      → Found requests cost n o m (tried requests n (above n o) (suc k))
+  later : (k o : ℕ) → o < n → requests (nextMaster n o) ≡ false → nextMaster n o ≢ m
+      → Found requests cost n (nextMaster n o) m (tried requests n (nextMaster n (nextMaster n o)) k)
+      → Found requests cost n o m (tried requests n (nextMaster n o) (suc k))
   later k o ho e q c =
       record {
         master = c .master;
         is = tried-next requests n k o e ∙ c .is;
         asks = c .asks;
         low = c .low;
-        skipped = cost (above n o) + c .skipped;
-        none = λ f. omega (arith, c .none f, f (above n o) (above-lt n o (omega arith)) e);
+        skipped = cost (nextMaster n o) + c .skipped;
+        none = λ f. omega (arith, c .none f, f (nextMaster n o) (above-lt n o (omega arith)) e);
         place =
             ⊎-elim
             (λ a. inl (a .0, omega (arith, between-step cost n o m ho hm q)))
@@ -228,27 +228,27 @@ module _ (requests : ℕ → Bool) (cost : ℕ → ℕ) (n m : ℕ) (hm : m < n)
             (c .place);
       }
 
-  found : (k o : ℕ) → o < n → Within n k o m → Found requests cost n o m (tried requests n (above n o) k)
+  found : (k o : ℕ) → o < n → Within n k o m → Found requests cost n o m (tried requests n (nextMaster n o) k)
   found zero o ho w = absurd (within-zero n o m ho w)
   found (suc k) o ho w =
-      go (requests (above n o)) refl (λ q. found k (above n o) (above-lt n o (omega arith)) (within-step n k o m ho hm q w))
+      go (requests (nextMaster n o)) refl (λ q. found k (nextMaster n o) (above-lt n o (omega arith)) (within-step n k o m ho hm q w))
     where
-      go : (b : Bool) → requests (above n o) ≡ b
-          → (above n o ≢ m → Found requests cost n (above n o) m (tried requests n (above n (above n o)) k))
-          → Found requests cost n o m (tried requests n (above n o) (suc k))
-      go true e f = here k o ho e (ℕ-discrete (above n o) m)
-      go false e f = let q : above n o ≢ m = λ q. false≢true (sym e ∙ ap requests q ∙ asked) in later k o ho e q (f q)
+      go : (b : Bool) → requests (nextMaster n o) ≡ b
+          → (nextMaster n o ≢ m → Found requests cost n (nextMaster n o) m (tried requests n (nextMaster n (nextMaster n o)) k))
+          → Found requests cost n o m (tried requests n (nextMaster n o) (suc k))
+      go true e f = here k o ho e (ℕ-discrete (nextMaster n o) m)
+      go false e f = let q : nextMaster n o ≢ m = λ q. false≢true (sym e ∙ ap requests q ∙ asked) in later k o ho e q (f q)
 
   -- a requester m is found, or another before it
-  pub chosen-found : (o : ℕ) → o < n → Found requests cost n o m (chosen requests n o)
-  unfolding chosen
+  pub chosen-found : (o : ℕ) → o < n → Found requests cost n o m (firstRequester requests n o)
+  unfolding firstRequester
   chosen-found o ho = found n o ho (within-all n o m hm)
 
--- with no requester nobody is chosen
-pub chosen-nobody : (requests : ℕ → Bool) (n o : ℕ) → ((j : ℕ) → requests j ≡ false) → chosen requests n o ≡ Nobody
-unfolding chosen
+-- with no requester nobody is firstRequester
+pub chosen-nobody : (requests : ℕ → Bool) (n o : ℕ) → ((j : ℕ) → requests j ≡ false) → firstRequester requests n o ≡ Nobody
+unfolding firstRequester
 chosen-nobody requests n o h = go n o
   where
-    go : (k p : ℕ) → tried requests n (above n p) k ≡ Nobody
-    go zero p = tried-none requests n (above n p) 0 refl
-    go (suc k) p = tried-next requests n k p (h (above n p)) ∙ go k (above n p)
+    go : (k p : ℕ) → tried requests n (nextMaster n p) k ≡ Nobody
+    go zero p = tried-none requests n (nextMaster n p) 0 refl
+    go (suc k) p = tried-next requests n k p (h (nextMaster n p)) ∙ go k (nextMaster n p)

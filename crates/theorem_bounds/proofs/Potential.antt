@@ -13,7 +13,7 @@ use Rattle.fabric_arbiter.specs.declared.Choice.{Choice}
 use Rattle.fabric_arbiter.specs.declared.Choice.the-variants.{Requester, Nobody}
 use Rattle.fabric_arbiter.specs.declared.Grant.{Grant}
 use Rattle.fabric_arbiter.specs.declared.Grant.the-variants.{Granted, Silent}
-use Rattle.fabric_arbiter.specs.Choosing.{chosen}
+use Rattle.fabric_arbiter.specs.Choosing.{firstRequester}
 use Rattle.fabric_arbiter.specs.Granting.{kept, grantTo, granted}
 use Rattle.theorem_bounds.proofs.Order.{between, between-all, between-owner, sum-except, Found, chosen-found}
 use Rattle.theorem_bounds.proofs.Credit.{credit, credit-zero, credit-le, spend}
@@ -38,12 +38,12 @@ requester-is i j e = cc
 -- how a grant came about: `kept` of p is what remains
 pub grant-next : (n : ℕ) (requests : ℕ → Bool) (shares beats : ℕ → ℕ) (o r j k : ℕ)
     → granted n requests shares beats (record { owner = o; remaining = r }) ≡ Granted j k
-    → (p : ℕ) × (k ≡ kept (beats j) p) × Next requests shares o r (chosen requests n o) j p
+    → (p : ℕ) × (k ≡ kept (beats j) p) × Next requests shares o r (firstRequester requests n o) j p
 unfolding granted grantTo
 grant-next n requests shares beats o r j k e = go (requests o) (ltb 0 r) refl refl e
   where
-    fresh : (x : Choice) → chosen requests n o ≡ x → (r ≡ 0) ⊎ (requests o ≡ false) → grantTo shares beats x ≡ Granted j k
-        → (p : ℕ) × (k ≡ kept (beats j) p) × Next requests shares o r (chosen requests n o) j p
+    fresh : (x : Choice) → firstRequester requests n o ≡ x → (r ≡ 0) ⊎ (requests o ≡ false) → grantTo shares beats x ≡ Granted j k
+        → (p : ℕ) × (k ≡ kept (beats j) p) × Next requests shares o r (firstRequester requests n o) j p
     fresh (Requester i) c h f =
         let q = granted-master i j _ k f in (
           shares j - 1,
@@ -53,16 +53,16 @@ grant-next n requests shares beats o r j k e = go (requests o) (ltb 0 r) refl re
     fresh Nobody c h f = absurd (granted-apart j k (sym f))
 
     go : (b c : Bool) → requests o ≡ b → ltb 0 r ≡ c
-        → cond (b && c) (Granted o (kept (beats o) (r - 1))) (grantTo shares beats (chosen requests n o)) ≡ Granted j k
-        → (p : ℕ) × (k ≡ kept (beats j) p) × Next requests shares o r (chosen requests n o) j p
+        → cond (b && c) (Granted o (kept (beats o) (r - 1))) (grantTo shares beats (firstRequester requests n o)) ≡ Granted j k
+        → (p : ℕ) × (k ≡ kept (beats j) p) × Next requests shares o r (firstRequester requests n o) j p
     go true true q c f =
         let i = granted-master o j _ k f in (
           r - 1,
           sym (granted-left o j _ k f) ∙ ap (λ (z : ℕ). kept (beats z) (r - 1)) i,
           record { how = inl (sym i, q, omega (arith, ltb-true 0 r c)) },
         )
-    go true false q c f = fresh (chosen requests n o) refl (inl (omega (arith, ltb-false 0 r c))) f
-    go false c q d f = fresh (chosen requests n o) refl (inr q) f
+    go true false q c f = fresh (firstRequester requests n o) refl (inl (omega (arith, ltb-false 0 r c))) f
+    go false c q d f = fresh (firstRequester requests n o) refl (inr q) f
 
 -- the slave's masters: shares, and the clocks of a single and of the longest transfer
 module _ (n : ℕ) (shares single serve : ℕ → ℕ) where
@@ -110,25 +110,25 @@ module _ (n : ℕ) (shares single serve : ℕ → ℕ) where
     unfolding granted grantTo
     some-grant m o r hm ho q e = go (requests o && ltb 0 r) e
       where
-        f : Found requests turn n o m (chosen requests n o)
+        f : Found requests turn n o m (firstRequester requests n o)
         f = chosen-found requests turn n m hm q o ho
 
         fresh : (x : Choice) → x ≡ Requester (f .master) → grantTo shares beats x ≢ Silent
         fresh x i d = granted-apart _ _ (ap (grantTo shares beats) (sym i) ∙ d)
 
-        go : (b : Bool) → cond b (Granted o (kept (beats o) (r - 1))) (grantTo shares beats (chosen requests n o)) ≢ Silent
+        go : (b : Bool) → cond b (Granted o (kept (beats o) (r - 1))) (grantTo shares beats (firstRequester requests n o)) ≢ Silent
         go true d = granted-apart _ _ d
-        go false d = fresh (chosen requests n o) (f .is) d
+        go false d = fresh (firstRequester requests n o) (f .is) d
 
     -- a grant's master requests, and its transfer with what remains is within its turn
     module _ (m o r : ℕ) (hm : m < n) (ho : o < n) (waiting : requests m ≡ true) (j k : ℕ) (g : given o r ≡ Granted j k) where
-      f : Found requests turn n o m (chosen requests n o)
+      f : Found requests turn n o m (firstRequester requests n o)
       f = chosen-found requests turn n m hm waiting o ho
 
-      pub next : (p : ℕ) × (k ≡ kept (beats j) p) × Next requests shares o r (chosen requests n o) j p
+      pub next : (p : ℕ) × (k ≡ kept (beats j) p) × Next requests shares o r (firstRequester requests n o) j p
       next = grant-next n requests shares beats o r j k g
 
-      fresh-master : chosen requests n o ≡ Requester j → f .master ≡ j
+      fresh-master : firstRequester requests n o ≡ Requester j → f .master ≡ j
       fresh-master e = requester-is (f .master) j (sym (f .is) ∙ e)
 
       pub grant-asks : (j < n) × (requests j ≡ true)
@@ -171,7 +171,7 @@ module _ (n : ℕ) (shares single serve : ℕ → ℕ) where
           (λ h. fresh h (f .place))
           (next .2 .how)
         where
-          fresh : (chosen requests n o ≡ Requester j) × (next .0 ≡ shares j - 1) × ((r ≡ 0) ⊎ (requests o ≡ false))
+          fresh : (firstRequester requests n o ≡ Requester j) × (next .0 ≡ shares j - 1) × ((r ≡ 0) ⊎ (requests o ≡ false))
               → ((f .master ≡ m) × (between turn n o m ≡ f .skipped))
               ⊎ ((f .master ≢ m) × (f .skipped + turn (f .master) + between turn n (f .master) m ≡ between turn n o m))
               → long j + afford j k + between turn n j m ≤ afford o r + between turn n o m
@@ -185,7 +185,7 @@ module _ (n : ℕ) (shares single serve : ℕ → ℕ) where
 
       -- where everybody connected requests, and a request uses up its master's credit, nothing is lost
       module _ (full : (i : ℕ) → i < n → 1 ≤ shares i → requests i ≡ true)
-          (uses : (p : ℕ) → Next requests shares o r (chosen requests n o) j p → long j + afford j (kept (beats j) p) ≡ afford j (suc p)) where
+          (uses : (p : ℕ) → Next requests shares o r (firstRequester requests n o) j p → long j + afford j (kept (beats j) p) ≡ afford j (suc p)) where
         grant-exact : long j + afford j k ≡ afford j (suc (next .0))
         grant-exact = omega (arith, ap (afford j) (next .1), uses (next .0) (next .2))
 
@@ -216,7 +216,7 @@ module _ (n : ℕ) (shares single serve : ℕ → ℕ) where
             (λ h. fresh h (f .place))
             (next .2 .how)
           where
-            fresh : (chosen requests n o ≡ Requester j) × (next .0 ≡ shares j - 1) × ((r ≡ 0) ⊎ (requests o ≡ false))
+            fresh : (firstRequester requests n o ≡ Requester j) × (next .0 ≡ shares j - 1) × ((r ≡ 0) ⊎ (requests o ≡ false))
                 → ((f .master ≡ m) × (between turn n o m ≡ f .skipped))
                 ⊎ ((f .master ≢ m) × (f .skipped + turn (f .master) + between turn n (f .master) m ≡ between turn n o m))
                 → long j + afford j k + between turn n j m ≡ afford o r + between turn n o m
@@ -242,7 +242,7 @@ module _ (n : ℕ) (shares single serve : ℕ → ℕ) where
             ⊎ ((j ≢ m) × (long j + afford j k + between turn n j m ≡ afford o r + between turn n o m))
         grant-exactly a l = go (ℕ-discrete j m)
           where
-            fresh : j ≡ m → (chosen requests n o ≡ Requester j) × (next .0 ≡ shares j - 1) × ((r ≡ 0) ⊎ (requests o ≡ false))
+            fresh : j ≡ m → (firstRequester requests n o ≡ Requester j) × (next .0 ≡ shares j - 1) × ((r ≡ 0) ⊎ (requests o ≡ false))
                 → ((f .master ≡ m) × (between turn n o m ≡ f .skipped))
                 ⊎ ((f .master ≢ m) × (f .skipped + turn (f .master) + between turn n (f .master) m ≡ between turn n o m))
                 → afford o r + between turn n o m ≡ 0

@@ -19,7 +19,7 @@ use Rattle.fabric_state.specs.Records.{transferAt, slotAt}
 use Rattle.fabric_state.specs.Posting.{Request, transferOf}
 use Rattle.fabric_state.specs.Soundness.{requests}
 use Rattle.fabric_state.specs.Control.{slotAfterGrant, stepOf, stateAfter, finished}
-use Rattle.fabric_state.specs.Posting.{stateWith}
+use Rattle.fabric_state.specs.Posting.{withTransfer}
 use Rattle.fabric.specs.Calls.{World}
 use Rattle.fabric_state.proofs.CycleLaws.{leftOf, Cycle}
 use Rattle.fabric_state.proofs.StateLaws.{slot-after, transfer-with-other, slot-with, mask-bit, finished-here}
@@ -201,19 +201,19 @@ module _ (b : Board) (legal : Legal b) (m : ℕ) (hm : m < b .«master_count») 
       other : requests b st s m ≡ true → m ≢ q .master
       other a e = true≢false (sym (requests-held b st s m a) ∙ ap (λ (i : ℕ). transferAt st i .held) e ∙ taken .free)
 
-      kept-with : requests b st s m ≡ true → transferAt (stateWith st (q .master) (transferOf q)) m ≡ transferAt st m
+      kept-with : requests b st s m ≡ true → transferAt (withTransfer st (q .master) (transferOf q)) m ≡ transferAt st m
       kept-with a = transfer-with-other st (q .master) (transferOf q) m (other a)
 
-      same-slot : slotAt (stateWith st (q .master) (transferOf q)) s ≡ slotAt st s
+      same-slot : slotAt (withTransfer st (q .master) (transferOf q)) s ≡ slotAt st s
       same-slot = slot-with st (q .master) (transferOf q) s
 
-      same-left : leftAt b (stateWith st (q .master) (transferOf q)) s ≡ leftAt b st s
+      same-left : leftAt b (withTransfer st (q .master) (transferOf q)) s ≡ leftAt b st s
       same-left = left-with b legal st (x .sound) (q .master) (transferOf q) (taken .free) s hs
 
-      wait-post : (K : ℕ) → Waiting K st → Waiting K (stateWith st (q .master) (transferOf q))
+      wait-post : (K : ℕ) → Waiting K st → Waiting K (withTransfer st (q .master) (transferOf q))
       wait-post K y = record {
         holds = kept-with (y .asks) ∙ y .holds;
-        asks = requests-same b st (stateWith st (q .master) (transferOf q)) m s (kept-with (y .asks)) ∙ y .asks;
+        asks = requests-same b st (withTransfer st (q .master) (transferOf q)) m s (kept-with (y .asks)) ∙ y .asks;
         off = subst (λ (z : Slot). z .serving ≡ true → z .owner ≢ m) (sym same-slot) (y .off);
         bound = bounded (sym same-slot) (sym same-left) (y .bound);
       }
@@ -237,10 +237,10 @@ module _ (b : Board) (legal : Legal b) (m : ℕ) (hm : m < b .«master_count») 
               m (slotAt st s .owner) (slotAt st s .remaining) l ≤ K)
               f g)
 
-      serve-post : (L : ℕ) → InService L st → InService L (stateWith st (q .master) (transferOf q))
+      serve-post : (L : ℕ) → InService L st → InService L (withTransfer st (q .master) (transferOf q))
       serve-post L y = record {
         holds = kept-with (y .asks) ∙ y .holds;
-        asks = requests-same b st (stateWith st (q .master) (transferOf q)) m s (kept-with (y .asks)) ∙ y .asks;
+        asks = requests-same b st (withTransfer st (q .master) (transferOf q)) m s (kept-with (y .asks)) ∙ y .asks;
         on = ap (λ (z : Slot). z .serving) same-slot ∙ y .on;
         own = ap (λ (z : Slot). z .owner) same-slot ∙ y .own;
         bound = omega (arith, same-left, y .bound);

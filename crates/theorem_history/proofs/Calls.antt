@@ -12,14 +12,14 @@ use borrow.Author.Tests.{eqb-true, eqb-false, eq-eqb, ne-eqb}
 use Rattle.common_laws.specs.Bits.{bit}
 use Rattle.common_laws.proofs.BitLaws.{bit-above}
 use Rattle.description_board.specs.declared.Board.{Board}
-use Rattle.fabric_bytes.specs.Bytes.{Store, posted}
+use Rattle.fabric_bytes.specs.Bytes.{Store, postedWords}
 use Rattle.fabric_state.specs.declared.State.{State}
 use Rattle.fabric_state.specs.declared.Clocked.{Clocked}
 use Rattle.fabric_state.specs.Posting.{Request, transferOf}
 use Rattle.fabric_state.specs.Control.{stateAfter, linesOf}
 use Rattle.fabric_state.specs.Clocking.{clockedOf, refusedClock}
 use Rattle.fabric_state.specs.Carrying.{storeAfter}
-use Rattle.fabric_state.specs.Posting.{stateWith}
+use Rattle.fabric_state.specs.Posting.{withTransfer}
 use Rattle.fabric.specs.Calls.{World, postRefusal, post, bufferAfterPost, clockRefusal, clock, storeAfterClock}
 use Rattle.fabric.proofs.RunLaws.{clock-is}
 use Rattle.theorem_history.specs.Claim.{Call, posts, clocks, numberAnswered, Handed, leaves, next, answers, names, Reference, Order, seenAll, fedPost, fed}
@@ -27,8 +27,8 @@ use Rattle.theorem_history.specs.Claim.{Call, posts, clocks, numberAnswe
 -- what a post that is taken leaves
 abbrev pub withPost : World → Request → World
 withPost w q = record {
-  state = stateWith (w .state) (q .master) (transferOf q);
-  store = record { memory = w .store .memory; buffer = posted (q .master) (q .words) (w .store .buffer) };
+  state = withTransfer (w .state) (q .master) (transferOf q);
+  store = record { memory = w .store .memory; buffer = postedWords (q .master) (q .words) (w .store .buffer) };
 }
 
 -- what a clock that is taken leaves, and answers

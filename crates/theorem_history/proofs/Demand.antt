@@ -4,7 +4,7 @@ use mathlib.Core.Path.{_≡_, refl, sym, _∙_}
 use mathlib.Core.List.{List}
 use Prim.Native.Nat.{ℕ}
 use Rattle.description_board.specs.declared.Board.{Board}
-use Rattle.description_board.specs.Items.{checkBoard}
+use Rattle.description_board.specs.Items.{boardRefusal}
 use Rattle.description_board.specs.Legal.{Legal}
 use Rattle.description_board.proofs.Accepted.{accepted-legal}
 use Rattle.description.specs.Reader.{readText}
@@ -17,7 +17,7 @@ use Rattle.theorem_history.proofs.Quoted.{figures, longest}
 use Rattle.theorem_history.proofs.Orders.{numbers, times-numbers}
 use Rattle.theorem_history.proofs.ReadsHistory.{reads-right}
 
-reset-checks : (b : Board) → reset b .number ≡ checkBoard b
+reset-checks : (b : Board) → reset b .number ≡ boardRefusal b
 unfolding reset
 reset-checks b = refl
 
@@ -32,7 +32,7 @@ demand3 b ok = record {
   served = λ w calls q start lent history. served b legal w calls start history lent q;
 }
   where
-    checked : checkBoard b ≡ 0
+    checked : boardRefusal b ≡ 0
     checked = sym (reset-checks b) ∙ ok
 
     legal : Legal b

@@ -12,7 +12,7 @@ use Rattle.description_board.specs.Legal.{Legal}
 use Rattle.fabric_accesses.specs.declared.Transfer.{Transfer}
 use Rattle.fabric_state.specs.Records.{transferAt, slotAt}
 use Rattle.fabric_state.specs.Posting.{Request}
-use Rattle.fabric_state.specs.Posting.{stateWith}
+use Rattle.fabric_state.specs.Posting.{withTransfer}
 use Rattle.fabric.specs.Calls.{World, reset, post}
 use Rattle.fabric_state.proofs.CycleLaws.{left-resting}
 use Rattle.fabric_state.proofs.StateLaws.{transfer-with, transfer-with-other}
@@ -43,7 +43,7 @@ module _ (b : Board) (legal : Legal b) (s : ℕ) (hs : s < b .«slave_count») (
   stands : Standing b legal (withPost w asked)
   stands = post-stands b legal w asked (x .stands) taken
 
-  holds : transferAt (stateWith (w .state) m (transferFor b s m (dueAt b s (w .state) m))) m
+  holds : transferAt (withTransfer (w .state) m (transferFor b s m (dueAt b s (w .state) m))) m
       ≡ transferFor b s m (dueAt b s (w .state) m)
   holds =
       transfer-with (w .state) m (transferFor b s m (dueAt b s (w .state) m)) (x .stands .sound .transfers)
@@ -53,8 +53,8 @@ module _ (b : Board) (legal : Legal b) (s : ℕ) (hs : s < b .«slave_count») (
   for-slave = request-slave b legal s hs m hm has (dueAt b s (w .state) m)
 
   -- and has the quoted wait before it
-  wait-whole : potAt b legal s hs m (stateWith (w .state) m (transferFor b s m (dueAt b s (w .state) m))) ≡ waitFor b asked
-  unfolding stateWith waitFor requestFor
+  wait-whole : potAt b legal s hs m (withTransfer (w .state) m (transferFor b s m (dueAt b s (w .state) m))) ≡ waitFor b asked
+  unfolding withTransfer waitFor requestFor
   wait-whole =
       let o = slotAt (w .state) s .owner in
       omega (
@@ -73,7 +73,7 @@ module _ (b : Board) (legal : Legal b) (s : ℕ) (hs : s < b .«slave_count») (
       )
 
   starts : Tracked b legal s hs m hm (waitFor b asked) (withPost w asked .state)
-  unfolding stateWith requestFor transferFor
+  unfolding withTransfer requestFor transferFor
   starts = record {
     sound = stands .sound;
     asks = due-asks b legal s hs m hm (withPost w asked .state) m (dueAt b s (w .state) m) hm has holds;

@@ -9,7 +9,7 @@ use native.Mathlib.Omega.{arith}
 use lib.ListN.{length, take}
 use borrow.Author.Tests.{eq-eqb}
 use Rattle.description_board.specs.declared.Board.{Board}
-use Rattle.description_board.specs.Items.{checkBoard}
+use Rattle.description_board.specs.Items.{boardRefusal}
 use Rattle.description_board.specs.Legal.{Legal}
 use Rattle.fabric_state.specs.Posting.{Request, transferOf}
 use Rattle.fabric.specs.Calls.{World, postRefusal, post, clock}
@@ -21,7 +21,7 @@ use Rattle.theorem_history.proofs.Calls.{withPost, withClock, answerOf,
 use Rattle.theorem_history.proofs.Calls.{clock-number}
 use Rattle.theorem_history.proofs.Standing.{Standing, Taken, clock-free}
 
-module _ (b : Board) (legal : Legal b) (ok : checkBoard b ≡ 0) where
+module _ (b : Board) (legal : Legal b) (ok : boardRefusal b ≡ 0) where
   pub post-accepted : (w : World) (q : Request) → Standing b legal w → Taken b (w .state) q
       → postRefusal b (w .state) (w .store .buffer) q ≡ 0
   unfolding postRefusal

@@ -9,7 +9,7 @@ use native.Mathlib.Nat.{le-refl}
 use native.Mathlib.Omega.{arith}
 use Rattle.description_board.specs.declared.Board.{Board}
 use Rattle.description_board.specs.Records.{masterAt, slaveAt, sharesAt}
-use Rattle.description_board.specs.Items.{checkBoard}
+use Rattle.description_board.specs.Items.{boardRefusal}
 use Rattle.description_board.specs.Legal.{Legal}
 use Rattle.fabric_accesses.specs.declared.Transfer.{Transfer}
 use Rattle.fabric_arbiter.specs.declared.Grant.the-variants.{Silent}
@@ -20,7 +20,7 @@ use Rattle.fabric_state.specs.declared.Step.{Step}
 use Rattle.fabric_state.specs.Records.{transferAt, slotAt}
 use Rattle.fabric_state.specs.Soundness.{requests}
 use Rattle.fabric_state.specs.Control.{grantAt, slotBy, slotGranted, slotAfterGrant, stepOf, stateAfter}
-use Rattle.fabric_state.specs.Posting.{stateWith}
+use Rattle.fabric_state.specs.Posting.{withTransfer}
 use Rattle.fabric_state.specs.Resetting.{stateAtReset}
 use Rattle.fabric.specs.Calls.{World}
 use Rattle.fabric_state.proofs.CycleLaws.{leftOf, left-resting}
@@ -123,7 +123,7 @@ module _ (b : Board) (legal : Legal b) (s : ℕ) (hs : s < b .«slave_count») (
         let l = acts b legal (w .state) (x .sound) s hs act stay (ap (λ (y : Slot). y .serving) k ∙ c) .some in
         (subst (λ (n : ℕ). 1 ≤ n) e l, e)
 
-  module _ (ok : checkBoard b ≡ 0) where
+  module _ (ok : boardRefusal b ≡ 0) where
     last-clock : (w : World) → Alone 0 w → Lead b legal ok Rested w
     last-clock w x =
         ⊎-elim (λ c. absurd (omega (arith, x .left, left-now w (x .stands) c .0)))
@@ -194,7 +194,7 @@ module _ (b : Board) (legal : Legal b) (s : ℕ) (hs : s < b .«slave_count») (
 
       -- the first clock serves m
       serves : (slotAfterGrant b (begun .state) s .serving ≡ true) × (slotAfterGrant b (begun .state) s .owner ≡ m)
-      unfolding stateWith
+      unfolding withTransfer
       serves =
           ⊎-elim (λ h. h)
           (λ h.

@@ -26,7 +26,7 @@ use Rattle.fabric_accesses.specs.Accesses.{ratio, waitOf, ownLength}
 use Rattle.fabric_accesses.proofs.AccessLaws.{base-aligned, accesses-full}
 use Rattle.fabric_accesses.proofs.SelectLaws.{selects-of, selects-target}
 use Rattle.fabric_state.specs.Posting.{Request, transferOf, wrongBeats, unaligned, wrongLanes, unmapped, passesEnd}
-use Rattle.fabric_state.specs.Posting.{refusalAt, transferRefusal}
+use Rattle.fabric_state.specs.Posting.{transferRefusalBy, transferRefusal}
 use Rattle.wait_turns.specs.Waits as waits
 use Rattle.theorem_history.specs.Claim.{slaveFor}
 use Rattle.theorem_history.proofs.Pairs.{sharesOf, singleOf, serveOf, most-some}
@@ -77,7 +77,7 @@ not-refused : (b : Board) (j s : ℕ) (t : Transfer) → 1 ≤ t .beats → t .b
     → t .address % masterAt b j .width ≡ 0 → postLanes (masterAt b j .width) (t .lanes) (t .beats) ≡ true
     → targetOf b j (t .address) ≡ s → s < b .«slave_count»
     → t .address + t .beats * masterAt b j .width ≤ slaveAt b s .base + slaveAt b s .span → transferRefusal b j t ≡ 0
-unfolding transferRefusal refusalAt wrongBeats unaligned wrongLanes unmapped passesEnd
+unfolding transferRefusal transferRefusalBy wrongBeats unaligned wrongLanes unmapped passesEnd
 not-refused b j s t some few aligned lanes target within end =
     rw (
       ne-eqb (t .beats) 0 (λ q. omega arith),

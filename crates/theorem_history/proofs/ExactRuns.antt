@@ -10,13 +10,13 @@ use lib.Dec.{ltb}
 use borrow.Author.Tests.{ltb-true, ltb-false}
 use Rattle.description_board.specs.declared.Board.{Board}
 use Rattle.description_board.specs.Records.{sharesAt}
-use Rattle.description_board.specs.Items.{checkBoard}
+use Rattle.description_board.specs.Items.{boardRefusal}
 use Rattle.description_board.specs.Legal.{Legal}
 use Rattle.fabric_accesses.specs.declared.Transfer.{Transfer}
 use Rattle.fabric_state.specs.declared.State.{State}
 use Rattle.fabric_state.specs.Records.{transferAt, slotAt}
 use Rattle.fabric_state.specs.Soundness.{requests}
-use Rattle.fabric_state.specs.Posting.{stateWith}
+use Rattle.fabric_state.specs.Posting.{withTransfer}
 use Rattle.fabric.specs.Calls.{World}
 use Rattle.fabric_state.proofs.Sound.{Sound}
 use Rattle.fabric_state.proofs.StateLaws.{transfer-with, transfer-with-other}
@@ -44,15 +44,15 @@ module _ (b : Board) (legal : Legal b) (s : ℕ) (hs : s < b .«slave_count») w
     module _ (D : ℕ) (st : State) (x : Tracked b legal s hs m hm D st) (i : ℕ) (hi : i < b .«master_count»)
         (has : 1 ≤ sharesAt b i s) (free : transferAt st i .held ≡ false) where
       abbrev with : State
-      with = stateWith st i (transferFor b s i (dueAt b s st i))
+      with = withTransfer st i (transferFor b s i (dueAt b s st i))
 
       posted-has : Has b s with i
-      unfolding stateWith
+      unfolding withTransfer
       posted-has =
           inr (transfer-with st i (transferFor b s i (dueAt b s st i)) (x .sound .transfers) (omega (arith, legal .fewMasters)))
 
       other-has : (j : ℕ) → j ≢ i → Has b s st j → Has b s with j
-      unfolding stateWith
+      unfolding withTransfer
       other-has j d (inl h) = inl h
       other-has j d (inr e) = inr (transfer-with-other st i (transferFor b s i (dueAt b s st i)) j d ∙ e)
 
@@ -66,7 +66,7 @@ module _ (b : Board) (legal : Legal b) (s : ℕ) (hs : s < b .«slave_count») w
           (x .asks)
 
       tracked-with : Sound b with → Tracked b legal s hs m hm D with
-      unfolding stateWith
+      unfolding withTransfer
       tracked-with snd = record {
         sound = snd;
         asks = asks-with;
@@ -89,7 +89,7 @@ module _ (b : Board) (legal : Legal b) (s : ℕ) (hs : s < b .«slave_count») w
               (λ h. inr (other-has j q h))
               (x .owes j hj shared)
 
-    module _ (ok : checkBoard b ≡ 0) where
+    module _ (ok : boardRefusal b ≡ 0) where
       -- from w on m waits k clocks, if it does so where everybody from master i on has posted
       Filler : ℕ → ℕ → ℕ → Type 0
       Filler i D k = (w : World) → Standing b legal w → Tracked b legal s hs m hm D (w .state)
@@ -98,7 +98,7 @@ module _ (b : Board) (legal : Legal b) (s : ℕ) (hs : s < b .«slave_count») w
           → Run b legal ok m k w
 
       fill-one : (i D k : ℕ) → Filler i D k → Filler (suc i) D k
-      unfolding Filler stateWith requestFor transferFor
+      unfolding Filler withTransfer requestFor transferFor
       fill-one i D k rec w y x f c = go (ltb i (b .«master_count»)) refl (ltb 0 (sharesAt b i s)) refl
         where
           st : State

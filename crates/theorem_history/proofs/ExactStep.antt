@@ -15,7 +15,7 @@ use Rattle.description_board.specs.Records.{masterAt, slaveAt, sharesAt}
 use Rattle.description_board.specs.Legal.{Legal}
 use Rattle.fabric_accesses.specs.declared.Transfer.{Transfer}
 use Rattle.fabric_accesses.specs.Accesses.{ownLength}
-use Rattle.fabric_arbiter.specs.Choosing.{chosen}
+use Rattle.fabric_arbiter.specs.Choosing.{firstRequester}
 use Rattle.fabric_arbiter.specs.Granting.{kept}
 use Rattle.fabric_arbiter.specs.declared.Grant.the-variants.{Granted}
 use Rattle.fabric_state.specs.declared.Slot.{Slot}
@@ -130,7 +130,7 @@ module _ (b : Board) (legal : Legal b) (s : ℕ) (hs : s < b .«slave_count») (
       -- a grant uses up its master's credit
       all-uses : (j p : ℕ) → j < b .«master_count» → requests b st s j ≡ true
           → Next (requests b st s) (sharesOf b legal s hs) owner remaining
-          (chosen (requests b st s) (b .«master_count») owner) j p
+          (firstRequester (requests b st s) (b .«master_count») owner) j p
           → length j + lasts j (kept (transferAt st j .beats) p) ≡ lasts j (suc p)
       all-uses j p hj q n =
           let due : dueAt b s st j ≡ p =

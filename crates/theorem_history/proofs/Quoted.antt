@@ -8,7 +8,7 @@ use native.Mathlib.Omega.{arith}
 use Rattle.common_laws.proofs.Tests.{both}
 use Rattle.description_board.specs.declared.Board.{Board}
 use Rattle.description_board.specs.Records.{masterAt, slaveAt, sharesAt, connected}
-use Rattle.description_board.specs.Items.{checkBoard}
+use Rattle.description_board.specs.Items.{boardRefusal}
 use Rattle.description_board.specs.Legal.{Legal}
 use Rattle.fabric_accesses.specs.declared.Transfer.{Transfer}
 use Rattle.fabric_accesses.specs.Decoding.{selects}
@@ -32,7 +32,7 @@ use Rattle.theorem_history.proofs.ExactCalls.{post-accepted}
 use Rattle.theorem_history.proofs.ExactRuns.{request-taken}
 use Rattle.theorem_history.proofs.WaitCall.{written-answered}
 
-module _ (b : Board) (legal : Legal b) (ok : checkBoard b ≡ 0) where
+module _ (b : Board) (legal : Legal b) (ok : boardRefusal b ≡ 0) where
   module _ (w : World) (q : Request) (accepted : claim.Accepted b w q) where
     taken : Taken b (w .state) q
     unfolding claim.Accepted post

@@ -21,7 +21,7 @@ use Rattle.fabric_accesses.proofs.AccessLaws.{first-all}
 use Rattle.fabric_arbiter.specs.declared.Grant.{Grant}
 use Rattle.fabric_arbiter.specs.declared.Grant.the-variants.{Granted, Silent}
 use Rattle.fabric_arbiter.specs.Granting.{arbiterAfter}
-use Rattle.fabric_bytes.specs.Bytes.{Store, partOf, memoryPlace}
+use Rattle.fabric_bytes.specs.Bytes.{Store, partOf, memoryIndex}
 use Rattle.fabric_bytes.proofs.MoveLaws.{less-or}
 use Rattle.fabric_bytes.proofs.Ranges.{Agree}
 use Rattle.fabric_state.specs.declared.Slot.{Slot}
@@ -78,7 +78,7 @@ Agreed b st d r = Slaves b st (slotAt st) d r
 
 module _ (b : Board) (legal : Legal b) (st : State) (sound : Sound b st) where
   pub lies : (m k : ℕ) → Wants b m k (transferAt st m) → Lies b m k (transferAt st m)
-  unfolding memoryPlace
+  unfolding memoryIndex
   lies m k w =
       let t = transferAt st m in
       let h = sound .holds m (w .held) in

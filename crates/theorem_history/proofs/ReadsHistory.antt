@@ -17,7 +17,7 @@ use Rattle.description_board.specs.Legal.{Legal}
 use Rattle.fabric_accesses.specs.declared.Transfer.{Transfer}
 use Rattle.fabric_accesses.specs.Decoding.{targetOf}
 use Rattle.fabric_bytes.specs.Moving.{all}
-use Rattle.fabric_bytes.specs.Bytes.{Store, bufferLength, partOf, posted}
+use Rattle.fabric_bytes.specs.Bytes.{Store, bufferLength, partOf, postedWords}
 use Rattle.fabric_bytes.proofs.MoveLaws.{equal-or, less-or}
 use Rattle.fabric_bytes.proofs.Ranges.{agree-refl, agree-sym, move-apart, front-moved}
 use Rattle.fabric_bytes.proofs.StoreLaws.{length-posted, parts-apart}
@@ -28,7 +28,7 @@ use Rattle.fabric_state.specs.Posting.{Request, transferOf}
 use Rattle.fabric_state.specs.Soundness.{sound}
 use Rattle.fabric_state.specs.Control.{finished, maskOf, linesOf}
 use Rattle.fabric_state.specs.Resetting.{stateAtReset}
-use Rattle.fabric_state.specs.Posting.{stateWith}
+use Rattle.fabric_state.specs.Posting.{withTransfer}
 use Rattle.fabric.specs.Calls.{clock, storeAfterClock, World}
 use Rattle.fabric_state.proofs.Sound.{Sound}
 use Rattle.fabric_state.proofs.StateLaws.{transfer-reset, slot-reset, mask-bit, mask-bit-past}
@@ -73,10 +73,10 @@ module _
   where
     -- what it leaves
     abbrev stateThen : State
-    stateThen = stateWith st (q .master) (transferOf q)
+    stateThen = withTransfer st (q .master) (transferOf q)
 
     abbrev storeThen : Store
-    storeThen = record { memory = d .memory; buffer = posted (q .master) (q .words) (d .buffer) }
+    storeThen = record { memory = d .memory; buffer = postedWords (q .master) (q .words) (d .buffer) }
 
     then-sound : Sound b stateThen
     then-sound = post-sound b st (q .master) (transferOf q) legal sound (fresh .master) (fresh .free) (fresh .fits) refl
@@ -98,7 +98,7 @@ module _
         go false e = omega arith
 
     other-master : (m : ℕ) → m ≢ q .master → SameMaster d storeThen r (fedPost q r) m
-    unfolding fedPost posted
+    unfolding fedPost postedWords
     other-master m h = record {
       part =
           agree-sym
@@ -110,7 +110,7 @@ module _
     }
 
     new-master : length (d .buffer) ≡ bufferLength → Asked b storeThen (fedPost q r) (q .master) (transferOf q)
-    unfolding fedPost posted
+    unfolding fedPost postedWords
     new-master l =
         let e = eq-eqb (q .master) (q .master) refl in
         record {
@@ -169,7 +169,7 @@ module _
         rests = c .rests;
       }
         where
-          long : length (posted (q .master) (q .words) (d .buffer)) ≡ bufferLength
+          long : length (postedWords (q .master) (q .words) (d .buffer)) ≡ bufferLength
           long = length-posted (q .master) (q .words) (d .buffer) ∙ c .buffer
 
           idle : (v : Bool) → x .serving ≡ v → true ≡ not (x .serving && eqb (x .owner) (q .master))

@@ -16,14 +16,14 @@ use Rattle.fabric_accesses.specs.Accesses.{accesses, accessBytes, firstByte}
 use Rattle.fabric_accesses.specs.Decoding.{targetOf}
 use Rattle.fabric_accesses.proofs.AccessLaws.{first-zero, first-next, first-le}
 use Rattle.fabric_bytes.specs.Moving.{move}
-use Rattle.fabric_bytes.specs.Bytes.{Store, bufferLength, partOf, enabled, memoryPlace, written, accessed}
+use Rattle.fabric_bytes.specs.Bytes.{Store, bufferLength, partOf, enabled, memoryIndex, written, carriedAccess}
 use Rattle.fabric_bytes.proofs.MoveLaws.{length-move}
 use Rattle.fabric_bytes.proofs.Ranges.{Agree, agree-refl, agree-sym, agree-trans, Apart, move-apart, move-agree}
 use Rattle.fabric_bytes.proofs.Ranges.{front, front-at, front-same, front-moved}
 use Rattle.fabric_bytes.proofs.StoreLaws.{accessed-write, carry, accessed-carries, Alike, parts-apart}
 use Rattle.fabric_bytes.proofs.StoreLaws.{carry-none, carry-join, carry-memory, carry-buffer, carry-alike}
 use Rattle.fabric_state.specs.Posting.{transferOf}
-use Rattle.theorem_history.specs.Claim.{Reference, slaveFor, bytesIn, placeInMemory, bytesAfter, given, stepped}
+use Rattle.theorem_history.specs.Claim.{Reference, slaveFor, bytesIn, indexInMemory, bytesAfter, given, stepped}
 
 -- "beats × master width bytes"
 abbrev pub bytesHeld : Board → ℕ → Transfer → ℕ
@@ -31,7 +31,7 @@ bytesHeld b m t = t .beats * masterAt b m .width
 
 -- where the transfer lies in memory, at slave k, and where that slave's span ends there
 abbrev pub placeAt : Board → ℕ → Transfer → ℕ
-placeAt b k t = memoryPlace (slaveAt b k) t (startOf b k)
+placeAt b k t = memoryIndex (slaveAt b k) t (startOf b k)
 
 abbrev pub endOf : Board → ℕ → ℕ
 endOf b k = startOf b k + slaveAt b k .span
@@ -41,7 +41,7 @@ abbrev pub accessesAt : Board → ℕ → ℕ → Transfer → ℕ
 accessesAt b k m t = accesses (masterAt b m) (slaveAt b k) t
 
 abbrev pub accessAt : Board → ℕ → ℕ → Transfer → ℕ → Store → Store
-accessAt b k m t a d = accessed (masterAt b m) (slaveAt b k) t m (startOf b k) a d
+accessAt b k m t a d = carriedAccess (masterAt b m) (slaveAt b k) t m (startOf b k) a d
 
 -- the transfer of master m lies in the span of slave k and in the master's part of the buffer
 pub record Lies (b : Board) (m k : ℕ) (t : Transfer) : Type 0 where
@@ -236,10 +236,10 @@ module _ (b : Board) (k m : ℕ) (t : Transfer) (lies : Lies b m k t) where
     unfolding bytesIn
     bytes-in = λ i. asked .transfer i .beats * masterAt b (asked .master i) .width
 
-    place-of : placeInMemory b (r .request m) ≡ placeAt b k t
-    unfolding placeInMemory slaveFor
+    place-of : indexInMemory b (r .request m) ≡ placeAt b k t
+    unfolding indexInMemory slaveFor
     place-of =
-        let e : placeInMemory b (r .request m) ≡ placeAt b (targetOf b m (t .address)) t =
+        let e : indexInMemory b (r .request m) ≡ placeAt b (targetOf b m (t .address)) t =
         λ i. placeAt b (targetOf b (asked .master i) (asked .transfer i .address)) (asked .transfer i) in
         e ∙ rw target
 

@@ -15,7 +15,7 @@ use Rattle.fabric.specs.Running.{Run, standing, clockMore, clockOn, run}
 use Rattle.fabric.proofs.RunLaws.{Sized, sized-after, clock-is, store-is, refusal-again}
 use Rattle.fabric_state.specs.declared.Clocked.{Clocked}
 use Rattle.fabric_state.specs.Posting.{transferOf}
-use Rattle.fabric_state.specs.Resetting.{ownedBy, stateAtReset}
+use Rattle.fabric_state.specs.Resetting.{resetState, stateAtReset}
 use Rattle.fabric_state.proofs.StateLaws.{transfers-with, slots-with}
 use Rattle.fabric_accesses.specs.Accesses.{noTransfer}
 use Rattle.common_laws.proofs.TableLaws.{length-table}
@@ -132,7 +132,7 @@ module _ (b : Board) where
   history-sized (c ∷ cs) w z h = history-sized cs (next w c) (next-sized w c z (came b w c (h .0))) (h .1)
 
 start-sized : (b : Board) (w : World) → Start b w → Sized (w .state)
-unfolding stateAtReset ownedBy
+unfolding stateAtReset resetState
 start-sized b w x =
     rw (start-state b w x) (record { transfers = length-replicate 8 noTransfer; slots = length-table _ 16 })
 

@@ -11,7 +11,7 @@ use native.Mathlib.Omega.{arith}
 use lib.ListN.{length, take}
 use Rattle.description_board.specs.declared.Board.{Board}
 use Rattle.description_board.specs.Records.{masterAt, slaveAt}
-use Rattle.description_board.specs.Items.{checkBoard}
+use Rattle.description_board.specs.Items.{boardRefusal}
 use Rattle.description_board.specs.Legal.{Legal}
 use Rattle.fabric_accesses.specs.declared.Transfer.{Transfer}
 use Rattle.fabric_accesses.specs.Accesses.{waitOf, ownLength}
@@ -20,7 +20,7 @@ use Rattle.fabric_state.specs.declared.Slot.{Slot}
 use Rattle.fabric_state.specs.declared.State.{State}
 use Rattle.fabric_state.specs.Records.{transferAt, slotAt}
 use Rattle.fabric_state.specs.Posting.{Request, transferOf}
-use Rattle.fabric_state.specs.Posting.{stateWith}
+use Rattle.fabric_state.specs.Posting.{withTransfer}
 use Rattle.fabric.specs.Calls.{World, postRefusal, post, clock}
 use Rattle.fabric_state.proofs.CycleLaws.{left-resting}
 use Rattle.fabric_state.proofs.StateLaws.{transfer-with, slot-with}
@@ -71,7 +71,7 @@ module _ (b : Board) (legal : Legal b) where
     abbrev hs : s < b .«slave_count»
     hs = fits st q taken .within
 
-    holds : transferAt (stateWith st m (transferOf q)) m ≡ transferOf q
+    holds : transferAt (withTransfer st m (transferOf q)) m ≡ transferOf q
     holds = transfer-with st m (transferOf q) (x .sound .transfers) (omega (arith, taken .master, legal .fewMasters))
 
     -- the slave does not serve a master that holds nothing
@@ -104,11 +104,11 @@ module _ (b : Board) (legal : Legal b) where
               (leftAt b st s) (taken .master) (x .sound .owner s hs) p (λ o. (a o, none-left o)),
         )
 
-    pub posted-waits : Waiting b legal m (taken .master) s hs (transferOf q) (waitFor b q) (stateWith st m (transferOf q))
+    pub posted-waits : Waiting b legal m (taken .master) s hs (transferOf q) (waitFor b q) (withTransfer st m (transferOf q))
     posted-waits = record {
       holds = holds;
       asks =
-          requests-of b (stateWith st m (transferOf q)) s m (ap (λ (t : Transfer). t .held) holds)
+          requests-of b (withTransfer st m (transferOf q)) s m (ap (λ (t : Transfer). t .held) holds)
           (subst (λ (t : Transfer). selects b m (t .address) s ≡ true) (sym holds) (fits st q taken .selected));
       off = subst (λ (z : Slot). z .serving ≡ true → z .owner ≢ m) (sym (slot-with st m (transferOf q) s)) off;
       bound = λ a.
@@ -120,10 +120,10 @@ module _ (b : Board) (legal : Legal b) where
           (bound (λ o. sym remaining ∙ a (owner ∙ o)));
     }
       where
-        owner : slotAt (stateWith st m (transferOf q)) s .owner ≡ slotAt st s .owner
+        owner : slotAt (withTransfer st m (transferOf q)) s .owner ≡ slotAt st s .owner
         owner = ap (λ (z : Slot). z .owner) (slot-with st m (transferOf q) s)
 
-        remaining : slotAt (stateWith st m (transferOf q)) s .remaining ≡ slotAt st s .remaining
+        remaining : slotAt (withTransfer st m (transferOf q)) s .remaining ≡ slotAt st s .remaining
         remaining = ap (λ (z : Slot). z .remaining) (slot-with st m (transferOf q) s)
 
   -- ---- the claim's parts
@@ -132,7 +132,7 @@ module _ (b : Board) (legal : Legal b) where
     stands : Lent b w → Standing b legal (after w before)
     stands lent = history-stands b legal before w (start-stands b legal w start lent) history
 
-    checked : checkBoard b ≡ 0
+    checked : boardRefusal b ≡ 0
     checked = start-checked b w start
 
     module _ (q : Request) (ok : claim.Accepted b (after w before) q) where

@@ -9,7 +9,7 @@ use lib.ListN.{length}
 use borrow.Author.Tests.{eq-eqb}
 use Rattle.description_board.specs.declared.Board.{Board}
 use Rattle.description_board.specs.Records.{masterAt, slaveAt, memoryLength}
-use Rattle.description_board.specs.Items.{checkBoard}
+use Rattle.description_board.specs.Items.{boardRefusal}
 use Rattle.description_board.specs.Legal.{Legal}
 use Rattle.fabric_accesses.specs.declared.Transfer.{Transfer}
 use Rattle.fabric_bytes.specs.Bytes.{bufferLength}
@@ -22,7 +22,7 @@ use Rattle.fabric_state.specs.Posting.{Request, transferOf}
 use Rattle.fabric_state.specs.Soundness.{sound}
 use Rattle.fabric_state.specs.Control.{slotAfterGrant, stepOf, stateAfter}
 use Rattle.fabric_state.specs.Resetting.{stateAtReset}
-use Rattle.fabric_state.specs.Posting.{stateWith}
+use Rattle.fabric_state.specs.Posting.{withTransfer}
 use Rattle.fabric.specs.Calls.{World, reset, postRefusal, clockRefusal}
 use Rattle.fabric.proofs.PostLaws as posts
 use Rattle.fabric.proofs.ClockLaws.{not-refused}
@@ -55,24 +55,24 @@ unfolding postRefusal
 post-taken b st buffer q e = posts.taken b (q .master) (transferOf q) st (length buffer) (length (q .words)) e .2
 
 -- a history starts on a checked board, with the state at reset
-pub start-checked : (b : Board) (w : World) → Start b w → checkBoard b ≡ 0
+pub start-checked : (b : Board) (w : World) → Start b w → boardRefusal b ≡ 0
 unfolding reset
 start-checked b w x = x .accepted
 
 pub start-state : (b : Board) (w : World) → Start b w → w .state ≡ stateAtReset b
 unfolding reset
-start-state b w x = x .state ∙ rw (eq-eqb (checkBoard b) 0 (start-checked b w x))
+start-state b w x = x .state ∙ rw (eq-eqb (boardRefusal b) 0 (start-checked b w x))
 
 module _ (b : Board) (legal : Legal b) where
   -- a post changes no slot, and no serving slave's owner
   pub left-with : (st : State) → Sound b st → (m : ℕ) (t : Transfer) → transferAt st m .held ≡ false → (s : ℕ) → s < b .«slave_count»
-      → leftAt b (stateWith st m t) s ≡ leftAt b st s
+      → leftAt b (withTransfer st m t) s ≡ leftAt b st s
   left-with st x m t free s hs =
-      ap (λ (y : Slot). leftOf (masterAt b (y .owner)) (slaveAt b s) (transferAt (stateWith st m t) (y .owner)) y) (slot-with st m t s)
+      ap (λ (y : Slot). leftOf (masterAt b (y .owner)) (slaveAt b s) (transferAt (withTransfer st m t) (y .owner)) y) (slot-with st m t s)
       ∙ go (slotAt st s .serving) refl
     where
       go : (c : Bool) → slotAt st s .serving ≡ c
-          → leftOf (masterAt b (slotAt st s .owner)) (slaveAt b s) (transferAt (stateWith st m t) (slotAt st s .owner)) (slotAt st s)
+          → leftOf (masterAt b (slotAt st s .owner)) (slaveAt b s) (transferAt (withTransfer st m t) (slotAt st s .owner)) (slotAt st s)
           ≡ leftAt b st s
       go true e =
           let held = requests-held b st s (slotAt st s .owner) (x .serving s hs e .asks) in
@@ -158,12 +158,12 @@ module _ (b : Board) (legal : Legal b) where
 
   -- ---- where this stands, nothing of 2 to 9 is refused
 
-  pub clock-free : checkBoard b ≡ 0 → (w : World) → Standing b legal w → clockRefusal b (w .state) (w .store) ≡ 0
+  pub clock-free : boardRefusal b ≡ 0 → (w : World) → Standing b legal w → clockRefusal b (w .state) (w .store) ≡ 0
   clock-free ok w x =
       not-refused b (w .state) (w .store) ok (x .memory) (x .buffer) (sound-test b (w .state) legal (x .sound))
 
   -- a post is taken, or refused for its own part
-  pub post-free : checkBoard b ≡ 0 → (w : World) → Standing b legal w → (q : Request)
+  pub post-free : boardRefusal b ≡ 0 → (w : World) → Standing b legal w → (q : Request)
       → posts.Late (postRefusal b (w .state) (w .store .buffer) q)
   unfolding postRefusal
   post-free ok w x q =

@@ -10,7 +10,7 @@ use lib.ListN.{length, drop}
 use borrow.Author.Tests.{eq-eqb, le-ltb, lt-leb}
 use Rattle.description_board.specs.declared.Board.{Board}
 use Rattle.description_board.specs.Records.{connected}
-use Rattle.description_board.specs.Items.{checkBoard}
+use Rattle.description_board.specs.Items.{boardRefusal}
 use Rattle.description_board.specs.Legal.{Legal}
 use Rattle.description_board.proofs.Accepted.{accepted-legal}
 use Rattle.description.specs.declared.Parsed.{Parsed}
@@ -51,7 +51,7 @@ module _ (text : List ℕ) (accepted : readText text .number ≡ 0) where
       output = ap (λ (n : ℕ). cond (eqb n 0) (pairBytes b m s ++ drop 16 out) out) number
 
 -- the writer's text of a board has the board's own figures, whatever stands behind its counts
-pub written-answered : (b : Board) → checkBoard b ≡ 0 → (m s : ℕ) (out : List ℕ) → m < b .«master_count» → connected b m s ≡ true
+pub written-answered : (b : Board) → boardRefusal b ≡ 0 → (m s : ℕ) (out : List ℕ) → m < b .«master_count» → connected b m s ≡ true
     → 16 ≤ length out → WaitAnswered (writeText b) m s (quotedWait b m s) (serveOf b m s) out
 written-answered b ok m s out hm c room =
     let legal = accepted-legal b ok in

@@ -14,7 +14,7 @@ use Rattle.description_board.specs.Records.{masterAt, slaveAt, connected, start
 use Rattle.fabric_accesses.specs.Accesses.{ownLength}
 use Rattle.fabric_accesses.specs.Decoding.{targetOf}
 use Rattle.fabric_bytes.specs.Moving.{move}
-use Rattle.fabric_bytes.specs.Bytes.{Store, bufferLength, partOf, memoryPlace, enabled}
+use Rattle.fabric_bytes.specs.Bytes.{Store, bufferLength, partOf, memoryIndex, enabled}
 use Rattle.fabric_state.specs.declared.State.{State}
 use Rattle.fabric_state.specs.declared.Line.{Line}
 use Rattle.fabric_state.specs.declared.Clocked.{Clocked}
@@ -144,19 +144,19 @@ unfoldable pub bytesIn : Board → Request → ℕ
 bytesIn b q = q .beats * masterAt b (q .master) .width
 
 -- "Byte j of beat k lies at the slave's start in memory + address − base + k × master width + j."
-unfoldable pub placeInMemory : Board → Request → ℕ
-placeInMemory b q = memoryPlace (slaveAt b (slaveFor b q)) (transferOf q) (startOf b (slaveFor b q))
+unfoldable pub indexInMemory : Board → Request → ℕ
+indexInMemory b q = memoryIndex (slaveAt b (slaveFor b q)) (transferOf q) (startOf b (slaveFor b q))
 
 -- "A write puts its posted bytes there where lane j is 1; a read .. changes nothing."
 unfoldable pub bytesAfter : Board → Request → List ℕ → List ℕ
 bytesAfter b q bytes =
     cond (q .write)
-    (move (enabled (masterAt b (q .master)) (transferOf q)) (q .words) 0 (placeInMemory b q) 0 (bytesIn b q) bytes)
+    (move (enabled (masterAt b (q .master)) (transferOf q)) (q .words) 0 (indexInMemory b q) 0 (bytesIn b q) bytes)
     bytes
 
 -- "a read gives all its bytes"
 unfoldable pub given : Board → Request → List ℕ → List ℕ
-given b q bytes = take (bytesIn b q) (drop (placeInMemory b q) bytes)
+given b q bytes = take (bytesIn b q) (drop (indexInMemory b q) bytes)
 
 -- "each transfer that has had its first cycle is one whole step": the transfer of master m
 unfoldable pub stepped : Board → ℕ → Reference → Reference

@@ -12,7 +12,7 @@ use Rattle.fabric.specs.Calls.{post}
 use Rattle.wait.specs.Answers.{waitRefusal, waitOutput}
 use Rattle.wait_table.specs.Tables.{printed}
 use Rattle.wait.specs.Calls.{quoteOf}
-use Rattle.theorem_rows.specs.Runs.{started}
+use Rattle.theorem_rows.specs.RowCalls.{started}
 use Rattle.theorem_rows.specs.Rows.{boardText}
 
 -- what a read by master 0 with full lanes answers after a reset

@@ -1,3 +1,3 @@
-pub mod Runs
 pub mod Rows
 pub mod Examples
+pub mod RowCalls

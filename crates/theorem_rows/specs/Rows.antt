@@ -14,7 +14,7 @@ use Rattle.description.specs.Reader.{readText}
 use Rattle.wait_table.specs.Tables.{printed}
 use Rattle.fabric_state.specs.Posting.{Request}
 use Rattle.fabric.specs.Calls.{afterPost}
-use Rattle.theorem_rows.specs.Runs.{runs, started, phases, grants}
+use Rattle.theorem_rows.specs.RowCalls.{runs, started, phases, grants}
 
 -- document 01's board
 unfoldable pub boardText : List ℕ

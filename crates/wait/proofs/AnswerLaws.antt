@@ -10,17 +10,17 @@ use lib.Dec.{leb, ltb}
 use borrow.Author.Tests.{eq-eqb, ne-eqb, lt-ltb, le-ltb, le-leb, lt-leb, leb-false, ltb-true, not-false}
 use Rattle.common_laws.specs.Lists.{table, gather}
 use Rattle.common_laws.proofs.Tests.{both, passed}
-use Rattle.common_text.specs.Scanning.{Put}
+use Rattle.common_text.specs.Code.Scanning.{Put}
 use Rattle.common_text.proofs.Puts.{put-front, put-then}
 use Rattle.description_board.specs.declared.Board.{Board}
 use Rattle.description_board.specs.Records.{sharesAt, connected}
-use Rattle.description_board.specs.Items.{checkBoard}
+use Rattle.description_board.specs.Items.{boardRefusal}
 use Rattle.description_board.specs.Legal.{Legal}
 use Rattle.description.specs.Reader.{readText}
 use Rattle.wait_turns.specs.declared.Quote.{Quote}
 use Rattle.wait.specs.Answers.{bytes64, pairBytes, pairRefusal, waitRefusal, waitOutput}
 use Rattle.wait_turns.specs.Waits.{quotedWait, serveOf}
-use Rattle.wait_turns.specs.Parts.{PairOf, figuresOf}
+use Rattle.wait_turns.specs.Code.Pairs.{PairOf, figuresOf}
 use Rattle.wait.specs.Calls.{quoteRefusal, quoteOf}
 
 -- the bytes of two numbers, one behind the other
@@ -67,7 +67,7 @@ module _ (b : Board) (m s : ℕ) where
           rw (lt-leb (b .«master_count») m known, lt-ltb s (b .«slave_count») inside, ← f, lt-ltb 0 n (omega arith))
 
 -- a look-up on a board
-module _ (b : Board) (m s : ℕ) {n : ℕ} (e : n ≡ checkBoard b) where
+module _ (b : Board) (m s : ℕ) {n : ℕ} (e : n ≡ boardRefusal b) where
   pub quote-board : (n ≡ 0 → ⊥) → record { number = n; wait = 0; serve = 0 } ≡ quoteOf b m s
   unfolding quoteOf quoteRefusal
   quote-board h = rw (← e, ne-eqb n 0 h, ne-eqb n 0 h)
@@ -83,7 +83,7 @@ module _ (b : Board) (m s : ℕ) {n : ℕ} (e : n ≡ checkBoard b) where
     quote-taken z r = rw (← e, eq-eqb n 0 none, ← f, eq-eqb k 0 z, r)
 
 -- a connected pair of an accepted board has its figures
-pub quote-connected : (b : Board) (m s : ℕ) → checkBoard b ≡ 0 → m < b .«master_count» → connected b m s ≡ true
+pub quote-connected : (b : Board) (m s : ℕ) → boardRefusal b ≡ 0 → m < b .«master_count» → connected b m s ≡ true
     → quoteOf b m s ≡ record { number = 0; wait = quotedWait b m s; serve = serveOf b m s }
 unfolding quoteOf quoteRefusal pairRefusal
 quote-connected b m s ok h e = rw (ok, lt-leb (b .«master_count») m h, e)

@@ -9,7 +9,7 @@ use borrow.Author.Tests.{ltb-true, leb-false, eqb-true}
 use Rattle.common_laws.proofs.FillLaws.{sum-same}
 use Rattle.description_board.specs.declared.Board.{Board}
 use Rattle.description_board.specs.Records.{slaveAt, sharesAt, connected}
-use Rattle.description_board.specs.Items.{checkBoard}
+use Rattle.description_board.specs.Items.{boardRefusal}
 use Rattle.description_board.specs.Rebuilt.{trimmed}
 use Rattle.description_board.specs.Legal.{Legal}
 use Rattle.description_board.proofs.Accepted.{trimmed-master, trimmed-slave, trimmed-share, accepted-legal}
@@ -71,7 +71,7 @@ module _ (b : Board) (legal : Legal b) where
       go true e = refl
       go false e = rw (connected-trimmed m s (leb-false (b .«master_count») m e))
 
-module _ (b : Board) (ok : checkBoard b ≡ 0) where
+module _ (b : Board) (ok : boardRefusal b ≡ 0) where
   abbrev legal : Legal b
   legal = accepted-legal b ok
 

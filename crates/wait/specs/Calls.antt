@@ -4,7 +4,7 @@ use mathlib.Core.Bool.{cond, not}
 use Prim.Native.Nat.{ℕ}
 use lib.Dec.{eqb}
 use Rattle.description_board.specs.declared.Board.{Board}
-use Rattle.description_board.specs.Items.{checkBoard}
+use Rattle.description_board.specs.Items.{boardRefusal}
 use Rattle.wait.specs.declared.Quoted.{Quoted}
 use Rattle.wait_turns.specs.Waits.{quotedWait, serveOf}
 use Rattle.wait.specs.Answers.{pairRefusal}
@@ -12,7 +12,7 @@ use Rattle.wait.specs.Answers.{pairRefusal}
 -- the refusal of a wait that is looked up on a board, or 0: "a description that did not come through the reader is checked for
 -- 2 to 7", then the pair
 unfoldable pub quoteRefusal : Board → ℕ → ℕ → ℕ
-quoteRefusal b m s = cond (not (eqb (checkBoard b) 0)) (checkBoard b) (pairRefusal b m s)
+quoteRefusal b m s = cond (not (eqb (boardRefusal b) 0)) (boardRefusal b) (pairRefusal b m s)
 
 -- wait and serve of a pair; at a refusal "all other values handed back are 0"
 unfoldable pub quoteOf : Board → ℕ → ℕ → Quoted

@@ -4,7 +4,7 @@ ghost use mathlib.Core.Path.{_≡_};
 ghost use mathlib.Core.List.{_++_};
 ghost use Prim.Native.Nat.{_≤_};
 ghost use lib.ListN.{length};
-ghost use Rattle.common_text.specs.Scanning.{Put};
+ghost use Rattle.common_text.specs.Code.Scanning.{Put};
 ghost use Rattle.description_board.specs.Legal.{Legal};
 ghost use Rattle.description_layout.specs.Layout.{boardIn};
 ghost use Rattle.wait.specs.Answers.{bytes64, pairRefusal, waitRefusal, waitOutput};
@@ -18,7 +18,7 @@ pub struct Quoted {
 }
 
 // A number's bytes, the lowest first.
-fn low_first(n: u64) -> [u8; 8]
+fn bytes64(n: u64) -> [u8; 8]
     ensures { λ r. ⌜ r ≡ bytes64 n ⌝ }
 {
     [
@@ -38,8 +38,8 @@ fn put_figures(out: &mut [u8], q: Quote) -> usize
     requires { ⌜ 16 ≤ length (now out) ⌝ }
     ensures { λ r. ⌜ Put (now (out .entry)) 0 (bytes64 (q .wait) ++ bytes64 (q .serve)) (now (out .exit)) r ⌝ }
 {
-    let wait = low_first(q.wait);
-    let serve = low_first(q.serve);
+    let wait = bytes64(q.wait);
+    let serve = bytes64(q.serve);
     let behind = common_text::put_bytes(&mut *out, 0, &wait);
     common_text::put_bytes(&mut *out, behind, &serve)
 }
@@ -55,7 +55,7 @@ fn pair_refusal(board: &[u32; 242], m: u32, s: u32) -> u32
     if description_layout::slave_count(board) <= s {
         return 16;
     }
-    if description_layout::share_at(board, m as usize, s as usize) == 0 {
+    if description_layout::shares_at(board, m as usize, s as usize) == 0 {
         return 16;
     }
     0
@@ -65,7 +65,7 @@ fn pair_refusal(board: &[u32; 242], m: u32, s: u32) -> u32
 pub fn quote_of(board: &[u32; 242], master: u32, slave: u32) -> Quoted
     ensures { λ q. ⌜ q ≡ quoteOf (boardIn (now (board .entry))) master slave ⌝ }
 {
-    let unfit = description_check::refusal(board);
+    let unfit = description_check::board_refusal(board);
     if unfit != 0 {
         return Quoted {
             number: unfit,
@@ -81,7 +81,7 @@ pub fn quote_of(board: &[u32; 242], master: u32, slave: u32) -> Quoted
             serve: 0,
         };
     }
-    let q = wait_turns::figures(board, master, slave);
+    let q = wait_turns::figures_of(board, master, slave);
     Quoted {
         number: 0,
         wait: q.wait,
@@ -107,7 +107,7 @@ pub fn wait_call(text: &[u8], master: u32, slave: u32, out: &mut [u8]) -> u32
     if number != 0 {
         return number;
     }
-    let q = wait_turns::figures(&board, master, slave);
+    let q = wait_turns::figures_of(&board, master, slave);
     put_figures(&mut *out, q);
     0
 }

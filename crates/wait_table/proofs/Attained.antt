@@ -7,19 +7,19 @@ use Rattle.common_laws.specs.Lists.{member, gather, table, sum}
 use Rattle.common_text.specs.Digits.{digitsIn, digits, fieldsText, lineText}
 use Rattle.description_board.specs.Records.{noBoard, connected, totalSpan, startOf, memoryLength}
 use Rattle.description_board.specs.Rules.{slaveValues, meets, overlaps, masterRefusal, slaveRefusal, shareRefusal, itemRefusal}
-use Rattle.description_board.specs.Rules.{withMaster, withSlave, withShare, withItem, isShare, refused, start, taken, step, run, finish}
+use Rattle.description_board.specs.Rules.{withMaster, withSlave, withShare, withItem, isShare, refused, start, taken, step, stepAll, finish}
 use Rattle.description_board.specs.Rules.{described}
-use Rattle.description_board.specs.Items.{masterItem, slaveItem, shareItem, items, checkBoard}
+use Rattle.description_board.specs.Items.{masterItem, slaveItem, shareItem, items, boardRefusal}
 use Rattle.fabric_accesses.specs.Accesses.{ratio}
 use Rattle.wait_turns.specs.Waits.{longestAccess, mostBeats, single, serve, turn, otherTurn, turnsOf, quotedWait, serveOf}
 use Rattle.wait_table.specs.Tables.{heading, pairLine, pairLines, tableText}
 use Rattle.wait_table.specs.Longest.{longestTable, largest}
 
-pub largest-accepted : checkBoard largest ≡ 0
+pub largest-accepted : boardRefusal largest ≡ 0
 unfolding
     member gather table noBoard totalSpan startOf memoryLength slaveValues meets overlaps masterRefusal slaveRefusal
-    shareRefusal itemRefusal withMaster withSlave withShare withItem isShare refused start taken step run finish described
-    masterItem slaveItem shareItem items checkBoard largest
+    shareRefusal itemRefusal withMaster withSlave withShare withItem isShare refused start taken step stepAll finish described
+    masterItem slaveItem shareItem items boardRefusal largest
 largest-accepted = refl
 
 pub largest-longest : length (tableText largest) ≡ longestTable

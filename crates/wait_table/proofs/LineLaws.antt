@@ -10,15 +10,15 @@ use borrow.Author.Tests.{lt-ltb}
 use Rattle.common_laws.specs.Lists.{gather}
 use Rattle.common_laws.proofs.Arithmetic.{product-le}
 use Rattle.common_laws.proofs.ListLaws.{gather-suc}
-use Rattle.common_text.specs.Scanning.{Put}
+use Rattle.common_text.specs.Code.Scanning.{Put}
 use Rattle.common_text.proofs.Puts.{put-then, put-length}
 use Rattle.description_board.specs.declared.Board.{Board}
 use Rattle.description_board.specs.Records.{sharesAt, connected}
 use Rattle.description_board.specs.Legal.{Legal}
 use Rattle.wait_turns.specs.declared.Quote.{Quote}
-use Rattle.wait_turns.specs.Parts.{PairOf, figuresOf}
+use Rattle.wait_turns.specs.Code.Pairs.{PairOf, figuresOf}
 use Rattle.wait_table.specs.Tables.{pairLine, pairLines}
-use Rattle.wait_table.specs.Lines.{quoteLine}
+use Rattle.wait_table.specs.Code.QuoteLine.{quoteLine}
 use Rattle.wait_turns.proofs.SumLaws.{rows, gather-room}
 
 -- a pair that is not connected has no line

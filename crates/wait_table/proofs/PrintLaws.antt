@@ -13,7 +13,7 @@ use Rattle.common_laws.specs.Bytes.{bytesOf}
 use Rattle.common_laws.specs.Lists.{gather}
 use Rattle.common_text.specs.Digits.{digits, fieldsText, lineText}
 use Rattle.common_text.specs.Fields.{comma}
-use Rattle.common_text.specs.Scanning.{Put}
+use Rattle.common_text.specs.Code.Scanning.{Put}
 use Rattle.common_text.proofs.Decimal.{digits-small-length, digits-most, fields-long, line-length}
 use Rattle.common_text.proofs.Puts.{put-front, put-length}
 use Rattle.description_board.specs.declared.Board.{Board}

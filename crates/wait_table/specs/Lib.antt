@@ -1,3 +1,3 @@
 pub mod Tables
-pub mod Lines
 pub mod Longest
+pub mod Code

@@ -3,13 +3,13 @@ use wait_turns::Quote;
 ghost use mathlib.Core.Path.{_≡_};
 ghost use Prim.Native.Nat.{_+_, _≤_};
 ghost use lib.ListN.{length};
-ghost use Rattle.common_text.specs.Scanning.{Put};
+ghost use Rattle.common_text.specs.Code.Scanning.{Put};
 ghost use Rattle.description_board.specs.Legal.{Legal};
 ghost use Rattle.description_layout.specs.Layout.{boardIn};
 ghost use Rattle.description.specs.Reader.{readText};
-ghost use Rattle.wait_turns.specs.Parts.{PairOf};
+ghost use Rattle.wait_turns.specs.Code.Pairs.{PairOf};
 ghost use Rattle.wait_table.specs.Tables.{pairLine, pairLines, tableText, printAnswer, printOutput, Page};
-ghost use Rattle.wait_table.specs.Lines.{quoteLine};
+ghost use Rattle.wait_table.specs.Code.QuoteLine.{quoteLine};
 
 // A refusal's number and 0, or 0 and the count of bytes written.
 pub struct Printed {
@@ -34,10 +34,10 @@ fn put_pair(out: &mut [u8], at: usize, board: &[u32; 242], m: u32, s: u32) -> us
     requires { ⌜ at + length (pairLine (boardIn (now board)) m s) ≤ length (now out) ⌝ }
     ensures { λ r. ⌜ Put (now (out .entry)) at (pairLine (boardIn (now (board .entry))) m s) (now (out .exit)) r ⌝ }
 {
-    if description_layout::share_at(board, m as usize, s as usize) == 0 {
+    if description_layout::shares_at(board, m as usize, s as usize) == 0 {
         return at;
     }
-    let q = wait_turns::figures(board, m, s);
+    let q = wait_turns::figures_of(board, m, s);
     put_quote(&mut *out, at, m, s, q)
 }
 

@@ -14,7 +14,7 @@ use Rattle.description_board.specs.declared.Board.{Board}
 use Rattle.description_board.specs.Records.{masterAt, slaveAt, sharesAt, connected}
 use Rattle.description_board.specs.Legal.{LegalSlave}
 use Rattle.wait_turns.specs.Waits.{longestAccess, serve, turn, otherTurn, turnsOf, quotedWait, serveOf}
-use Rattle.wait_turns.specs.Parts.{LegalBoth, SlaveOf, PairOf, figuresOf}
+use Rattle.wait_turns.specs.Code.Pairs.{LegalBoth, SlaveOf, PairOf, figuresOf}
 use Rattle.wait_turns.proofs.Bounds.{shares-le}
 
 -- a legal slave's record, and a pair of records with it

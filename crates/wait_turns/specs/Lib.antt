@@ -1,2 +1,2 @@
 pub mod Waits
-pub mod Parts
+pub mod Code

@@ -6,7 +6,7 @@ ghost use Prim.Native.Nat.{_≤_, _<_};
 ghost use Rattle.description_board.specs.Legal.{LegalMaster, LegalSlave};
 ghost use Rattle.description_layout.specs.Layout.{boardIn};
 ghost use Rattle.wait_turns.specs.Waits.{longestAccess, mostBeats, single, serve, turn, otherTurn, turnsOf};
-ghost use Rattle.wait_turns.specs.Parts.{LegalBoth, SlaveOf, PairOf, figuresOf};
+ghost use Rattle.wait_turns.specs.Code.Pairs.{LegalBoth, SlaveOf, PairOf, figuresOf};
 
 // Wait and serve of a pair, in clocks.
 pub struct Quote {
@@ -42,7 +42,7 @@ pub fn single(ma: Master, sl: Slave, v: u32) -> u64
     requires { ⌜ LegalBoth ma sl ⌝ }
     ensures { λ r. ⌜ r ≡ single ma sl v ⌝ }
 {
-    (fabric_accesses::width_ratio(ma, sl) as u64) * (v as u64)
+    (fabric_accesses::ratio(ma, sl) as u64) * (v as u64)
 }
 
 // The clocks of the longest transfer.
@@ -51,7 +51,7 @@ pub fn serve(ma: Master, sl: Slave, v: u32) -> u64
     ensures { λ r. ⌜ r ≡ serve ma sl v ⌝ }
 {
     let beats = most_beats(ma, sl) as u64;
-    let each = fabric_accesses::width_ratio(ma, sl) as u64;
+    let each = fabric_accesses::ratio(ma, sl) as u64;
     beats * each * (v as u64)
 }
 
@@ -76,7 +76,7 @@ fn other_turn(board: &[u32; 242], sl: Slave, v: u32, m: u32, s: u32, k: u32) -> 
     if k == m {
         return 0;
     }
-    let shares = description_layout::share_at(board, k as usize, s as usize);
+    let shares = description_layout::shares_at(board, k as usize, s as usize);
     if shares == 0 {
         return 0;
     }
@@ -104,7 +104,7 @@ fn turns_of(board: &[u32; 242], sl: Slave, v: u32, m: u32, s: u32) -> u64
 }
 
 // Wait and serve of master m at slave s. The longer wait is chosen once, for every turn.
-pub fn figures(board: &[u32; 242], m: u32, s: u32) -> Quote
+pub fn figures_of(board: &[u32; 242], m: u32, s: u32) -> Quote
     requires { ⌜ PairOf (boardIn (now board)) m s ⌝ }
     ensures { λ q. ⌜ q ≡ figuresOf (boardIn (now (board .entry))) m s ⌝ }
 {

@@ -10,21 +10,21 @@ use Rattle.common_text.proofs.numbers_behind.Tie as tie
 add-start : tie.Need-add-start
 add-start c = search needs
 
-sub-parse-numbers : tie.Need-sub-parse-numbers
-sub-parse-numbers c = search needs
+sub-numbers-of : tie.Need-sub-numbers-of
+sub-numbers-of c = search needs
 
-part-parse-numbers-start : tie.Need-part-parse-numbers-start
-part-parse-numbers-start c = search needs
+part-numbers-of-start : tie.Need-part-numbers-of-start
+part-numbers-of-start c = search needs
 
-part-parse-numbers-end : tie.Need-part-parse-numbers-end
-part-parse-numbers-end c = search needs
+part-numbers-of-end : tie.Need-part-numbers-of-end
+part-numbers-of-end c = search needs
 
-parse-numbers-requires : tie.Need-parse-numbers-requires
-parse-numbers-requires c κs = search needs
+numbers-of-requires : tie.Need-numbers-of-requires
+numbers-of-requires c κs = search needs
 
 returns : tie.Need-returns
 returns c = let a = c .before .before .before .before .args in
-    c .parse-numbers .ensures
+    c .numbers-of .ensures
     ∙ ap numbersOf (sym (behind-part comma (a .line .now) (a .place) (c .before .before .if1 .taken)))
 
 no-numbers-requires : tie.Need-no-numbers-requires
@@ -40,10 +40,10 @@ numbers-behind-spec =
     tie.close
     (tie.spec
     add-start
-    sub-parse-numbers
-    part-parse-numbers-start
-    part-parse-numbers-end
-    parse-numbers-requires
+    sub-numbers-of
+    part-numbers-of-start
+    part-numbers-of-end
+    numbers-of-requires
     returns
     no-numbers-requires
     returns-2)

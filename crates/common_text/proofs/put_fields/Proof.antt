@@ -7,7 +7,7 @@ use lib.ListN.{length, take}
 use lib.Seq.{take-all}
 use borrow.Author.Needs.{needs}
 use Rattle.common_text.specs.Digits.{fieldsText}
-use Rattle.common_text.specs.Scanning.{Put}
+use Rattle.common_text.specs.Code.Scanning.{Put}
 use Rattle.common_text.proofs.Decimal.{fields-room}
 use Rattle.common_text.proofs.Puts.{put-next, put-none, put-length}
 use Rattle.common_text.proofs.put_fields.Statement.{statement}

@@ -10,7 +10,7 @@ use Rattle.common_laws.specs.Lists.{gather}
 use Rattle.description.proofs.WriteLaws.{text-all, length-next, lines-fit, few-places}
 use Rattle.description_lines.proofs.WriteLaws.{item-fits}
 use Rattle.description_lines.specs.Writer.{itemText, itemsText}
-use Rattle.description_check.specs.Lines.{linesTo}
+use Rattle.description_check.specs.Code.Entries.{linesTo}
 use Rattle.description_layout.specs.Layout.{boardIn}
 use Rattle.description.proofs.board_length.Statement.{statement}
 use Rattle.description.proofs.board_length.Tie as tie
@@ -21,8 +21,8 @@ Inv-loop board n sum₀ k₀ sum k = (k ≤ n) × (sum ≡ length (itemsText (li
 abbrev μ-loop : tie.MeasureT-loop
 μ-loop board n sum₀ k₀ sum k = n - k
 
-places-requires : tie.Need-places-requires Inv-loop μ-loop
-places-requires c κs = search needs
+entry-count-requires : tie.Need-entry-count-requires Inv-loop μ-loop
+entry-count-requires c κs = search needs
 
 loop-holds : tie.Need-loop-holds Inv-loop μ-loop
 unfolding linesTo gather itemsText
@@ -42,7 +42,7 @@ add-sum c = let l = c .before .before .before .loop in
       l .inv .1,
       lines-fit b (l .k),
       item-fits (c .before .line-at .result),
-      c .before .before .before .before .places .ensures,
+      c .before .before .before .before .entry-count .ensures,
       few-places b (c .before .before .before .before .before .pre),
     )
 
@@ -69,7 +69,7 @@ loop-again c = let l = c .before .before .before .loop in
 returns : tie.Need-returns Inv-loop μ-loop
 returns c = let l = c .before .loop in
     l .inv .1 ∙ ap length (text-all (boardIn (c .before .before .before .args .board .now)) (l .k)
-    (omega (arith, c .before .before .places .ensures)))
+    (omega (arith, c .before .before .entry-count .ensures)))
 
 pub board-length-spec : {M : Type 1} → statement M
 board-length-spec =
@@ -77,7 +77,7 @@ board-length-spec =
     (tie.spec
     Inv-loop
     μ-loop
-    places-requires
+    entry-count-requires
     loop-holds
     line-at-requires
     item-length-requires

@@ -7,10 +7,10 @@ use borrow.Author.Needs.{needs}
 use Rattle.common_laws.specs.Lists.{gather}
 use Rattle.description.proofs.WriteLaws.{text-all, room-next, put-next}
 use Rattle.description_lines.specs.Writer.{itemsText}
-use Rattle.description_check.specs.Lines.{linesTo}
+use Rattle.description_check.specs.Code.Entries.{linesTo}
 use Rattle.description_layout.specs.Layout.{boardIn}
 use Rattle.common_text.proofs.Puts.{put-none, put-length}
-use Rattle.common_text.specs.Scanning.{Put}
+use Rattle.common_text.specs.Code.Scanning.{Put}
 use Rattle.description.proofs.put_board.Statement.{statement}
 use Rattle.description.proofs.put_board.Tie as tie
 
@@ -20,8 +20,8 @@ Inv-loop out₀ board n next₀ k₀ out next k = (k ≤ n) × Put out₀ 0 (ite
 abbrev μ-loop : tie.MeasureT-loop
 μ-loop out₀ board n next₀ k₀ out next k = n - k
 
-places-requires : tie.Need-places-requires Inv-loop μ-loop
-places-requires c κs = search needs
+entry-count-requires : tie.Need-entry-count-requires Inv-loop μ-loop
+entry-count-requires c κs = search needs
 
 loop-holds : tie.Need-loop-holds Inv-loop μ-loop
 unfolding linesTo gather itemsText
@@ -40,7 +40,7 @@ put-item-requires c κs = let l = c .before .before .before .loop in
       l .inv .1 .end,
       s .pre,
       room-next (boardIn (s .args .board .now)) (l .k)
-          (omega (arith, c .before .before .before .before .places .ensures)),
+          (omega (arith, c .before .before .before .before .entry-count .ensures)),
     ))
 
 add-k : tie.Need-add-k Inv-loop μ-loop
@@ -61,7 +61,7 @@ same-length c = put-length (c .before .loop .inv .1)
 returns : tie.Need-returns Inv-loop μ-loop
 returns c = let l = c .before .loop in
     rw (text-all (boardIn (c .before .before .before .before .args .board .now)) (l .k)
-    (omega (arith, c .before .before .places .ensures))) at (l .inv .1)
+    (omega (arith, c .before .before .entry-count .ensures))) at (l .inv .1)
 
 pub put-board-spec : {M : Type 1} → statement M
 put-board-spec =
@@ -69,7 +69,7 @@ put-board-spec =
     (tie.spec
     Inv-loop
     μ-loop
-    places-requires
+    entry-count-requires
     loop-holds
     line-at-requires
     put-item-requires

@@ -7,7 +7,7 @@ use native.Mathlib.Omega.{arith}
 use lib.ListN.{length}
 use borrow.Author.Needs.{needs}
 use Rattle.description.proofs.BlameLaws.{Counted, counted-none, counted-next, counted-refused, counted-end, whole-comes}
-use Rattle.description_rules.specs.Readings.{readingOf}
+use Rattle.description_rules.specs.Code.Readings.{readingOf}
 use Rattle.description.proofs.read_lines.Statement.{statement}
 use Rattle.description.proofs.read_lines.Tie as tie
 
@@ -17,11 +17,11 @@ Inv-loop text board₀ p₀ line₀ at₀ board p line at = Counted text (readin
 abbrev μ-loop : tie.MeasureT-loop
 μ-loop text board₀ p₀ line₀ at₀ board p line at = length text - at
 
-first-progress-requires : tie.Need-first-progress-requires Inv-loop μ-loop
-first-progress-requires c κs = search needs
+start-requires : tie.Need-start-requires Inv-loop μ-loop
+start-requires c κs = search needs
 
 loop-holds : tie.Need-loop-holds Inv-loop μ-loop
-loop-holds c = counted-none _ _ (ap (readingOf _) (c .before .before .pre) ∙ c .first-progress .ensures)
+loop-holds c = counted-none _ _ (ap (readingOf _) (c .before .before .pre) ∙ c .start .ensures)
 
 line-from-requires : tie.Need-line-from-requires Inv-loop μ-loop
 line-from-requires c κs = search needs
@@ -29,14 +29,14 @@ line-from-requires c κs = search needs
 add-line : tie.Need-add-line Inv-loop μ-loop
 add-line c = search needs
 
-add-item-requires : tie.Need-add-item-requires Inv-loop μ-loop
-add-item-requires c κs = search needs
+step-requires : tie.Need-step-requires Inv-loop μ-loop
+step-requires c κs = search needs
 
 returns : tie.Need-returns Inv-loop μ-loop
 unfolding readingOf
 returns c = let l = c .before .before .before .before .before .before .loop in
     whole-comes _ _ _ _ (counted-refused _ _ _ (l .line) (l .at) (l .inv) _ _
-    (c .before .before .before .before .line-from .ensures) (c .before .before .add-item .ensures) (c .if1 .taken))
+    (c .before .before .before .before .line-from .ensures) (c .before .before .step .ensures) (c .if1 .taken))
 
 loop-less : tie.Need-loop-less Inv-loop μ-loop
 loop-less c = let f = c .before .before .before .before .line-from .ensures in omega (arith, f .onward, f .within)
@@ -45,14 +45,14 @@ loop-again : tie.Need-loop-again Inv-loop μ-loop
 unfolding readingOf
 loop-again c = let l = c .before .before .before .before .before .before .loop in
     counted-next _ _ _ (l .line) (l .at) (l .inv) _ _ (c .before .before .before .before .line-from .ensures)
-    (c .before .before .add-item .ensures) (c .if1 .left)
+    (c .before .before .step .ensures) (c .if1 .left)
 
-finished-requires : tie.Need-finished-requires Inv-loop μ-loop
-finished-requires c κs = search needs
+finish-requires : tie.Need-finish-requires Inv-loop μ-loop
+finish-requires c κs = search needs
 
 returns-2 : tie.Need-returns-2 Inv-loop μ-loop
 returns-2 c = let l = c .before .before .before .loop in
-    whole-comes _ _ _ _ (counted-end _ _ _ (l .line) (l .at) (l .inv) (omega arith) (c .finished .ensures))
+    whole-comes _ _ _ _ (counted-end _ _ _ (l .line) (l .at) (l .inv) (omega arith) (c .finish .ensures))
 
 pub read-lines-spec : {M : Type 1} → statement M
 read-lines-spec =
@@ -60,13 +60,13 @@ read-lines-spec =
     (tie.spec
     Inv-loop
     μ-loop
-    first-progress-requires
+    start-requires
     loop-holds
     line-from-requires
     add-line
-    add-item-requires
+    step-requires
     returns
     loop-less
     loop-again
-    finished-requires
+    finish-requires
     returns-2)

@@ -1,4 +1,4 @@
--- `description::write` meets its contract. Refused for the board, refused for the room, written.
+-- `description::write` meets its contract. Refused for the board, refused for the room, writeAnswer.
 -- Assumes nothing.
 use mathlib.Core.Path.{_≡_, ap, sym, _∙_}
 use mathlib.Core.List.{List}
@@ -6,11 +6,11 @@ use Prim.Native.Nat.{ℕ, _≤_}
 use native.Mathlib.Omega.{arith}
 use lib.ListN.{length}
 use borrow.Author.Needs.{needs}
-use Rattle.description_board.specs.Items.{checkBoard}
+use Rattle.description_board.specs.Items.{boardRefusal}
 use Rattle.description_board.specs.declared.Board.{Board}
 use Rattle.description.proofs.Trip.{text-room}
 use Rattle.description.proofs.WriteLaws.{Writes, board-refused, room-refused, text-written}
-use Rattle.description.specs.Writer.{written, outputAfter}
+use Rattle.description.specs.Writer.{writeAnswer, writeOutput}
 use Rattle.description.specs.Longest.{longest}
 use Rattle.description.specs.declared.Written.{Written}
 use Rattle.description_layout.specs.Layout.{boardIn}
@@ -19,19 +19,19 @@ use Rattle.description.proofs.write.Tie as tie
 
 -- the third promise follows from the first, for an output of at least `longest` bytes
 promised : (b : Board) (out : List ℕ) (most : ℕ) {r : Written} {after : List ℕ} → longest ≤ most → Writes b out r after
-    → (r ≡ written b out) × ((after ≡ outputAfter b out) × (most ≤ length out → r .number ≡ checkBoard b))
-unfolding written
+    → (r ≡ writeAnswer b out) × ((after ≡ writeOutput b out) × (most ≤ length out → r .number ≡ boardRefusal b))
+unfolding writeAnswer
 promised b out most l w =
     (w .0, (w .1, λ h. ap (λ (r : Written). r .number) (w .0) ∙ text-room b out (omega arith)))
 
-refusal-requires : tie.Need-refusal-requires
-refusal-requires c κs = search needs
+board-refusal-requires : tie.Need-board-refusal-requires
+board-refusal-requires c κs = search needs
 
 returns : tie.Need-returns
 unfolding longest
 returns c = let a = c .before .before .before .args in
     let b = boardIn (a .board .now) in
-    promised b (a .out .now) _ (omega arith) (board-refused b _ _ (c .before .refusal .ensures) (c .if1 .taken))
+    promised b (a .out .now) _ (omega arith) (board-refused b _ _ (c .before .board-refusal .ensures) (c .if1 .taken))
 
 board-length-requires : tie.Need-board-length-requires
 board-length-requires c κs = search needs
@@ -40,7 +40,7 @@ returns-2 : tie.Need-returns-2
 unfolding longest
 returns-2 c = let a = c .before .before .before .before .before .args in
     let b = boardIn (a .board .now) in
-    let accepted = sym (c .before .before .before .refusal .ensures) ∙ c .before .before .if1 .left in
+    let accepted = sym (c .before .before .before .board-refusal .ensures) ∙ c .before .before .if1 .left in
     promised b (a .out .now) _ (omega arith)
     (room-refused b _ accepted (omega (arith, c .before .board-length .ensures, c .if2 .taken)))
 
@@ -54,7 +54,7 @@ returns-3 : tie.Need-returns-3
 unfolding longest
 returns-3 c = let a = c .before .before .before .before .before .before .before .before .before .args in
     let b = boardIn (a .board .now) in
-    let accepted = sym (c .before .before .before .before .before .before .before .refusal .ensures) ∙
+    let accepted = sym (c .before .before .before .before .before .before .before .board-refusal .ensures) ∙
     c .before .before .before .before .before .before .if1 .left in
     promised b (a .out .now) _ (omega arith)
     (text-written b _ accepted _ _ (omega (
@@ -67,7 +67,7 @@ pub write-spec : {M : Type 1} → statement M
 write-spec =
     tie.close
     (tie.spec
-    refusal-requires
+    board-refusal-requires
     returns
     board-length-requires
     returns-2

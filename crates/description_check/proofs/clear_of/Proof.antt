@@ -10,11 +10,11 @@ use Rattle.description_check.proofs.clear_of.Tie as tie
 returns : tie.Need-returns
 returns c = λ e. clear-behind _ _ _ _ _ (c .before .pre .1) (c .if1 .taken)
 
-meets-any-requires : tie.Need-meets-any-requires
-meets-any-requires c κs = search needs
+overlaps-requires : tie.Need-overlaps-requires
+overlaps-requires c κs = search needs
 
 returns-2 : tie.Need-returns-2
-returns-2 c = λ e. clear-apart _ _ _ _ (sym (c .meets-any .ensures) ∙ not-true _ e)
+returns-2 c = λ e. clear-apart _ _ _ _ (sym (c .overlaps .ensures) ∙ not-true _ e)
 
 pub clear-of-spec : {M : Type 1} → statement M
-clear-of-spec = tie.close (tie.spec returns meets-any-requires returns-2)
+clear-of-spec = tie.close (tie.spec returns overlaps-requires returns-2)

@@ -6,7 +6,7 @@ use native.Mathlib.Omega.{arith}
 use borrow.Author.Count.{below-none}
 use borrow.Author.Needs.{needs}
 use Rattle.description_check.proofs.AcceptLaws.{master-next}
-use Rattle.description_check.specs.Accept.{MastersFit}
+use Rattle.description_check.specs.Code.Accept.{MastersFit}
 use Rattle.description_layout.specs.Layout.{boardIn}
 use Rattle.description_check.proofs.masters_fit.Statement.{statement}
 use Rattle.description_check.proofs.masters_fit.Tie as tie

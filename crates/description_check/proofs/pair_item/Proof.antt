@@ -2,7 +2,7 @@
 -- Assumes nothing.
 use borrow.Author.Tests.{eq-eqb, ne-eqb}
 use borrow.Author.Needs.{needs}
-use Rattle.description_check.specs.Lines.{pairItem}
+use Rattle.description_check.specs.Code.Entries.{pairItem}
 use Rattle.description_check.proofs.pair_item.Statement.{statement}
 use Rattle.description_check.proofs.pair_item.Tie as tie
 

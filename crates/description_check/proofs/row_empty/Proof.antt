@@ -7,7 +7,7 @@ use borrow.Author.Count.{below-none}
 use borrow.Author.Tests.{eqb-true}
 use borrow.Author.Needs.{needs}
 use Rattle.description_check.proofs.AcceptLaws.{row-empty-next}
-use Rattle.description_check.specs.Accept.{RowEmpty}
+use Rattle.description_check.specs.Code.Accept.{RowEmpty}
 use Rattle.description_layout.specs.Layout.{boardIn}
 use Rattle.description_check.proofs.row_empty.Statement.{statement}
 use Rattle.description_check.proofs.row_empty.Tie as tie
@@ -21,8 +21,8 @@ abbrev μ-loop : tie.MeasureT-loop
 loop-holds : tie.Need-loop-holds Inv-loop μ-loop
 loop-holds c = (omega arith, λ e. record { each = below-none _ })
 
-share-at-requires : tie.Need-share-at-requires Inv-loop μ-loop
-share-at-requires c κs = search needs
+shares-at-requires : tie.Need-shares-at-requires Inv-loop μ-loop
+shares-at-requires c κs = search needs
 
 add-s : tie.Need-add-s Inv-loop μ-loop
 add-s c = search needs
@@ -31,7 +31,7 @@ loop-less : tie.Need-loop-less Inv-loop μ-loop
 loop-less c = search needs
 
 loop-again : tie.Need-loop-again Inv-loop μ-loop
-loop-again c = (omega arith, row-empty-next _ _ _ _ _ (c .share-at .ensures) (c .before .before .loop .inv .1))
+loop-again c = (omega arith, row-empty-next _ _ _ _ _ (c .shares-at .ensures) (c .before .before .loop .inv .1))
 
 returns : tie.Need-returns Inv-loop μ-loop
 returns c = λ e. record { each = λ s h. c .before .loop .inv .1 (eqb-true _ _ e) .each s (omega arith) }
@@ -39,4 +39,4 @@ returns c = λ e. record { each = λ s h. c .before .loop .inv .1 (eqb-true _ _ 
 pub row-empty-spec : {M : Type 1} → statement M
 row-empty-spec =
     tie.close
-    (tie.spec Inv-loop μ-loop loop-holds share-at-requires add-s loop-less loop-again returns)
+    (tie.spec Inv-loop μ-loop loop-holds shares-at-requires add-s loop-less loop-again returns)

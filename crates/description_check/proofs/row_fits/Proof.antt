@@ -8,7 +8,7 @@ use borrow.Author.Count.{below-none}
 use borrow.Author.Tests.{not-true}
 use borrow.Author.Needs.{needs}
 use Rattle.description_check.proofs.AcceptLaws.{row-next}
-use Rattle.description_check.specs.Accept.{RowFits}
+use Rattle.description_check.specs.Code.Accept.{RowFits}
 use Rattle.description_layout.specs.Layout.{boardIn}
 use Rattle.description_check.proofs.row_fits.Statement.{statement}
 use Rattle.description_check.proofs.row_fits.Tie as tie
@@ -22,14 +22,14 @@ abbrev μ-loop : tie.MeasureT-loop
 loop-holds : tie.Need-loop-holds Inv-loop μ-loop
 loop-holds c = (omega arith, λ e. record { each = below-none _ })
 
-cast-share-at : tie.Need-cast-share-at Inv-loop μ-loop
-cast-share-at c = search needs
+cast-shares-at : tie.Need-cast-shares-at Inv-loop μ-loop
+cast-shares-at c = search needs
 
-share-at-requires : tie.Need-share-at-requires Inv-loop μ-loop
-share-at-requires c κs = search needs
+shares-at-requires : tie.Need-shares-at-requires Inv-loop μ-loop
+shares-at-requires c κs = search needs
 
-limit-requires : tie.Need-limit-requires Inv-loop μ-loop
-limit-requires c κs = search needs
+share-limit-requires : tie.Need-share-limit-requires Inv-loop μ-loop
+share-limit-requires c κs = search needs
 
 add-s : tie.Need-add-s Inv-loop μ-loop
 add-s c = search needs
@@ -40,7 +40,7 @@ loop-less c = search needs
 loop-again : tie.Need-loop-again Inv-loop μ-loop
 loop-again c = (
   omega arith,
-  row-next _ _ _ _ _ _ _ (c .before .share-at .ensures) (c .limit .ensures) (c .before .before .before .loop .inv .1),
+  row-next _ _ _ _ _ _ _ (c .before .shares-at .ensures) (c .share-limit .ensures) (c .before .before .before .loop .inv .1),
 )
 
 returns : tie.Need-returns Inv-loop μ-loop
@@ -53,9 +53,9 @@ row-fits-spec =
     Inv-loop
     μ-loop
     loop-holds
-    cast-share-at
-    share-at-requires
-    limit-requires
+    cast-shares-at
+    shares-at-requires
+    share-limit-requires
     add-s
     loop-less
     loop-again

@@ -6,7 +6,7 @@ use native.Mathlib.Omega.{arith}
 use borrow.Author.Count.{below-none, below-more}
 use borrow.Author.Tests.{not-false}
 use borrow.Author.Needs.{needs}
-use Rattle.description_check.specs.Accept.{SharesFit}
+use Rattle.description_check.specs.Code.Accept.{SharesFit}
 use Rattle.description_layout.specs.Layout.{boardIn}
 use Rattle.description_check.proofs.shares_fit.Statement.{statement}
 use Rattle.description_check.proofs.shares_fit.Tie as tie

@@ -23,11 +23,11 @@ returns : tie.Need-returns
 returns c = let s = c .before .before .before .before in
     line-open (s .args .text .now) (s .args .at) _ (c .before .find-byte .ensures) (s .pre) (c .if1 .taken)
 
-slice-aggregate-parse-line : tie.Need-slice-aggregate-parse-line
-slice-aggregate-parse-line c = sym (length-take-le _ _ (c .before .before .find-byte .ensures .within))
+slice-aggregate-item-of : tie.Need-slice-aggregate-item-of
+slice-aggregate-item-of c = sym (length-take-le _ _ (c .before .before .find-byte .ensures .within))
 
-parse-line-requires : tie.Need-parse-line-requires
-parse-line-requires c κs = search needs
+item-of-requires : tie.Need-item-of-requires
+item-of-requires c κs = search needs
 
 add-t7 : tie.Need-add-t7
 add-t7 c = search needs
@@ -39,7 +39,7 @@ returns-2 : tie.Need-returns-2
 returns-2 c = let f = c .before .before .before in
     let s = f .before .before .before in
     let w = f .find-byte .ensures .within in
-    line-ended (s .args .text .now) (s .args .at) _ (f .find-byte .ensures) (s .pre) _ (omega arith) (c .parse-line .ensures)
+    line-ended (s .args .text .now) (s .args .at) _ (f .find-byte .ensures) (s .pre) _ (omega arith) (c .item-of .ensures)
 
 pub line-from-spec : {M : Type 1} → statement M
 line-from-spec =
@@ -50,8 +50,8 @@ line-from-spec =
     part-rest-end
     find-byte-requires
     returns
-    slice-aggregate-parse-line
-    parse-line-requires
+    slice-aggregate-item-of
+    item-of-requires
     add-t7
     add-t14
     returns-2)

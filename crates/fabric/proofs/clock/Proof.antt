@@ -11,7 +11,7 @@ use Rattle.description_layout.specs.Layout.{boardIn}
 use Rattle.fabric_bytes.specs.Bytes.{Store}
 use Rattle.fabric_layout.specs.Layout.{stateIn}
 use Rattle.fabric_layout.proofs.StateLaws.{first-none}
-use Rattle.fabric_check.specs.Targets.{requestMask}
+use Rattle.fabric_check.specs.Code.Targets.{requestMask}
 use Rattle.fabric.specs.Calls.{clockRefusal}
 use Rattle.fabric.proofs.ClockLaws.{refusal-found, exact-lengths, clock-refused, clock-taken}
 use Rattle.fabric.proofs.RunLaws.{accepted-board, keeps-rules}
@@ -33,24 +33,24 @@ bytes c = record { memory = c .args .memory .now; buffer = c .args .buffer .now 
 ready-requires : tie.Need-ready-requires
 ready-requires c κs = search needs
 
-clock-refusal-requires : tie.Need-clock-refusal-requires
-clock-refusal-requires c κs = λ z. accepted-legal _ (sym (c .ready .ensures .number) ∙ z) .fewSlaves
+clock-refusal-by-requires : tie.Need-clock-refusal-by-requires
+clock-refusal-by-requires c κs = λ z. accepted-legal _ (sym (c .ready .ensures .number) ∙ z) .fewSlaves
 
-found : (c : tie.After-clock-refusal)
-    → let s = start (c .before) in c .clock-refusal .result ≡ clockRefusal (board s) (stateIn (before s)) (bytes s)
+found : (c : tie.After-clock-refusal-by)
+    → let s = start (c .before) in c .clock-refusal-by .result ≡ clockRefusal (board s) (stateIn (before s)) (bytes s)
 found c =
     let s = start (c .before) in
-    c .clock-refusal .ensures
+    c .clock-refusal-by .ensures
     ∙ refusal-found (board s) (stateIn (before s)) (bytes s) _ _ (c .before .ready .ensures .number)
     (c .before .ready .ensures .sound)
 
-clear-lines-requires : tie.Need-clear-lines-requires
-clear-lines-requires c κs = search needs
+first-lines-requires : tie.Need-first-lines-requires
+first-lines-requires c κs = search needs
 
 returns : tie.Need-returns
 returns c =
     let t = c .before .before in
-    clock-refused _ _ _ _ (found (t .before)) (t .if1 .taken) (c .clear-lines .ensures ∙ first-none _)
+    clock-refused _ _ _ _ (found (t .before)) (t .if1 .taken) (c .first-lines .ensures ∙ first-none _)
 
 -- nothing is refused
 taken : (c : tie.Else1) → let s = start (c .before .before) in clockRefusal (board s) (stateIn (before s)) (bytes s) ≡ 0
@@ -92,8 +92,8 @@ clock-spec =
     tie.close
     (tie.spec
     ready-requires
-    clock-refusal-requires
-    clear-lines-requires
+    clock-refusal-by-requires
+    first-lines-requires
     returns
     request-masks-requires
     cycle-requires

@@ -4,7 +4,7 @@ use mathlib.Core.Path.{_≡_, sym, _∙_}
 use mathlib.Core.Bool.{true}
 use lib.ListN.{length}
 use borrow.Author.Needs.{needs}
-use Rattle.description_board.specs.Items.{checkBoard}
+use Rattle.description_board.specs.Items.{boardRefusal}
 use Rattle.description_layout.specs.Layout.{boardIn}
 use Rattle.fabric_bytes.specs.Bytes.{bufferLength}
 use Rattle.fabric_layout.specs.Layout.{stateIn}
@@ -13,18 +13,18 @@ use Rattle.fabric.proofs.PostLaws.{Taken, taken, some-part, words-fit, 
 use Rattle.fabric.proofs.post.Statement.{statement}
 use Rattle.fabric.proofs.post.Tie as tie
 
-post-refusal-requires : tie.Need-post-refusal-requires
-post-refusal-requires c κs = search needs
+post-refusal-by-requires : tie.Need-post-refusal-by-requires
+post-refusal-by-requires c κs = search needs
 
 returns : tie.Need-returns
 unfolding postRefusal
-returns c = post-refused _ _ _ _ (c .before .post-refusal .ensures) (c .if1 .taken)
+returns c = post-refused _ _ _ _ (c .before .post-refusal-by .ensures) (c .if1 .taken)
 
 fits : (c : tie.Else1) → let a = c .before .before .before .before .before .args in
-    (checkBoard (boardIn (a .board .now)) ≡ 0) × (length (a .buffer .now) ≡ bufferLength)
+    (boardRefusal (boardIn (a .board .now)) ≡ 0) × (length (a .buffer .now) ≡ bufferLength)
     × Taken (boardIn (a .board .now)) (stateIn (a .state .now)) (a .master)
     (record { held = true; write = a .write; address = a .address; lanes = a .lanes; beats = a .beats }) (length (a .words .now))
-fits c = taken _ _ _ _ _ _ (sym (c .before .post-refusal .ensures) ∙ c .if1 .left)
+fits c = taken _ _ _ _ _ _ (sym (c .before .post-refusal-by .ensures) ∙ c .if1 .left)
 
 post-words-requires : tie.Need-post-words-requires
 post-words-requires c κs = let f = fits (c .before) in (f .1, some-part _ _ _ (f .0) (f .2), words-fit _ _ _ (f .0) (f .2))
@@ -41,13 +41,13 @@ unfolding postRefusal
 returns-2 c =
     let w = c .before .before .before .before in
     let e = w .before .before in
-    post-taken _ _ _ _ (e .before .post-refusal .ensures) (e .if1 .left) (c .put-transfer .ensures) (w .post-words .ensures)
+    post-taken _ _ _ _ (e .before .post-refusal-by .ensures) (e .if1 .left) (c .put-transfer .ensures) (w .post-words .ensures)
 
 pub post-spec : {M : Type 1} → statement M
 post-spec =
     tie.close
     (tie.spec
-    post-refusal-requires
+    post-refusal-by-requires
     returns
     post-words-requires
     put-transfer-requires

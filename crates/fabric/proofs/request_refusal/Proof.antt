@@ -12,12 +12,12 @@ use Rattle.fabric.proofs.PostLaws.{words-wrong, words-right}
 use Rattle.fabric.proofs.request_refusal.Statement.{statement}
 use Rattle.fabric.proofs.request_refusal.Tie as tie
 
-refusal-of-requires : tie.Need-refusal-of-requires
-refusal-of-requires c κs = search needs
+transfer-refusal-requires : tie.Need-transfer-refusal-requires
+transfer-refusal-requires c κs = search needs
 
 returns : tie.Need-returns
 unfolding requestRefusal
-returns c = rw (← c .before .refusal-of .ensures, ne-eqb _ _ (c .if1 .taken))
+returns c = rw (← c .before .transfer-refusal .ensures, ne-eqb _ _ (c .if1 .taken))
 
 master-at-requires : tie.Need-master-at-requires
 master-at-requires c κs =
@@ -27,7 +27,7 @@ words-length-requires : tie.Need-words-length-requires
 words-length-requires c κs = search needs
 
 passes : (c : tie.Else1) → let a = c .before .before .args in transferRefusal (boardIn (a .board .now)) (a .m) (a .t) ≡ 0
-passes c = sym (c .before .refusal-of .ensures) ∙ c .if1 .left
+passes c = sym (c .before .transfer-refusal .ensures) ∙ c .if1 .left
 
 returns-2 : tie.Need-returns-2
 returns-2 c =
@@ -45,7 +45,7 @@ pub request-refusal-spec : {M : Type 1} → statement M
 request-refusal-spec =
     tie.close
     (tie.spec
-    refusal-of-requires
+    transfer-refusal-requires
     returns
     master-at-requires
     words-length-requires

@@ -3,24 +3,24 @@
 use mathlib.Core.Path.{_≡_, sym, _∙_}
 use native.Mathlib.Omega.{arith}
 use borrow.Author.Needs.{needs}
-use Rattle.description_board.specs.Items.{checkBoard}
+use Rattle.description_board.specs.Items.{boardRefusal}
 use Rattle.description_board.proofs.Accepted.{accepted-legal}
 use Rattle.description_layout.specs.Layout.{boardIn}
 use Rattle.fabric.proofs.ResetLaws.{reset-taken, reset-refused}
 use Rattle.fabric.proofs.reset.Statement.{statement}
 use Rattle.fabric.proofs.reset.Tie as tie
 
-refusal-requires : tie.Need-refusal-requires
-refusal-requires c κs = search needs
+board-refusal-requires : tie.Need-board-refusal-requires
+board-refusal-requires c κs = search needs
 
 returns : tie.Need-returns
-returns c = reset-refused _ _ (c .before .refusal .ensures) (c .if1 .taken)
+returns c = reset-refused _ _ (c .before .board-refusal .ensures) (c .if1 .taken)
 
 master-count-requires : tie.Need-master-count-requires
 master-count-requires c κs = search needs
 
-accepted : (c : tie.Else1) → checkBoard (boardIn (c .before .before .args .board .now)) ≡ 0
-accepted c = sym (c .before .refusal .ensures) ∙ c .if1 .left
+accepted : (c : tie.Else1) → boardRefusal (boardIn (c .before .before .args .board .now)) ≡ 0
+accepted c = sym (c .before .board-refusal .ensures) ∙ c .if1 .left
 
 sub-owner : tie.Need-sub-owner
 sub-owner c = omega (arith, c .master-count .ensures, accepted-legal _ (accepted (c .before)) .someMaster)
@@ -41,7 +41,7 @@ pub reset-spec : {M : Type 1} → statement M
 reset-spec =
     tie.close
     (tie.spec
-    refusal-requires
+    board-refusal-requires
     returns
     master-count-requires
     sub-owner

@@ -14,7 +14,7 @@ use Rattle.description_layout.specs.Layout.{boardIn}
 use Rattle.fabric_bytes.specs.Bytes.{Store}
 use Rattle.fabric_layout.specs.Layout.{stateIn}
 use Rattle.fabric_layout.proofs.StateLaws.{first-none}
-use Rattle.fabric_check.specs.Targets.{requestMask}
+use Rattle.fabric_check.specs.Code.Targets.{requestMask}
 use Rattle.fabric.specs.Calls.{clockRefusal}
 use Rattle.fabric.proofs.ClockLaws.{refusal-found}
 use Rattle.fabric.proofs.RunLaws.{accepted-board, keeps-rules}
@@ -49,19 +49,19 @@ bytes c = record { memory = c .args .memory .now; buffer = c .args .buffer .now 
 ready-requires : tie.Need-ready-requires Inv-loop μ-loop
 ready-requires c κs = search needs
 
-clock-refusal-requires : tie.Need-clock-refusal-requires Inv-loop μ-loop
-clock-refusal-requires c κs = λ z. accepted-legal _ (sym (c .ready .ensures .number) ∙ z) .fewSlaves
+clock-refusal-by-requires : tie.Need-clock-refusal-by-requires Inv-loop μ-loop
+clock-refusal-by-requires c κs = λ z. accepted-legal _ (sym (c .ready .ensures .number) ∙ z) .fewSlaves
 
-found : (c : tie.After-clock-refusal Inv-loop μ-loop)
-    → let s = start (c .before) in c .clock-refusal .result ≡ clockRefusal (board s) (stateIn (before s)) (bytes s)
+found : (c : tie.After-clock-refusal-by Inv-loop μ-loop)
+    → let s = start (c .before) in c .clock-refusal-by .result ≡ clockRefusal (board s) (stateIn (before s)) (bytes s)
 found c =
     let s = start (c .before) in
-    c .clock-refusal .ensures
+    c .clock-refusal-by .ensures
     ∙ refusal-found (board s) (stateIn (before s)) (bytes s) _ _ (c .before .ready .ensures .number)
     (c .before .ready .ensures .sound)
 
-clear-lines-requires : tie.Need-clear-lines-requires Inv-loop μ-loop
-clear-lines-requires c κs = search needs
+first-lines-requires : tie.Need-first-lines-requires Inv-loop μ-loop
+first-lines-requires c κs = search needs
 
 run-answer-requires : tie.Need-run-answer-requires Inv-loop μ-loop
 run-answer-requires c κs = search needs
@@ -71,7 +71,7 @@ returns c =
     let t = c .before in
     let l = t .before in
     rw (c .run-answer .ensures)
-    (run-refused _ _ _ _ _ (found (l .before .before)) (t .if1 .taken) (l .clear-lines .ensures ∙ first-none _))
+    (run-refused _ _ _ _ _ (found (l .before .before)) (t .if1 .taken) (l .first-lines .ensures ∙ first-none _))
 
 -- nothing is refused
 taken : (c : tie.Else1 Inv-loop μ-loop)
@@ -93,7 +93,7 @@ loop-holds c =
     let asked =
     c .request-masks .ensures ∙ ap (λ (ts : List ℕ). table (requestMask ts) 16) (r .ready .ensures .targets ok keeps) in (
       z,
-      passing-begin _ _ _ _ z _ _ asked (l .clear-lines .ensures ∙ first-none _),
+      passing-begin _ _ _ _ z _ _ asked (l .first-lines .ensures ∙ first-none _),
       refl,
       refl,
     )
@@ -164,8 +164,8 @@ run-spec =
     Inv-loop
     μ-loop
     ready-requires
-    clock-refusal-requires
-    clear-lines-requires
+    clock-refusal-by-requires
+    first-lines-requires
     run-answer-requires
     returns
     request-masks-requires

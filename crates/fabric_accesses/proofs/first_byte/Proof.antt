@@ -9,19 +9,19 @@ use Rattle.fabric_accesses.specs.Accesses.{firstByte}
 use Rattle.fabric_accesses.proofs.first_byte.Statement.{statement}
 use Rattle.fabric_accesses.proofs.first_byte.Tie as tie
 
-access-width-requires : tie.Need-access-width-requires
-access-width-requires c κs = tt
+access-bytes-requires : tie.Need-access-bytes-requires
+access-bytes-requires c κs = tt
 
 cast-result : tie.Need-cast-result
 cast-result c = search needs
 
 mul-result : tie.Need-mul-result
 mul-result c =
-    omega (arith, product-le (c .before .args .a) (c .access-width .result) 4294967295 4294967295 (omega arith) (omega arith))
+    omega (arith, product-le (c .before .args .a) (c .access-bytes .result) 4294967295 4294967295 (omega arith) (omega arith))
 
 returns : tie.Need-returns
 unfolding firstByte
-returns c = ap (λ (x : ℕ). c .before .args .a * x) (c .access-width .ensures)
+returns c = ap (λ (x : ℕ). c .before .args .a * x) (c .access-bytes .ensures)
 
 pub first-byte-spec : {M : Type 1} → statement M
-first-byte-spec = tie.close (tie.spec access-width-requires cast-result mul-result returns)
+first-byte-spec = tie.close (tie.spec access-bytes-requires cast-result mul-result returns)

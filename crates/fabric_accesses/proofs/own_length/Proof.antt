@@ -10,8 +10,8 @@ use Rattle.fabric_accesses.proofs.AccessLaws.{width-le, ratio-le, acces
 use Rattle.fabric_accesses.proofs.own_length.Statement.{statement}
 use Rattle.fabric_accesses.proofs.own_length.Tie as tie
 
-access-count-requires : tie.Need-access-count-requires
-access-count-requires c κs = c .pre .0
+accesses-requires : tie.Need-accesses-requires
+accesses-requires c κs = c .pre .0
 
 wait-of-requires : tie.Need-wait-of-requires
 wait-of-requires c κs = tt
@@ -28,16 +28,16 @@ mul-result c =
     let ma = start .args .ma in
     let sl = start .args .sl in
     let few : ratio ma sl ≤ 8 = ratio-le ma sl 8 (omega arith) (width-le (ma .width) (start .pre .0 .master)) in
-    let most : c .before .access-count .result ≤ 4294967295 * 8 =
-    omega (arith, c .before .access-count .ensures, accesses-le ma sl (start .args .t) 4294967295 (omega arith)) in
+    let most : c .before .accesses .result ≤ 4294967295 * 8 =
+    omega (arith, c .before .accesses .ensures, accesses-le ma sl (start .args .t) 4294967295 (omega arith)) in
     let short : 1 + c .wait-of .result ≤ 256 = omega (arith, c .wait-of .ensures, start .pre .1) in
-    omega (arith, product-le (c .before .access-count .result) (1 + c .wait-of .result) (4294967295 * 8) 256 most short)
+    omega (arith, product-le (c .before .accesses .result) (1 + c .wait-of .result) (4294967295 * 8) 256 most short)
 
 returns : tie.Need-returns
 unfolding ownLength
-returns c = ap₂ (λ (x y : ℕ). x * (1 + y)) (c .before .access-count .ensures) (c .wait-of .ensures)
+returns c = ap₂ (λ (x y : ℕ). x * (1 + y)) (c .before .accesses .ensures) (c .wait-of .ensures)
 
 pub own-length-spec : {M : Type 1} → statement M
 own-length-spec =
     tie.close
-    (tie.spec access-count-requires wait-of-requires cast-result add-result mul-result returns)
+    (tie.spec accesses-requires wait-of-requires cast-result add-result mul-result returns)

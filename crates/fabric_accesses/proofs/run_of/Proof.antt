@@ -18,8 +18,8 @@ place-of-requires c κs = c .before .pre .burst
 sub-start : tie.Need-sub-start
 sub-start c = place-le _ _ _ _ (c .place-of .ensures)
 
-access-count-requires : tie.Need-access-count-requires
-access-count-requires c κs = c .before .before .pre .wide
+accesses-requires : tie.Need-accesses-requires
+accesses-requires c κs = c .before .before .pre .wide
 
 cast-difference : tie.Need-cast-difference
 cast-difference c = search needs
@@ -39,7 +39,7 @@ gives : (c : tie.After-difference)
     (c .before .before .before .before .args .t) (c .before .before .before .before .args .a)
 gives c =
     run-from _ _ _ _ _ _ _ _ (c .before .before .before .run-limit .ensures) (c .before .before .place-of .ensures)
-    (c .before .access-count .ensures) (c .difference .ensures)
+    (c .before .accesses .ensures) (c .difference .ensures)
 
 returns : tie.Need-returns
 returns c = omega (arith, gives (c .before))
@@ -54,7 +54,7 @@ run-of-spec =
     run-limit-requires
     place-of-requires
     sub-start
-    access-count-requires
+    accesses-requires
     cast-difference
     difference-requires
     cast-if1

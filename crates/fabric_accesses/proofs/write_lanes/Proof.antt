@@ -29,8 +29,8 @@ module _ (ma : Master) (sl : Slave) (t : Transfer) (a bytes at to : ℕ) (w : In
       ap (λ (x : ℕ). bitAnd (t .lanes / 2 ^ from) x * 2 ^ to % 4294967296) m
       ∙ field-of (t .lanes / 2 ^ from) bytes to 32 (omega (arith, fits)) ∙ rw (d, f, b, u, o)
 
-access-width-requires : tie.Need-access-width-requires
-access-width-requires c κs = tt
+access-bytes-requires : tie.Need-access-bytes-requires
+access-bytes-requires c κs = tt
 
 first-byte-requires : tie.Need-first-byte-requires
 first-byte-requires c κs = tt
@@ -45,10 +45,10 @@ over-width-requires-2 : tie.Need-over-width-requires-2
 over-width-requires-2 c κs = c .before .before .before .before .pre .0 .slave
 
 room : (c : tie.After-over-width2)
-    → c .before .before .before .before .access-width .result + c .over-width2 .result ≤ 8
+    → c .before .before .before .before .access-bytes .result + c .over-width2 .result ≤ 8
 room c =
     let offset = c .before .before in
-    fits _ _ _ _ _ _ _ (offset .before .before .before .pre .1) (offset .before .before .access-width .ensures)
+    fits _ _ _ _ _ _ _ (offset .before .before .before .pre .1) (offset .before .before .access-bytes .ensures)
     (offset .access-offset .ensures) (c .over-width2 .ensures)
 
 all-lanes-requires : tie.Need-all-lanes-requires
@@ -77,7 +77,7 @@ returns : tie.Need-returns
 returns c =
     let second = c .before .before in
     let offset = second .before .before in
-    part _ _ _ _ _ _ _ (offset .before .before .before .pre .1) (offset .before .before .access-width .ensures)
+    part _ _ _ _ _ _ _ (offset .before .before .before .pre .1) (offset .before .before .access-bytes .ensures)
     (offset .access-offset .ensures) (second .over-width2 .ensures) _ _ _ (offset .before .first-byte .ensures)
     (second .before .over-width .ensures) (c .before .all-lanes .ensures)
 
@@ -85,7 +85,7 @@ pub write-lanes-spec : {M : Type 1} → statement M
 write-lanes-spec =
     tie.close
     (tie.spec
-    access-width-requires
+    access-bytes-requires
     first-byte-requires
     access-offset-requires
     over-width-requires

@@ -43,7 +43,7 @@ use Rattle.fabric_arbiter.specs.declared.Arbiter.{Arbiter}
 use Rattle.fabric_arbiter.specs.declared.Grant.{Grant}
 use Rattle.fabric_arbiter.specs.declared.Winner.{Winner}
 use Rattle.fabric_arbiter.specs.Granting.{arbiterAfter}
-use Rattle.fabric_arbiter.specs.Winning.{grantBy}
+use Rattle.fabric_arbiter.specs.Code.Winning.{grantBy}
 use Rattle.fabric_arbiter.proofs.Arbiter as R
 use Rattle.fabric_arbiter.proofs.Arbiter.Laws as R′
 use Rattle.fabric_arbiter.proofs.Winner as N
@@ -54,10 +54,10 @@ use Rattle.fabric_arbiter.proofs.grant_by as grant-by
 use Rattle.fabric_arbiter.proofs.grant_by.Symbol as grant-by-def
 use Rattle.fabric_arbiter.proofs.grant_by.Symbol.{name as #grant-by}
 use Rattle.fabric_arbiter.proofs.grant_by.Met as grant-by-thm
-use Rattle.fabric_arbiter.proofs.record_after as record-after
-use Rattle.fabric_arbiter.proofs.record_after.Symbol as record-after-def
-use Rattle.fabric_arbiter.proofs.record_after.Symbol.{name as #record-after}
-use Rattle.fabric_arbiter.proofs.record_after.Met as record-after-thm
+use Rattle.fabric_arbiter.proofs.arbiter_after as arbiter-after
+use Rattle.fabric_arbiter.proofs.arbiter_after.Symbol as arbiter-after-def
+use Rattle.fabric_arbiter.proofs.arbiter_after.Symbol.{name as #arbiter-after}
+use Rattle.fabric_arbiter.proofs.arbiter_after.Met as arbiter-after-thm
 use Rattle.fabric_arbiter.proofs.arbitrate_record.Key.{name as #arbitrate-record}
 use Rattle.fabric_arbiter.proofs.arbitrate_record as f
 use Rattle.fabric_arbiter.proofs.arbitrate_record.Statement as stated
@@ -78,7 +78,7 @@ module _ {M : Type 1} (𝓤 : URA M) (H : Heap 𝓤) (A : Atoms 𝓤) (at-mem : 
   GrantBy = tripleOf 𝓤 H A grant-by.signature (grant-by.spec 𝓤 H A at-mem run)
 
   abbrev RecordAfter : Contract 𝓤
-  RecordAfter = tripleOf 𝓤 H A record-after.signature (record-after.spec 𝓤 H A at-mem run)
+  RecordAfter = tripleOf 𝓤 H A arbiter-after.signature (arbiter-after.spec 𝓤 H A at-mem run)
 
   -- of each callee's `ensured`, the clause alone: neither has a `&mut`, so what is said of last values is dropped
   granted-of : (h : Arbiter) (n : Winner) (shares beats : ℕ) (g : Grant)
@@ -86,8 +86,8 @@ module _ {M : Type 1} (𝓤 : URA M) (H : Heap 𝓤) (A : Atoms 𝓤) (at-mem : 
   granted-of h n shares beats g = exE 𝓤 _ (λ ws. snd∗ 𝓤 (sem 𝓤 H A (lasts grant-by.ended tt (h, (n, (shares, (beats, tt)))) ws)) (fact 𝓤 (g ≡ grantBy h n shares beats)))
 
   after-of : (h : Arbiter) (g : Grant) (r : Arbiter)
-      → ent 𝓤 (ensured 𝓤 H A record-after.ended (record-after.clauses 𝓤 H A at-mem run) tt (h, (g, tt)) tt r) (fact 𝓤 (r ≡ arbiterAfter h g))
-  after-of h g r = exE 𝓤 _ (λ ws. snd∗ 𝓤 (sem 𝓤 H A (lasts record-after.ended tt (h, (g, tt)) ws)) (fact 𝓤 (r ≡ arbiterAfter h g)))
+      → ent 𝓤 (ensured 𝓤 H A arbiter-after.ended (arbiter-after.clauses 𝓤 H A at-mem run) tt (h, (g, tt)) tt r) (fact 𝓤 (r ≡ arbiterAfter h g))
+  after-of h g r = exE 𝓤 _ (λ ws. snd∗ 𝓤 (sem 𝓤 H A (lasts arbiter-after.ended tt (h, (g, tt)) ws)) (fact 𝓤 (r ≡ arbiterAfter h g)))
 
 module _ {M : Type 1} (𝓤 : URA M) (H : Heap 𝓤) (A : Atoms 𝓤) (W : Given 𝓤 H A) (at-mem : Memory → SProp 𝓤) (run : Routine → Fun 𝓤) (κ : Lft) (q : Share) (b o : ℕ) (γ : GName) (h : Arbiter) (n : Winner) (shares beats : ℕ) where
   abbrev x : RefT Arbiter × (Winner × (ℕ × (ℕ × Unit {0})))
@@ -154,7 +154,7 @@ module _ {M : Type 1} (𝓤 : URA M) (H : Heap 𝓤) (A : Atoms 𝓤) (W : Given
   grant-law = EL.lawful G.the-type G′.the-laws 𝓤 H A W tt
 
   module _ (is-n : Is N.the-row n (won ∷ [])) (is-shares : Is u32 shares (vint w32 shares ∷ [])) (is-beats : Is u32 beats (vint w32 beats ∷ []))
-      (C : Calls 𝓤 H) (Λ : Loops 𝓤 H) (fm : FmC 𝓤 H (W .laws) C) (grants-by : Triple 𝓤 (C #grant-by) (GrantBy 𝓤 H A at-mem run)) (records-after : Triple 𝓤 (C #record-after) (RecordAfter 𝓤 H A at-mem run)) where
+      (C : Calls 𝓤 H) (Λ : Loops 𝓤 H) (fm : FmC 𝓤 H (W .laws) C) (grants-by : Triple 𝓤 (C #grant-by) (GrantBy 𝓤 H A at-mem run)) (records-after : Triple 𝓤 (C #arbiter-after) (RecordAfter 𝓤 H A at-mem run)) where
     walk : ent 𝓤 (onEntry 𝓤 H A f.signature (κ, tt) (q, tt) x at) (WpFn 𝓤 H C Λ code.function (vptr b o ∷ won ∷ vint w32 shares ∷ vint w32 beats ∷ []) Post)
     walk =
         qed W ((‵ (flft κ q) ⊛ ‵ ftrue) ∷ ‵ (owns (MutRef (named 0) κ R.the-row ∷ N.the-row ∷ u32 ∷ u32 ∷ []) x at) ∷ []) ∵ split ! $ move ! (2 ∷ []) $ fsplit ! $ fsplit3 ! $ keep ! (1 ∷ 2 ∷ 4 ∷ []) $
@@ -177,7 +177,7 @@ module _ {M : Type 1} (𝓤 : URA M) (H : Heap 𝓤) (A : Atoms 𝓤) (W : Given
         nothing ! $ owned ! G.the-row (Is G.the-row) grants g _ is-g $ fjoin ! $ owned ! R.the-row (Is R.the-row) records h _ is $ fjoin ! $ nothing ! $
         use2 W (raw (RecordAfter 𝓤 H A at-mem run .pre (to-record g v))) (goes-record g v) $
         calls-at ! fm (RecordAfter 𝓤 H A at-mem run) records-after (to-record g v) (and-then ! (load ! (from ! (stop !)) (look ! 11 refl)) (and-then ! (load ! (from ! (stop !)) (look ! 9 refl)) (no-more !))) (λ w.
-        use1 W (later (some (λ (r : Arbiter). (‵ ftrue ⊛ ‵ (R.the-row .own r (w ∷ []))) ⊛ raw (ensured 𝓤 H A record-after.ended (record-after.clauses 𝓤 H A at-mem run) tt (h, (g, tt)) tt r)))) (id⊢ 𝓤 _) $ await ! tt $ pick ! (λ r.
+        use1 W (later (some (λ (r : Arbiter). (‵ ftrue ⊛ ‵ (R.the-row .own r (w ∷ []))) ⊛ raw (ensured 𝓤 H A arbiter-after.ended (arbiter-after.clauses 𝓤 H A at-mem run) tt (h, (g, tt)) tt r)))) (id⊢ 𝓤 _) $ await ! tt $ pick ! (λ r.
         split ! $ move ! (1 ∷ []) $ use1 W (raw (fact 𝓤 (r ≡ arbiterAfter h g))) (after-of 𝓤 H A at-mem run h g r) $ heard ! (r ≡ arbiterAfter h g) (λ e₂. split ! $ drop ! $
         peeks ! R.the-row (Is R.the-row) (shows 𝓤 H A R.the-row) r (w ∷ []) (λ made.
         land ! (from ! (stop !)) (init ! 7 refl (record-law .typed r _ made .0)) $
@@ -190,7 +190,7 @@ module _ {M : Type 1} (𝓤 : URA M) (H : Heap 𝓤) (A : Atoms 𝓤) (W : Given
         keep ! (0 ∷ 1 ∷ 2 ∷ 3 ∷ []) $ by ! (exits g v r e₁ (e₂ ∙ ap (arbiterAfter h) e₁))))))))))))))))))))
 
 module _ {M : Type 1} (𝓤 : URA M) (H : Heap 𝓤) (A : Atoms 𝓤) (W : Given 𝓤 H A) (at-mem : Memory → SProp 𝓤) (run : Routine → Fun 𝓤) where
-  walks : (C : Calls 𝓤 H) (Λ : Loops 𝓤 H) → FmC 𝓤 H (W .laws) C → Triple 𝓤 (C #grant-by) (GrantBy 𝓤 H A at-mem run) → Triple 𝓤 (C #record-after) (RecordAfter 𝓤 H A at-mem run)
+  walks : (C : Calls 𝓤 H) (Λ : Loops 𝓤 H) → FmC 𝓤 H (W .laws) C → Triple 𝓤 (C #grant-by) (GrantBy 𝓤 H A at-mem run) → Triple 𝓤 (C #arbiter-after) (RecordAfter 𝓤 H A at-mem run)
       → Walks 𝓤 H A f.ended stayed (WpFn 𝓤 H C Λ code.function) (f.clauses 𝓤 H A at-mem run)
   walks C Λ fm grants-by records-after = walked 𝓤 H A f.ended stayed (f.clauses 𝓤 H A at-mem run) (WpFn 𝓤 H C Λ code.function)
       (λ κs. (ptr-vals, ((λ d. N′.lowered d ∷ []), (uint-vals w32, (uint-vals w32, tt)))))
@@ -202,7 +202,7 @@ module _ {M : Type 1} (𝓤 : URA M) (H : Heap 𝓤) (A : Atoms 𝓤) (W : Given
   goes = (goes-ref 𝓤 H A W 1 0 tt (plain (λ _. R.the-row)), (goes-dropped 𝓤 H A W 1 winner-slot yes (λ κs y k. refl), (goes-dropped 𝓤 H A W 1 number-slot yes (λ κs y k. refl), (goes-dropped 𝓤 H A W 1 number-slot yes (λ κs y k. refl), tt))))
 
 meets : {M : Type 1} (𝓤 : URA M) (H : Heap 𝓤) (A : Atoms 𝓤) (W : Given 𝓤 H A) (at-mem : Memory → SProp 𝓤) (run : Routine → Fun 𝓤) (𝓣 : Tables 𝓤 H)
-    → Triple 𝓤 (𝓣 .C #grant-by) (GrantBy 𝓤 H A at-mem run) → Triple 𝓤 (𝓣 .C #record-after) (RecordAfter 𝓤 H A at-mem run)
+    → Triple 𝓤 (𝓣 .C #grant-by) (GrantBy 𝓤 H A at-mem run) → Triple 𝓤 (𝓣 .C #arbiter-after) (RecordAfter 𝓤 H A at-mem run)
     → Meets 𝓤 H A f.signature (WpFn 𝓤 H (𝓣 .C) (𝓣 .Λ) code.function) (f.spec 𝓤 H A at-mem run)
 meets 𝓤 H A W at-mem run 𝓣 grants-by records-after = walk-meets 𝓤 H A f.ended stayed W (goes 𝓤 H A W at-mem run) (f.clauses 𝓤 H A at-mem run) (WpFn 𝓤 H (𝓣 .C) (𝓣 .Λ) code.function) (WpFn-mono 𝓤 H (W .laws) 𝓣 code.function)
     (walks 𝓤 H A W at-mem run (𝓣 .C) (𝓣 .Λ) (fmOf 𝓤 H (W .laws) 𝓣) grants-by records-after)
@@ -214,4 +214,4 @@ arbitrate-record-spec 𝓤 H 𝓜 𝓖 𝓡 =
     (tables 𝓤 H 𝓜 𝓡 code.env .C) (tables 𝓤 H 𝓜 𝓡 code.env .Λ) #arbitrate-record code.function (code.unfolded 𝓤 H 𝓜 𝓡)
     (meets 𝓤 H (𝓖 .A) (givenOf 𝓤 H 𝓜 𝓖) (𝓜 .mem) (𝓡 .run) (tablesOf 𝓤 H 𝓜 (tables 𝓤 H 𝓜 𝓡 code.env))
     (cited 𝓤 H (GrantBy 𝓤 H (𝓖 .A) (𝓜 .mem) (𝓡 .run)) 𝓜 𝓡 code.env #grant-by grant-by-def.routine code.calls-fabric-arbiter·grant-by (grant-by-thm.met 𝓤 H 𝓜 𝓖 𝓡))
-    (cited 𝓤 H (RecordAfter 𝓤 H (𝓖 .A) (𝓜 .mem) (𝓡 .run)) 𝓜 𝓡 code.env #record-after record-after-def.routine code.calls-fabric-arbiter·record-after (record-after-thm.met 𝓤 H 𝓜 𝓖 𝓡)))
+    (cited 𝓤 H (RecordAfter 𝓤 H (𝓖 .A) (𝓜 .mem) (𝓡 .run)) 𝓜 𝓡 code.env #arbiter-after arbiter-after-def.routine code.calls-fabric-arbiter·arbiter-after (arbiter-after-thm.met 𝓤 H 𝓜 𝓖 𝓡)))

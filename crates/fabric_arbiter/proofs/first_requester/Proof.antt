@@ -1,5 +1,5 @@
 use Rattle.fabric_arbiter.proofs.ChoiceLaws.{tried-none, turn-on, turn-found}
-use Rattle.fabric_arbiter.specs.Choosing.{above, tried, chosen}
+use Rattle.fabric_arbiter.specs.Choosing.{nextMaster, tried, firstRequester}
 use Rattle.common_laws.specs.Bits.{bit}
 use mathlib.Core.Path.{_≡_, refl, sym, _∙_}
 use borrow.Author.Needs.{needs}
@@ -7,7 +7,7 @@ use Rattle.fabric_arbiter.proofs.first_requester.Statement.{statement}
 use Rattle.fabric_arbiter.proofs.first_requester.Tie as tie
 
 abbrev Inv-loop : tie.InvT-loop
-Inv-loop requests n owner m₀ left₀ m left = tried (bit requests) n (above n owner) n ≡ tried (bit requests) n (above n m) left
+Inv-loop requests n owner m₀ left₀ m left = tried (bit requests) n (nextMaster n owner) n ≡ tried (bit requests) n (nextMaster n m) left
 
 abbrev μ-loop : tie.MeasureT-loop
 μ-loop requests n owner m₀ left₀ m left = left
@@ -40,12 +40,12 @@ loop-again c = let a = c .before .before in
 
 -- src/lib.rt:49:1
 returns : tie.Need-returns Inv-loop μ-loop
-unfolding chosen
+unfolding firstRequester
 returns c = sym (c .before .loop .inv ∙ tried-none _ _ _ _ (c .if1 .taken))
 
 -- src/lib.rt:49:1
 returns-2 : tie.Need-returns-2 Inv-loop μ-loop
-unfolding chosen
+unfolding firstRequester
 returns-2 c = let a = c .before .before in
     turn-found _ _ _ _ _ _ (a .before .before .loop .inv) (a .before .if1 .left) (a .next-master .ensures)
     (sym (c .before .is-requesting .ensures) ∙ c .if2 .taken)

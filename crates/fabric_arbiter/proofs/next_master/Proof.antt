@@ -1,4 +1,4 @@
-use Rattle.fabric_arbiter.specs.Choosing.{above}
+use Rattle.fabric_arbiter.specs.Choosing.{nextMaster}
 use borrow.Author.Tests.{lt-ltb, le-ltb}
 use native.Mathlib.Omega.{arith}
 use Prim.Native.Nat.{_+_}
@@ -8,7 +8,7 @@ use Rattle.fabric_arbiter.proofs.next_master.Tie as tie
 
 -- src/lib.rt:42:9
 returns : tie.Need-returns
-unfolding above
+unfolding nextMaster
 returns c = rw (le-ltb (c .before .args .m + 1) (c .before .args .n) (omega arith))
 
 -- src/lib.rt:44:14
@@ -17,12 +17,12 @@ add-up c = search needs
 
 -- src/lib.rt:38:1
 returns-2 : tie.Need-returns-2
-unfolding above
+unfolding nextMaster
 returns-2 c = rw (lt-ltb _ _ (c .if2 .taken))
 
 -- src/lib.rt:38:1
 returns-3 : tie.Need-returns-3
-unfolding above
+unfolding nextMaster
 returns-3 c = rw (le-ltb _ _ (c .if2 .left))
 
 pub next-master-spec : {M : Type 1} → statement M

@@ -20,8 +20,8 @@ add-place c = omega (arith, place-fits _ _ _ _ _ _ _ refl refl (c .before .befor
 first-byte-requires : tie.Need-first-byte-requires
 first-byte-requires c κs = search needs
 
-access-width-requires : tie.Need-access-width-requires
-access-width-requires c κs = search needs
+access-bytes-requires : tie.Need-access-bytes-requires
+access-bytes-requires c κs = search needs
 
 cast-count : tie.Need-cast-count
 cast-count c = search needs
@@ -29,7 +29,7 @@ cast-count c = search needs
 write-access-requires : tie.Need-write-access-requires
 write-access-requires c κs =
     let call = c .before .before .before .before in
-    writes _ _ _ _ _ _ _ (call .first-byte .ensures) (c .before .before .before .access-width .ensures)
+    writes _ _ _ _ _ _ _ (call .first-byte .ensures) (c .before .before .before .access-bytes .ensures)
     (call .before .before .before .before .before .pre)
 
 same-length : tie.Need-same-length
@@ -41,13 +41,13 @@ same-length-2 c = search needs
 returns : tie.Need-returns
 returns c =
     let test = c .before .before .before .before .before in
-    write-done _ _ _ _ _ _ _ (test .before .before .first-byte .ensures) (test .before .access-width .ensures) (test .if1 .taken)
+    write-done _ _ _ _ _ _ _ (test .before .before .first-byte .ensures) (test .before .access-bytes .ensures) (test .if1 .taken)
     (c .before .before .write-access .ensures)
 
 read-access-requires : tie.Need-read-access-requires
 read-access-requires c κs =
     let call = c .before .before .before .before in
-    reads _ _ _ _ _ _ _ (call .first-byte .ensures) (c .before .before .before .access-width .ensures)
+    reads _ _ _ _ _ _ _ (call .first-byte .ensures) (c .before .before .before .access-bytes .ensures)
     (call .before .before .before .before .before .pre)
 
 same-length-3 : tie.Need-same-length-3
@@ -59,7 +59,7 @@ same-length-4 c = search needs
 returns-2 : tie.Need-returns-2
 returns-2 c =
     let test = c .before .before .before .before .before in
-    read-done _ _ _ _ _ _ _ (test .before .before .first-byte .ensures) (test .before .access-width .ensures) (test .if1 .left)
+    read-done _ _ _ _ _ _ _ (test .before .before .first-byte .ensures) (test .before .access-bytes .ensures) (test .if1 .left)
     (c .before .before .read-access .ensures)
 
 pub carry-access-spec : {M : Type 1} → statement M
@@ -70,7 +70,7 @@ carry-access-spec =
     cast-place
     add-place
     first-byte-requires
-    access-width-requires
+    access-bytes-requires
     cast-count
     write-access-requires
     same-length

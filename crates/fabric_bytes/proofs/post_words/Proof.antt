@@ -8,7 +8,7 @@ use Prim.Native.Nat.{ℕ, _+_, _*_, _-_}
 use native.Mathlib.Omega.{arith}
 use lib.ListN.{length, take, drop}
 use Rattle.fabric_bytes.specs.Moving.{all}
-use Rattle.fabric_bytes.specs.Bytes.{posted}
+use Rattle.fabric_bytes.specs.Bytes.{postedWords}
 use Rattle.fabric_bytes.proofs.PartLaws.{move-back}
 use Rattle.fabric_bytes.proofs.post_words.Statement.{statement}
 use Rattle.fabric_bytes.proofs.post_words.Tie as tie
@@ -35,7 +35,7 @@ same-length : tie.Need-same-length
 same-length c = search needs
 
 returns : tie.Need-returns
-unfolding posted
+unfolding postedWords
 returns c =
     let s = c .before .before .before .before .before .before in
     let d = now (s .args .buffer) in

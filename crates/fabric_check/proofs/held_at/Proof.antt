@@ -21,8 +21,8 @@ cast-if2 c = search needs
 abbrev starting : tie.Then2 → tie.Start
 starting c = c .before .before .before .before
 
-target-requires : tie.Need-target-requires
-target-requires c κs = let start = starting c in (decodes _ (start .pre .0), start .pre .1)
+target-of-requires : tie.Need-target-of-requires
+target-of-requires c κs = let start = starting c in (decodes _ (start .pre .0), start .pre .1)
 
 mul-targets : tie.Need-mul-targets
 mul-targets c = search needs
@@ -39,8 +39,8 @@ slave-at-requires c κs = search needs
 master-at-requires : tie.Need-master-at-requires
 master-at-requires c κs = search needs
 
-transfer-refusal-requires : tie.Need-transfer-refusal-requires
-transfer-refusal-requires c κs =
+transfer-refusal-by-requires : tie.Need-transfer-refusal-by-requires
+transfer-refusal-by-requires c κs =
     let ours = c .before .before .before in
     legal-width _ (starting ours .pre .0) _ (ours .before .master-count .ensures) (ours .if2 .taken) (c .master-at .ensures)
 
@@ -51,9 +51,9 @@ returns c =
     let start = starting ours in
     let count = ours .before .before .before .slave-count .ensures in
     held-ours _ _ _ _ (ours .before .before .if1 .taken) (ours .before .master-count .ensures) (ours .if2 .taken)
-    (found .target .ensures)
-    (c .transfer-refusal .ensures
-    ∙ refusal-parts _ (start .pre .0) _ _ _ (found .target .ensures) (c .before .master-at .ensures)
+    (found .target-of .ensures)
+    (c .transfer-refusal-by .ensures
+    ∙ refusal-parts _ (start .pre .0) _ _ _ (found .target-of .ensures) (c .before .master-at .ensures)
     (c .before .before .slave-at .ensures) count)
 
 returns-2 : tie.Need-returns-2
@@ -76,13 +76,13 @@ held-at-spec =
     slave-count-requires
     master-count-requires
     cast-if2
-    target-requires
+    target-of-requires
     mul-targets
     element-write-targets
     cast-slave-at
     slave-at-requires
     master-at-requires
-    transfer-refusal-requires
+    transfer-refusal-by-requires
     returns
     returns-2
     mul-targets-2

@@ -10,7 +10,7 @@ use Rattle.fabric_state.specs.declared.State.{State}
 use Rattle.description_layout.specs.Layout.{boardIn}
 use Rattle.fabric_layout.specs.Layout.{stateIn, linesIn}
 use Rattle.fabric_layout.proofs.StateLaws.{transfers-length, slots-length, lines-length}
-use Rattle.fabric_check.specs.Targets.{targetsIn, requestMask}
+use Rattle.fabric_check.specs.Code.Targets.{targetsIn, requestMask}
 use Rattle.fabric_check.proofs.TargetLaws.{mask-at}
 use Rattle.fabric_cycle.proofs.PassLaws.{Pass, runs-legal, pass-begin, pass-ready, pass-fits, start-fits, pass-next, pass-end}
 use Rattle.fabric_cycle.proofs.cycle.Statement.{statement}
@@ -110,8 +110,8 @@ loop-again c = let t = turned c in
     pass-next _ _ (transfers-length _) (slots-length _) (start a .pre .0) _ (slave-in a) _ _ (a .before .loop .inv) _ (mask-is a)
     _ (t .turn .ensures) (c .before .slave-at .ensures) (k .0) (k .1 .0)
 
-clear-lines-requires : tie.Need-clear-lines-requires Inv-loop μ-loop
-clear-lines-requires c κs = search needs
+first-lines-requires : tie.Need-first-lines-requires Inv-loop μ-loop
+first-lines-requires c κs = search needs
 
 same-length : tie.Need-same-length Inv-loop μ-loop
 same-length c = c .before .before .before .loop .inv .memory
@@ -124,7 +124,7 @@ returns c = let a = c .before .before .before in
     let n = a .before .slave-count .ensures in
     let b = boardIn (a .before .before .before .before .args .board .now) in
     let e : a .loop .s ≡ b .«slave_count» = omega (arith, n, c .before .before .loop-test .left, a .loop .inv .within) in
-    pass-end _ _ _ _ _ _ _ _ _ _ (a .loop .inv) e n (c .clear-lines .ensures)
+    pass-end _ _ _ _ _ _ _ _ _ _ (a .loop .inv) e n (c .first-lines .ensures)
 
 pub cycle-spec : {M : Type 1} → statement M
 cycle-spec =
@@ -145,7 +145,7 @@ cycle-spec =
     add-s
     loop-less
     loop-again
-    clear-lines-requires
+    first-lines-requires
     same-length
     same-length-2
     returns)

@@ -1,8 +1,8 @@
--- `cycles::end_transfer` meets its contract: a transfer ended, or kept.
+-- `cycles::end_transfer` meets its contract: a transfer endedTransfer, or kept.
 -- Assumes nothing.
 use mathlib.Core.Path.{_∙_}
 use borrow.Author.Needs.{needs}
-use Rattle.fabric_cycle.specs.Turns.{ended}
+use Rattle.fabric_cycle.specs.Code.Turns.{endedTransfer}
 use Rattle.fabric_cycle.proofs.end_transfer.Statement.{statement}
 use Rattle.fabric_cycle.proofs.end_transfer.Tie as tie
 
@@ -10,11 +10,11 @@ put-transfer-requires : tie.Need-put-transfer-requires
 put-transfer-requires c κs = search needs
 
 returns : tie.Need-returns
-unfolding ended
+unfolding endedTransfer
 returns c = c .put-transfer .ensures ∙ rw (c .before .before .if1 .taken)
 
 returns-2 : tie.Need-returns-2
-unfolding ended
+unfolding endedTransfer
 returns-2 c = rw (c .if1 .left)
 
 pub end-transfer-spec : {M : Type 1} → statement M

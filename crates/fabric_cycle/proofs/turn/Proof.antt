@@ -5,13 +5,13 @@ use borrow.Author.Needs.{needs}
 use Rattle.fabric_cycle.proofs.turn.Statement.{statement}
 use Rattle.fabric_cycle.proofs.turn.Tie as tie
 
-grant-at-requires : tie.Need-grant-at-requires
-grant-at-requires c κs = let o = c .before .before .before in (o .pre .slave, o .pre .small)
+slot-asked-requires : tie.Need-slot-asked-requires
+slot-asked-requires c κs = let o = c .before .before .before in (o .pre .slave, o .pre .small)
 
 serve-at-requires : tie.Need-serve-at-requires
 serve-at-requires c κs = let a = c .before .before .before .before in
     let g = a .before in
-    serving-as _ _ _ _ (g .grant-at .ensures) _ (g .before .before .before .before .pre .serves) (a .if1 .taken)
+    serving-as _ _ _ _ (g .slot-asked .ensures) _ (g .before .before .before .before .pre .serves) (a .if1 .taken)
 
 same-length : tie.Need-same-length
 same-length c = search needs
@@ -21,7 +21,7 @@ same-length-2 c = search needs
 
 returns : tie.Need-returns
 returns c = let a = c .before .before .before .before in
-    turned-as _ _ _ _ (a .before .before .before .before .before .before .grant-at .ensures) _ _ _ _ _ _ (a .serve-at .ensures)
+    turned-as _ _ _ _ (a .before .before .before .before .before .before .slot-asked .ensures) _ _ _ _ _ _ (a .serve-at .ensures)
 
 put-slot-requires : tie.Need-put-slot-requires
 put-slot-requires c κs = search needs
@@ -31,14 +31,14 @@ put-line-requires c κs = search needs
 
 returns-2 : tie.Need-returns-2
 returns-2 c = let a = c .before .before .before .before in
-    turned-as _ _ _ _ (a .before .grant-at .ensures) _ _ _ _ _ _
+    turned-as _ _ _ _ (a .before .slot-asked .ensures) _ _ _ _ _ _
     (turned-resting _ _ _ _ _ _ _ _ _ (a .if1 .left) (c .before .before .put-slot .ensures) (c .put-line .ensures))
 
 pub turn-spec : {M : Type 1} → statement M
 turn-spec =
     tie.close
     (tie.spec
-    grant-at-requires
+    slot-asked-requires
     serve-at-requires
     same-length
     same-length-2

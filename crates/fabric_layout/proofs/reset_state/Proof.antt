@@ -27,8 +27,8 @@ clear-transfers-requires c κs = search needs
 loop-holds : tie.Need-loop-holds Inv-loop μ-loop
 loop-holds c = (omega arith, c .clear-transfers .ensures, slots-begin _ _)
 
-slot-at-reset-requires : tie.Need-slot-at-reset-requires Inv-loop μ-loop
-slot-at-reset-requires c κs = search needs
+reset-slot-requires : tie.Need-reset-slot-requires Inv-loop μ-loop
+reset-slot-requires c κs = search needs
 
 put-slot-requires : tie.Need-put-slot-requires Inv-loop μ-loop
 put-slot-requires c κs = search needs
@@ -44,7 +44,7 @@ loop-again c = (
   omega arith,
   transfers-left _ _ _ _ (c .put-slot .ensures) ∙ c .before .before .before .before .loop .inv .1,
   slots-put _ _ _ _ (c .put-slot .ensures)
-      ∙ filled-next _ _ 16 _ (c .before .before .before .before .loop .inv .2) (c .before .slot-at-reset .ensures),
+      ∙ filled-next _ _ 16 _ (c .before .before .before .before .loop .inv .2) (c .before .reset-slot .ensures),
 )
 
 returns : tie.Need-returns Inv-loop μ-loop
@@ -58,7 +58,7 @@ reset-state-spec =
     μ-loop
     clear-transfers-requires
     loop-holds
-    slot-at-reset-requires
+    reset-slot-requires
     put-slot-requires
     add-s
     loop-less

@@ -71,14 +71,14 @@ next c t e =
 loop-holds : tie.Need-loop-holds Inv-loop μ-loop
 loop-holds c = (refl, reached-none _)
 
-outcome-requires : tie.Need-outcome-requires Inv-loop μ-loop
-outcome-requires c κs = search needs
+outcome-of-requires : tie.Need-outcome-of-requires Inv-loop μ-loop
+outcome-of-requires c κs = search needs
 
 same-length : tie.Need-same-length Inv-loop μ-loop
 same-length c = search needs
 
 returns : tie.Need-returns Inv-loop μ-loop
-returns c = over-spent _ _ _ _ (c .before .before .before .loop .inv .1) (c .before .if1 .taken) (c .outcome .ensures)
+returns c = over-spent _ _ _ _ (c .before .before .before .loop .inv .1) (c .before .if1 .taken) (c .outcome-of .ensures)
 
 sub-reads : tie.Need-sub-reads Inv-loop μ-loop
 sub-reads c = search needs
@@ -110,14 +110,14 @@ loop-again c = let d = c .before .before .before in (kept d ∙ top d .loop .inv
 enum-told : tie.Need-enum-told Inv-loop μ-loop
 enum-told c = search needs
 
-outcome-requires-2 : tie.Need-outcome-requires-2 Inv-loop μ-loop
-outcome-requires-2 c κs = search needs
+outcome-of-requires-2 : tie.Need-outcome-of-requires-2 Inv-loop μ-loop
+outcome-of-requires-2 c κs = search needs
 
 same-length-2 : tie.Need-same-length-2 Inv-loop μ-loop
 same-length-2 c = search needs
 
 returns-2 : tie.Need-returns-2 Inv-loop μ-loop
-returns-2 c = over-ended _ _ _ _ (next (c .before .before .before) _ (c .before .enum-told .given .1)) (c .outcome2 .ensures)
+returns-2 c = over-ended _ _ _ _ (next (c .before .before .before) _ (c .before .enum-told .given .1)) (c .outcome-of2 .ensures)
 
 enum-told-2 : tie.Need-enum-told-2 Inv-loop μ-loop
 enum-told-2 c = search needs
@@ -143,23 +143,23 @@ loop-again-3 c = let d = c .before .before .before in (kept d ∙ top d .loop .i
 enum-told-4 : tie.Need-enum-told-4 Inv-loop μ-loop
 enum-told-4 c = search needs
 
-outcome-requires-3 : tie.Need-outcome-requires-3 Inv-loop μ-loop
-outcome-requires-3 c κs = search needs
+outcome-of-requires-3 : tie.Need-outcome-of-requires-3 Inv-loop μ-loop
+outcome-of-requires-3 c κs = search needs
 
 same-length-3 : tie.Need-same-length-3 Inv-loop μ-loop
 same-length-3 c = search needs
 
 returns-3 : tie.Need-returns-3 Inv-loop μ-loop
-returns-3 c = over-failed _ _ _ _ (next (c .before .before .before) _ (c .before .enum-told4 .given .1)) (c .outcome3 .ensures)
+returns-3 c = over-failed _ _ _ _ (next (c .before .before .before) _ (c .before .enum-told4 .given .1)) (c .outcome-of3 .ensures)
 
-outcome-requires-4 : tie.Need-outcome-requires-4 Inv-loop μ-loop
-outcome-requires-4 c κs = search needs
+outcome-of-requires-4 : tie.Need-outcome-of-requires-4 Inv-loop μ-loop
+outcome-of-requires-4 c κs = search needs
 
 same-length-4 : tie.Need-same-length-4 Inv-loop μ-loop
 same-length-4 c = search needs
 
 returns-4 : tie.Need-returns-4 Inv-loop μ-loop
-returns-4 c = over-full _ _ _ _ (c .before .before .loop .inv .1) (omega arith) (c .outcome4 .ensures)
+returns-4 c = over-full _ _ _ _ (c .before .before .loop .inv .1) (omega arith) (c .outcome-of4 .ensures)
 
 pub read-all-spec : {M : Type 1} → statement M
 read-all-spec =
@@ -168,7 +168,7 @@ read-all-spec =
     Inv-loop
     μ-loop
     loop-holds
-    outcome-requires
+    outcome-of-requires
     same-length
     returns
     sub-reads
@@ -181,7 +181,7 @@ read-all-spec =
     loop-less
     loop-again
     enum-told
-    outcome-requires-2
+    outcome-of-requires-2
     same-length-2
     returns-2
     enum-told-2
@@ -192,9 +192,9 @@ read-all-spec =
     loop-less-3
     loop-again-3
     enum-told-4
-    outcome-requires-3
+    outcome-of-requires-3
     same-length-3
     returns-3
-    outcome-requires-4
+    outcome-of-requires-4
     same-length-4
     returns-4)

@@ -31,11 +31,11 @@ slice-read-if2 c = search needs
 array-share-prefix-line : tie.Need-array-share-prefix-line Inv-loop μ-loop
 array-share-prefix-line c = search needs
 
-slice-aggregate-parse-number : tie.Need-slice-aggregate-parse-number Inv-loop μ-loop
-slice-aggregate-parse-number c = rw length-take (omega arith)
+slice-aggregate-number-of : tie.Need-slice-aggregate-number-of Inv-loop μ-loop
+slice-aggregate-number-of c = rw length-take (omega arith)
 
-parse-number-requires : tie.Need-parse-number-requires Inv-loop μ-loop
-parse-number-requires c κs = search needs
+number-of-requires : tie.Need-number-of-requires Inv-loop μ-loop
+number-of-requires c κs = search needs
 
 same-length : tie.Need-same-length Inv-loop μ-loop
 same-length c = search needs
@@ -81,8 +81,8 @@ take-head-spec =
     add-input
     slice-read-if2
     array-share-prefix-line
-    slice-aggregate-parse-number
-    parse-number-requires
+    slice-aggregate-number-of
+    number-of-requires
     same-length
     returns
     slice-read-line

@@ -21,22 +21,22 @@ returns-2 c =
     pair-outside _ _ _ (omega (arith, known .if1 .left, known .before .master-count .ensures))
     (omega (arith, c .if2 .taken, c .before .slave-count .ensures))
 
-share-at-requires : tie.Need-share-at-requires
-share-at-requires c κs = search needs
+shares-at-requires : tie.Need-shares-at-requires
+shares-at-requires c κs = search needs
 
 returns-3 : tie.Need-returns-3
 returns-3 c =
     let inside = c .before .before in
     let known = inside .before .before in
     pair-apart _ _ _ (omega (arith, known .if1 .left, known .before .master-count .ensures))
-    (omega (arith, inside .if2 .left, inside .before .slave-count .ensures)) (c .before .share-at .ensures) (c .if3 .taken)
+    (omega (arith, inside .if2 .left, inside .before .slave-count .ensures)) (c .before .shares-at .ensures) (c .if3 .taken)
 
 returns-4 : tie.Need-returns-4
 returns-4 c =
     let inside = c .before .before in
     let known = inside .before .before in
     pair-found _ _ _ (omega (arith, known .if1 .left, known .before .master-count .ensures))
-    (omega (arith, inside .if2 .left, inside .before .slave-count .ensures)) (c .before .share-at .ensures) (c .if3 .left)
+    (omega (arith, inside .if2 .left, inside .before .slave-count .ensures)) (c .before .shares-at .ensures) (c .if3 .left)
 
 pub pair-refusal-spec : {M : Type 1} → statement M
 pair-refusal-spec =
@@ -46,6 +46,6 @@ pair-refusal-spec =
     returns
     slave-count-requires
     returns-2
-    share-at-requires
+    shares-at-requires
     returns-3
     returns-4)

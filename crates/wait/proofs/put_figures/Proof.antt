@@ -5,11 +5,11 @@ use Rattle.wait.proofs.AnswerLaws.{figures-put}
 use Rattle.wait.proofs.put_figures.Statement.{statement}
 use Rattle.wait.proofs.put_figures.Tie as tie
 
-low-first-requires : tie.Need-low-first-requires
-low-first-requires c κs = search needs
+bytes64-requires : tie.Need-bytes64-requires
+bytes64-requires c κs = search needs
 
-low-first-requires-2 : tie.Need-low-first-requires-2
-low-first-requires-2 c κs = search needs
+bytes64-requires-2 : tie.Need-bytes64-requires-2
+bytes64-requires-2 c κs = search needs
 
 slice-aggregate-put-bytes : tie.Need-slice-aggregate-put-bytes
 slice-aggregate-put-bytes c = search needs
@@ -31,14 +31,14 @@ returns c =
     let b = c .before .before in
     let a = b .before .before .before .before .before in
     let n = a .before .before .before in
-    figures-put _ _ (n .before .low-first .ensures) (n .low-first2 .ensures) (a .put-bytes .ensures) (b .put-bytes2 .ensures)
+    figures-put _ _ (n .before .bytes64 .ensures) (n .bytes642 .ensures) (a .put-bytes .ensures) (b .put-bytes2 .ensures)
 
 pub put-figures-spec : {M : Type 1} → statement M
 put-figures-spec =
     tie.close
     (tie.spec
-    low-first-requires
-    low-first-requires-2
+    bytes64-requires
+    bytes64-requires-2
     slice-aggregate-put-bytes
     put-bytes-requires
     slice-aggregate-put-bytes-2

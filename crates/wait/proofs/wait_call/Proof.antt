@@ -30,8 +30,8 @@ returns-3 c =
     wait-pair _ _ _ _ (x .number) (none .if1 .left) (x .board (none .if1 .left)) (room .if2 .left) (pair .pair-refusal .ensures)
     (c .if3 .taken)
 
-figures-requires : tie.Need-figures-requires
-figures-requires c κs =
+figures-of-requires : tie.Need-figures-of-requires
+figures-of-requires c κs =
     let taken = c .before in
     pair-of _ _ _ (pair-refusal-requires (taken .before .before) κs) (taken .before .pair-refusal .ensures) (taken .if3 .left)
 
@@ -51,7 +51,7 @@ returns-4 c =
     let none = room .before in
     let x = none .before .read .ensures in
     wait-taken _ _ _ _ (x .number) (none .if1 .left) (x .board (none .if1 .left)) (room .if2 .left) (pair .pair-refusal .ensures)
-    (taken .if3 .left) (figures .figures .ensures) (put .put-figures .ensures)
+    (taken .if3 .left) (figures .figures-of .ensures) (put .put-figures .ensures)
 
 pub wait-call-spec : {M : Type 1} → statement M
 wait-call-spec =
@@ -62,7 +62,7 @@ wait-call-spec =
     returns-2
     pair-refusal-requires
     returns-3
-    figures-requires
+    figures-of-requires
     put-figures-requires
     same-length
     returns-4)

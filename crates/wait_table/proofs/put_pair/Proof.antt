@@ -9,23 +9,23 @@ use Rattle.wait_table.proofs.LineLaws.{line-none, line-some}
 use Rattle.wait_table.proofs.put_pair.Statement.{statement}
 use Rattle.wait_table.proofs.put_pair.Tie as tie
 
-share-at-requires : tie.Need-share-at-requires
-share-at-requires c κs = search needs
+shares-at-requires : tie.Need-shares-at-requires
+shares-at-requires c κs = search needs
 
 returns : tie.Need-returns
 returns c =
     let share = c .before in
-    rw (line-none _ _ _ (share .before .before .pre .0) (share .share-at .ensures) (c .if1 .taken)) (put-none _ _)
+    rw (line-none _ _ _ (share .before .before .pre .0) (share .shares-at .ensures) (c .if1 .taken)) (put-none _ _)
 
-figures-requires : tie.Need-figures-requires
-figures-requires c κs = search needs
+figures-of-requires : tie.Need-figures-of-requires
+figures-of-requires c κs = search needs
 
 put-quote-requires : tie.Need-put-quote-requires
 put-quote-requires c κs =
     let q = c .before in
     let share = q .before .before in
     let start = share .before .before in
-    let e = line-some _ _ _ (start .pre .0) (share .share-at .ensures) (q .before .if1 .left) (q .figures .ensures) in
+    let e = line-some _ _ _ (start .pre .0) (share .shares-at .ensures) (q .before .if1 .left) (q .figures-of .ensures) in
     omega (arith, ap length e, start .pre .1)
 
 same-length : tie.Need-same-length
@@ -36,10 +36,10 @@ returns-2 c =
     let put = c .before .before in
     let q = put .before .before in
     let share = q .before .before in
-    rw (line-some _ _ _ (share .before .before .pre .0) (share .share-at .ensures) (q .before .if1 .left) (q .figures .ensures))
+    rw (line-some _ _ _ (share .before .before .pre .0) (share .shares-at .ensures) (q .before .if1 .left) (q .figures-of .ensures))
     (put .put-quote .ensures)
 
 pub put-pair-spec : {M : Type 1} → statement M
 put-pair-spec =
     tie.close
-    (tie.spec share-at-requires returns figures-requires put-quote-requires same-length returns-2)
+    (tie.spec shares-at-requires returns figures-of-requires put-quote-requires same-length returns-2)

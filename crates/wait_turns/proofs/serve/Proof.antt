@@ -16,17 +16,17 @@ most-beats-requires c κs = search needs
 cast-beats : tie.Need-cast-beats
 cast-beats c = search needs
 
-width-ratio-requires : tie.Need-width-ratio-requires
-width-ratio-requires c κs = search needs
+ratio-requires : tie.Need-ratio-requires
+ratio-requires c κs = search needs
 
 cast-each : tie.Need-cast-each
 cast-each c = search needs
 
 -- the accesses of the longest transfer
-count : (c : tie.After-width-ratio) → c .before .most-beats .result * c .width-ratio .result ≤ 64 * 8
+count : (c : tie.After-ratio) → c .before .most-beats .result * c .ratio .result ≤ 64 * 8
 count c =
     let start = c .before .before in
-    rw (c .before .most-beats .ensures, c .width-ratio .ensures)
+    rw (c .before .most-beats .ensures, c .ratio .ensures)
     (accesses-small (start .args .ma) (start .pre .master) (start .args .sl))
 
 mul-result : tie.Need-mul-result
@@ -34,14 +34,14 @@ mul-result c = omega (arith, count c)
 
 mul-result-2 : tie.Need-mul-result-2
 mul-result-2 c =
-    let n = c .before .most-beats .result * c .width-ratio .result in
+    let n = c .before .most-beats .result * c .ratio .result in
     omega (arith, product-le n (c .before .before .args .v) (64 * 8) 4294967296 (count c) (omega arith))
 
 returns : tie.Need-returns
 unfolding serve
 returns c =
     let v = c .before .before .args .v in
-    ap₂ (λ (x y : ℕ). x * y * v) (c .before .most-beats .ensures) (c .width-ratio .ensures)
+    ap₂ (λ (x y : ℕ). x * y * v) (c .before .most-beats .ensures) (c .ratio .ensures)
 
 pub serve-spec : {M : Type 1} → statement M
 serve-spec =
@@ -49,7 +49,7 @@ serve-spec =
     (tie.spec
     most-beats-requires
     cast-beats
-    width-ratio-requires
+    ratio-requires
     cast-each
     mul-result
     mul-result-2

@@ -15,17 +15,17 @@ returns : tie.Need-returns
 unfolding masterRefusal
 returns c = rw (← c .before .before .master-count .ensures, ← c .before .slave-count .ensures, c .if1 .taken)
 
-slice-aggregate-listed : tie.Need-slice-aggregate-listed
-slice-aggregate-listed c = search needs
+slice-aggregate-member : tie.Need-slice-aggregate-member
+slice-aggregate-member c = search needs
 
-listed-requires : tie.Need-listed-requires
-listed-requires c κs = search needs
+member-requires : tie.Need-member-requires
+member-requires c κs = search needs
 
-slice-aggregate-listed-2 : tie.Need-slice-aggregate-listed-2
-slice-aggregate-listed-2 c = search needs
+slice-aggregate-member-2 : tie.Need-slice-aggregate-member-2
+slice-aggregate-member-2 c = search needs
 
-listed-requires-2 : tie.Need-listed-requires-2
-listed-requires-2 c κs = search needs
+member-requires-2 : tie.Need-member-requires-2
+member-requires-2 c κs = search needs
 
 returns-2 : tie.Need-returns-2
 unfolding masterRefusal
@@ -33,8 +33,8 @@ returns-2 c = rw (
   ← c .before .before .before .before .before .before .before .master-count .ensures,
   ← c .before .before .before .before .before .before .slave-count .ensures,
   c .before .before .before .before .before .if1 .left,
-  ← c .before .before .before .listed .ensures,
-  ← c .before .listed2 .ensures,
+  ← c .before .before .before .member .ensures,
+  ← c .before .member2 .ensures,
   c .if2 .taken,
 )
 
@@ -44,8 +44,8 @@ returns-3 c = rw (
   ← c .before .before .before .before .before .before .before .master-count .ensures,
   ← c .before .before .before .before .before .before .slave-count .ensures,
   c .before .before .before .before .before .if1 .left,
-  ← c .before .before .before .listed .ensures,
-  ← c .before .listed2 .ensures,
+  ← c .before .before .before .member .ensures,
+  ← c .before .member2 .ensures,
   c .if2 .left,
 )
 
@@ -56,9 +56,9 @@ master-refusal-spec =
     master-count-requires
     slave-count-requires
     returns
-    slice-aggregate-listed
-    listed-requires
-    slice-aggregate-listed-2
-    listed-requires-2
+    slice-aggregate-member
+    member-requires
+    slice-aggregate-member-2
+    member-requires-2
     returns-2
     returns-3)

@@ -56,7 +56,7 @@ apart c =
       legal (c .before .before .before .before .before .before),
       eq-eqb _ _ (c .before .before .before .before .if3 .left),
       ← c .before .before .before .before .before .before .before .before .before .slave-count .ensures,
-      ← c .before .meets-any .ensures,
+      ← c .before .overlaps .ensures,
       c .if4 .left,
     )
 
@@ -89,45 +89,45 @@ rem-if3 c = let v = fits (c .before) in omega arith
 returns-3 : tie.Need-returns-3
 returns-3 c = rw (legal (c .before .before), ne-eqb _ _ (c .if3 .taken))
 
-cast-meets-any : tie.Need-cast-meets-any
-cast-meets-any c = search needs
+cast-overlaps : tie.Need-cast-overlaps
+cast-overlaps c = search needs
 
-cast-meets-any-2 : tie.Need-cast-meets-any-2
-cast-meets-any-2 c = let v = fits (c .before .before .before) in omega arith
+cast-overlaps-2 : tie.Need-cast-overlaps-2
+cast-overlaps-2 c = let v = fits (c .before .before .before) in omega arith
 
-cast-meets-any-3 : tie.Need-cast-meets-any-3
-cast-meets-any-3 c = let v = fits (c .before .before .before .before) in omega arith
+cast-overlaps-3 : tie.Need-cast-overlaps-3
+cast-overlaps-3 c = let v = fits (c .before .before .before .before) in omega arith
 
-meets-any-requires : tie.Need-meets-any-requires
-meets-any-requires c κs = let l = room (c .before .before .before .before .before .before) in omega arith
+overlaps-requires : tie.Need-overlaps-requires
+overlaps-requires c κs = let l = room (c .before .before .before .before .before .before) in omega arith
 
 returns-4 : tie.Need-returns-4
 returns-4 c = rw (
   legal (c .before .before .before .before .before .before),
   eq-eqb _ _ (c .before .before .before .before .if3 .left),
   ← c .before .before .before .before .before .before .before .before .before .slave-count .ensures,
-  ← c .before .meets-any .ensures,
+  ← c .before .overlaps .ensures,
   c .if4 .taken,
 )
 
-cast-span-total : tie.Need-cast-span-total
-cast-span-total c = search needs
+cast-total-span : tie.Need-cast-total-span
+cast-total-span c = search needs
 
-cast-span-total-2 : tie.Need-cast-span-total-2
-cast-span-total-2 c = let v = fits (c .before .before .before .before .before .before .before) in omega arith
+cast-total-span-2 : tie.Need-cast-total-span-2
+cast-total-span-2 c = let v = fits (c .before .before .before .before .before .before .before) in omega arith
 
-span-total-requires : tie.Need-span-total-requires
-span-total-requires c κs = let l = room (c .before .before .before .before .before .before .before .before .before) in omega arith
+total-span-requires : tie.Need-total-span-requires
+total-span-requires c κs = let l = room (c .before .before .before .before .before .before .before .before .before) in omega arith
 
 returns-5 : tie.Need-returns-5
 returns-5 c =
     let count = c .before .before .before .before .before .before .before .before .before .before .before .before .slave-count in
-    rw (apart (c .before .before .before), ← count .ensures, ← c .before .span-total .ensures, lt-ltb _ _ (c .if5 .taken))
+    rw (apart (c .before .before .before), ← count .ensures, ← c .before .total-span .ensures, lt-ltb _ _ (c .if5 .taken))
 
 returns-6 : tie.Need-returns-6
 returns-6 c =
     let count = c .before .before .before .before .before .before .before .before .before .before .before .before .slave-count in
-    rw (apart (c .before .before .before), ← count .ensures, ← c .before .span-total .ensures, le-ltb _ _ (c .if5 .left))
+    rw (apart (c .before .before .before), ← count .ensures, ← c .before .total-span .ensures, le-ltb _ _ (c .if5 .left))
 
 pub slave-refusal-spec : {M : Type 1} → statement M
 slave-refusal-spec =
@@ -140,13 +140,13 @@ slave-refusal-spec =
     returns-2
     rem-if3
     returns-3
-    cast-meets-any
-    cast-meets-any-2
-    cast-meets-any-3
-    meets-any-requires
+    cast-overlaps
+    cast-overlaps-2
+    cast-overlaps-3
+    overlaps-requires
     returns-4
-    cast-span-total
-    cast-span-total-2
-    span-total-requires
+    cast-total-span
+    cast-total-span-2
+    total-span-requires
     returns-5
     returns-6)

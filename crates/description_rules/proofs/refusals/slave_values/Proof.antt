@@ -5,38 +5,38 @@ use Rattle.description_board.specs.Rules.{slaveValues}
 use Rattle.description_rules.proofs.refusals.slave_values.Statement.{statement}
 use Rattle.description_rules.proofs.refusals.slave_values.Tie as tie
 
-slice-aggregate-listed : tie.Need-slice-aggregate-listed
-slice-aggregate-listed c = search needs
+slice-aggregate-member : tie.Need-slice-aggregate-member
+slice-aggregate-member c = search needs
 
-listed-requires : tie.Need-listed-requires
-listed-requires c κs = search needs
+member-requires : tie.Need-member-requires
+member-requires c κs = search needs
 
-slice-aggregate-listed-2 : tie.Need-slice-aggregate-listed-2
-slice-aggregate-listed-2 c = search needs
+slice-aggregate-member-2 : tie.Need-slice-aggregate-member-2
+slice-aggregate-member-2 c = search needs
 
-listed-requires-2 : tie.Need-listed-requires-2
-listed-requires-2 c κs = search needs
+member-requires-2 : tie.Need-member-requires-2
+member-requires-2 c κs = search needs
 
-slice-aggregate-listed-3 : tie.Need-slice-aggregate-listed-3
-slice-aggregate-listed-3 c = search needs
+slice-aggregate-member-3 : tie.Need-slice-aggregate-member-3
+slice-aggregate-member-3 c = search needs
 
-listed-requires-3 : tie.Need-listed-requires-3
-listed-requires-3 c κs = search needs
+member-requires-3 : tie.Need-member-requires-3
+member-requires-3 c κs = search needs
 
 returns : tie.Need-returns
 unfolding slaveValues
 returns c =
     let l = c .before .before .before .before .before in
-    rw (l .before .before .listed .ensures, l .listed2 .ensures, c .listed3 .ensures)
+    rw (l .before .before .member .ensures, l .member2 .ensures, c .member3 .ensures)
 
 pub slave-values-spec : {M : Type 1} → statement M
 slave-values-spec =
     tie.close
     (tie.spec
-    slice-aggregate-listed
-    listed-requires
-    slice-aggregate-listed-2
-    listed-requires-2
-    slice-aggregate-listed-3
-    listed-requires-3
+    slice-aggregate-member
+    member-requires
+    slice-aggregate-member-2
+    member-requires-2
+    slice-aggregate-member-3
+    member-requires-3
     returns)

@@ -8,8 +8,8 @@ use Rattle.fabric_cycle.proofs.slave.line_of.Tie as tie
 word-offset-requires : tie.Need-word-offset-requires
 word-offset-requires c κs = search needs
 
-lanes-of-requires : tie.Need-lanes-of-requires
-lanes-of-requires c κs = search needs
+slave-lanes-requires : tie.Need-slave-lanes-requires
+slave-lanes-requires c κs = search needs
 
 run-of-requires : tie.Need-run-of-requires
 run-of-requires c κs = search needs
@@ -25,7 +25,7 @@ unfolding lineOf
 returns c =
     rw (
       c .before .before .before .word-offset .ensures,
-      c .before .before .lanes-of .ensures,
+      c .before .before .slave-lanes .ensures,
       c .before .run-of .ensures,
       c .place-of .ensures,
     )
@@ -35,7 +35,7 @@ line-of-spec =
     tie.close
     (tie.spec
     word-offset-requires
-    lanes-of-requires
+    slave-lanes-requires
     run-of-requires
     place-of-requires
     cast-t11

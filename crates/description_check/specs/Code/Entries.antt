@@ -1,0 +1,38 @@
+-- The lines of a board by place: its masters, its slaves, then the 128 places of its shares.
+-- Assumes nothing.
+use mathlib.Core.Bool.{cond}
+use mathlib.Core.List.{List, [], _∷_}
+use Prim.Native.Nat.{ℕ, _+_, _-_, _/_, _%_}
+use lib.Dec.{ltb, eqb}
+use lib.ListN.{getD}
+use Rattle.common_laws.specs.Lists.{gather}
+use Rattle.description_board.specs.declared.Board.{Board}
+use Rattle.description_board.specs.declared.Item.{Item}
+use Rattle.description_board.specs.declared.Item.the-variants.{Malformed, MasterLine, SlaveLine, ShareLine}
+use Rattle.description_board.specs.Items.{masterItem, slaveItem}
+
+-- how many places a board has
+abbrev pub entryCount : Board → ℕ
+entryCount b = b .«master_count» + b .«slave_count» + 128
+
+-- "A pair without a share line is not connected.": Malformed, which no line of a board is, stands for no line
+unfoldable pub pairItem : List ℕ → ℕ → Item
+pairItem shares i = cond (eqb (getD shares i 0) 0) Malformed (ShareLine (i / 16) (i % 16) (getD shares i 0))
+
+-- "Masters come first, then slaves, then shares": the line at place k
+unfoldable pub lineAt : Board → ℕ → Item
+lineAt b k =
+    cond (ltb k (b .«master_count»)) (masterItem (b .masters) k)
+    (cond (ltb k (b .«master_count» + b .«slave_count»)) (slaveItem (b .slaves) (k - b .«master_count»))
+    (pairItem (b .shares) (k - (b .«master_count» + b .«slave_count»))))
+
+-- the line, where there is one
+unfoldable pub present : Item → List Item
+present Malformed = []
+present (MasterLine w u) = MasterLine w u ∷ []
+present (SlaveLine n) = SlaveLine n ∷ []
+present (ShareLine m s n) = ShareLine m s n ∷ []
+
+-- the lines of the first n places
+unfoldable pub linesTo : Board → ℕ → List Item
+linesTo b n = gather (λ k. present (lineAt b k)) n

@@ -1,0 +1,73 @@
+-- `rules::meets_any` meets its contract. The loop's invariant: an overlap is one with a slave that is left.
+-- Assumes nothing.
+use mathlib.Core.Path.{_≡_, _∙_, sym, refl, ap}
+use Prim.Native.Nat.{_≤_, _-_}
+use native.Mathlib.Omega.{arith}
+use lib.ListN.{drop, take}
+use borrow.Author.Needs.{needs}
+use Rattle.description_board.proofs.RuleLaws.{overlaps-here, overlaps-next, overlaps-end}
+use Rattle.description_board.specs.Rules.{meets, overlaps}
+use Rattle.description_layout.proofs.PlaceLaws.{slaves-length}
+use Rattle.description_layout.specs.Layout.{boardIn}
+use Rattle.description_rules.proofs.refusals.overlaps.Statement.{statement}
+use Rattle.description_rules.proofs.refusals.overlaps.Tie as tie
+
+abbrev Inv-loop : tie.InvT-loop
+Inv-loop board n base span i₀ i = let slaves = boardIn board .slaves in
+    (i ≤ n) × (overlaps base span (take n slaves) ≡ overlaps base span (drop i (take n slaves)))
+
+abbrev μ-loop : tie.MeasureT-loop
+μ-loop board n base span i₀ i = n - i
+
+loop-holds : tie.Need-loop-holds Inv-loop μ-loop
+loop-holds c = (search needs, refl)
+
+slave-at-requires : tie.Need-slave-at-requires Inv-loop μ-loop
+slave-at-requires c κs = search needs
+
+meets-requires : tie.Need-meets-requires Inv-loop μ-loop
+meets-requires c κs = search needs
+
+returns : tie.Need-returns Inv-loop μ-loop
+returns c = let l = c .before .before .before .before .loop in
+    let a = c .before .before .before .before .before .args in
+    let g = slaves-length (a .board .now) in
+    let there = ap (meets (a .base) (a .span)) (sym (c .before .before .slave-at .ensures)) in
+    let met = there ∙ sym (c .before .meets .ensures) ∙ c .if1 .taken in
+    let slaves = boardIn (a .board .now) .slaves in
+    sym (l .inv .1 ∙ overlaps-here slaves (a .n) (l .i) (omega arith) (omega arith) (a .base) (a .span) met)
+
+add-i : tie.Need-add-i Inv-loop μ-loop
+add-i c = search needs
+
+loop-less : tie.Need-loop-less Inv-loop μ-loop
+loop-less c = search needs
+
+loop-again : tie.Need-loop-again Inv-loop μ-loop
+loop-again c = let l = c .before .before .before .before .loop in
+    let a = c .before .before .before .before .before .args in
+    let g = slaves-length (a .board .now) in
+    let there = ap (meets (a .base) (a .span)) (sym (c .before .before .slave-at .ensures)) in
+    let apart = there ∙ sym (c .before .meets .ensures) ∙ c .if1 .left in
+    let slaves = boardIn (a .board .now) .slaves in
+    (omega arith, l .inv .1 ∙ overlaps-next slaves (a .n) (l .i) (omega arith) (omega arith) (a .base) (a .span) apart)
+
+returns-2 : tie.Need-returns-2 Inv-loop μ-loop
+returns-2 c = let l = c .before .loop in
+    let a = c .before .before .args in
+    sym (l .inv .1 ∙ overlaps-end (boardIn (a .board .now) .slaves) (a .n) (l .i) (omega arith) (a .base) (a .span))
+
+pub overlaps-spec : {M : Type 1} → statement M
+overlaps-spec =
+    tie.close
+    (tie.spec
+    Inv-loop
+    μ-loop
+    loop-holds
+    slave-at-requires
+    meets-requires
+    returns
+    add-i
+    loop-less
+    loop-again
+    returns-2)

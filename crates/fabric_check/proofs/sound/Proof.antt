@@ -1,0 +1,34 @@
+-- `state_check::state_sound` meets its contract.
+-- Assumes nothing.
+use mathlib.Core.Bool.{true≢false}
+use mathlib.Core.Path.{sym, _∙_}
+use Rattle.fabric_state.specs.Soundness.{sound}
+use Rattle.fabric_check.proofs.sound.Statement.{statement}
+use Rattle.fabric_check.proofs.sound.Tie as tie
+
+sound-transfers-requires : tie.Need-sound-transfers-requires
+sound-transfers-requires c κs = c .before .pre
+
+sound-slots-requires : tie.Need-sound-slots-requires
+sound-slots-requires c κs = let passed = c .before .before in
+    record { board = passed .before .before .pre; targets = passed .sound-transfers .ensures .targets (c .before .if1 .taken) }
+
+returns : tie.Need-returns
+unfolding sound
+returns c =
+    let passed = c .before .before .before .sound-transfers .ensures in
+    let taken = c .before .before .if1 .taken in record {
+      sound = rw (sym (passed .sound) ∙ taken) (c .sound-slots .ensures);
+      targets = λ q. passed .targets taken;
+    }
+
+returns-2 : tie.Need-returns-2
+unfolding sound
+returns-2 c = record {
+  sound = rw (sym (c .before .sound-transfers .ensures .sound) ∙ c .if1 .left);
+  targets = λ q. absurd (true≢false (sym q));
+}
+
+pub sound-spec : {M : Type 1} → statement M
+sound-spec =
+    tie.close (tie.spec sound-transfers-requires sound-slots-requires returns returns-2)

@@ -1,0 +1,42 @@
+-- What the check of a state answers, by its parts: a transfer, all of them, the state, the board and the state.
+-- Assumes nothing.
+use mathlib.Core.Path.{_≡_}
+use mathlib.Core.Bool.{Bool, true, cond, _&&_}
+use mathlib.Core.List.{List}
+use Prim.Native.Nat.{ℕ}
+use lib.Dec.{ltb, eqb}
+use lib.ListN.{set}
+use Rattle.description_board.specs.declared.Board.{Board}
+use Rattle.description_board.specs.Items.{boardRefusal}
+use Rattle.fabric_accesses.specs.declared.Transfer.{Transfer}
+use Rattle.fabric_state.specs.declared.State.{State}
+use Rattle.fabric_check.specs.declared.Checked.{Checked}
+use Rattle.fabric_state.specs.Posting.{transferRefusal}
+use Rattle.fabric_state.specs.Soundness as soundness
+use Rattle.fabric_check.specs.Code.Targets.{heldTarget, targetsIn}
+
+-- `soundTransfer` of master m's transfer t
+unfoldable pub soundHeld : Board → ℕ → Transfer → Bool
+soundHeld b m t = cond (t .held) (ltb m (b .«master_count») && eqb (transferRefusal b m t) 0) true
+
+-- whether t breaks no rule; where it breaks none, its slave is put at place m
+pub record Held (b : Board) (m : ℕ) (t : Transfer) (r : Bool) (before after : List ℕ) : Type 0 where
+  pub sound : r ≡ soundHeld b m t
+  pub target : r ≡ true → after ≡ set before m (heldTarget b m t)
+
+-- whether `rule` holds; where it does, ts are the slaves of the state's transfers
+pub record Answered (b : Board) (st : State) (rule r : Bool) (ts : List ℕ) : Type 0 where
+  pub sound : r ≡ rule
+  pub targets : r ≡ true → ts ≡ targetsIn b (st .transfers)
+
+-- the board is accepted, and ts are the slaves of the state's transfers
+pub record Decoded (b : Board) (st : State) (ts : List ℕ) : Type 0 where
+  pub board : boardRefusal b ≡ 0
+  pub targets : ts ≡ targetsIn b (st .transfers)
+
+-- what is checked of a board and a state before a call acts: the board's refusal; of an accepted board, whether the state
+-- breaks no rule; of a state that breaks none, which slave each held transfer is for
+pub record Preconditions (b : Board) (st : State) (r : Checked) (ts : List ℕ) : Type 0 where
+  pub number : r .number ≡ boardRefusal b
+  pub sound : boardRefusal b ≡ 0 → r .sound ≡ soundness.sound b st
+  pub targets : boardRefusal b ≡ 0 → soundness.sound b st ≡ true → ts ≡ targetsIn b (st .transfers)

@@ -1,0 +1,3 @@
+pub mod Cycles
+pub mod Serving
+pub mod Turns

@@ -1,0 +1,65 @@
+-- One slave's turn in a state that is being changed, from what stands in it: what the turn is handed, and what it leaves.
+-- Assumes nothing.
+use mathlib.Core.Path.{_≡_}
+use mathlib.Core.Bool.{Bool, true, cond}
+use mathlib.Core.List.{List}
+use Prim.Native.Nat.{ℕ, _^_, _<_}
+use lib.ListN.{set}
+use Rattle.common_laws.specs.Bits.{bit}
+use Rattle.description_board.specs.declared.Board.{Board}
+use Rattle.description_board.specs.Records.{masterAt, slaveAt, sharesAt}
+use Rattle.fabric_accesses.specs.Accesses.{noTransfer}
+use Rattle.fabric_arbiter.specs.Granting.{granted}
+use Rattle.fabric_bytes.specs.Bytes.{Store}
+use Rattle.fabric_state.specs.declared.Slot.{Slot}
+use Rattle.fabric_state.specs.declared.State.{State}
+use Rattle.fabric_state.specs.declared.Line.{Line}
+use Rattle.fabric_state.specs.declared.Step.{Step}
+use Rattle.fabric_state.specs.Records.{transferAt, slotAt, arbiterOf}
+use Rattle.fabric_state.specs.Posting.{withTransfer}
+use Rattle.fabric_state.specs.Control.{slotGranted}
+use Rattle.fabric_layout.specs.Layout.{withSlot}
+use Rattle.fabric_cycle.specs.Code.Serving.{stepFrom, carriedFrom, Serves}
+
+-- slave s after rule 1, by a mask of who requests it
+unfoldable pub slotAsked : Board → State → ℕ → ℕ → Slot
+slotAsked b st s mask =
+    cond (slotAt st s .serving) (slotAt st s)
+    (slotGranted (slotAt st s)
+    (granted (b .«master_count») (bit mask) (λ m. sharesAt b m s) (λ m. transferAt st m .beats) (arbiterOf (slotAt st s))))
+
+-- the step of slave s from its slot x after rule 1
+unfoldable pub stepAt : Board → State → ℕ → Slot → Step
+stepAt b st s x = stepFrom (masterAt b (x .owner)) (slaveAt b s) (transferAt st (x .owner)) x
+
+-- its bytes
+unfoldable pub carriedAt : Board → State → ℕ → Slot → ℕ → Store → Store
+carriedAt b st s x start d = carriedFrom (masterAt b (x .owner)) (slaveAt b s) (transferAt st (x .owner)) x start d
+
+-- the state with the transfer of master m endedTransfer where it is finished
+unfoldable pub endedTransfer : State → ℕ → Bool → State
+endedTransfer st m finished = cond finished (withTransfer st m noTransfer) st
+
+-- the state with slave s after its step from x
+unfoldable pub stateTurned : Board → State → ℕ → Slot → State
+stateTurned b st s x = endedTransfer (withSlot st s (stepAt b st s x .slot)) (x .owner) (stepAt b st s x .finished)
+
+-- a slave that serves after rule 1
+pub record Serving (b : Board) (st : State) (s : ℕ) (x : Slot) (start : ℕ) (d : Store) : Type 0 where
+  pub slave : s < 16
+  pub owner : x .owner < 8
+  pub serves : Serves (masterAt b (x .owner)) (slaveAt b s) (transferAt st (x .owner)) x start d
+
+-- slave s can have its turn: it rests after rule 1, or serves
+pub record Ready (b : Board) (st : State) (s mask start : ℕ) (d : Store) : Type 0 where
+  pub slave : s < 16
+  pub small : mask < 256
+  pub serves : slotAsked b st s mask .serving ≡ true → Serving b st s (slotAsked b st s mask) start d
+
+-- slave s has had its turn from the slot x: the state, the lines, the bit answered and the bytes e left of d
+pub record Turned (b : Board) (before after : State) (s : ℕ) (x : Slot) (start : ℕ) (lines shown : List Line) (r : ℕ)
+    (d e : Store) : Type 0 where
+  pub state : after ≡ stateTurned b before s x
+  pub shows : shown ≡ set lines s (stepAt b before s x .line)
+  pub weight : r ≡ cond (stepAt b before s x .finished) (2 ^ x .owner) 0
+  pub store : e ≡ carriedAt b before s x start d

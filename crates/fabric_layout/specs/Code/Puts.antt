@@ -1,0 +1,26 @@
+-- What is put into the arrays of a state and of a clock's lines.
+-- Assumes nothing.
+use mathlib.Core.Bool.{Bool, cond, not}
+use mathlib.Core.List.{List}
+use Prim.Native.Nat.{ℕ, _+_, _*_}
+use lib.Dec.{ltb, eqb}
+use lib.ListN.{getD, set}
+use Rattle.common_laws.specs.Lists.{table}
+use Rattle.fabric_accesses.specs.declared.Transfer.{Transfer}
+use Rattle.fabric_state.specs.declared.Slot.{Slot}
+use Rattle.fabric_state.specs.declared.State.{State}
+use Rattle.fabric_state.specs.declared.Line.{Line}
+use Rattle.fabric_state.specs.Records.{noLine, noSlot}
+
+-- a state with one slot set. With a transfer set: `Posting.withTransfer`
+unfoldable pub withSlot : State → ℕ → Slot → State
+withSlot st s x = record { transfers = st .transfers; slots = set (st .slots) s x }
+
+-- of 16 lines, those from n on show nothing
+unfoldable pub firstLines : ℕ → List Line → List Line
+firstLines n lines = table (λ s. cond (ltb s n) (getD lines s noLine) noLine) 16
+
+-- the slot of slave s after a reset: the owner is the last at the first n slaves
+unfoldable pub resetSlot : ℕ → ℕ → ℕ → Slot
+resetSlot owner n s =
+    cond (ltb s n) (record { owner = owner; remaining = 0; serving = Bool.false; done = 0; waited = 0 }) noSlot
