@@ -1,4 +1,8 @@
 // What the benchmark calls of the library beside the calls for C: traffic made in Rattle, so that the calls can be inlined.
+use common_numbers::BOARD_NUMBERS;
+use common_numbers::LINES_NUMBERS;
+use common_numbers::MASTERS;
+use common_numbers::STATE_NUMBERS;
 use description_board::Master;
 use description_board::Slave;
 ghost use Prim.Native.Nat.{_<_};
@@ -48,7 +52,13 @@ fn next_transfer(ma: Master, sl: Slave, index: u32) -> Next
 }
 
 // Posts transfer number `index` of master m.
-fn post_next(board: &[u32; 242], state: &mut [u32; 120], buffer: &mut [u8], m: u32, index: u32)
+fn post_next(
+    board: &[u32; BOARD_NUMBERS],
+    state: &mut [u32; STATE_NUMBERS],
+    buffer: &mut [u8],
+    m: u32,
+    index: u32,
+)
     requires { ⌜ m < 8 ⌝ }
 {
     let words = [0u8; 8];
@@ -72,10 +82,10 @@ fn post_next(board: &[u32; 242], state: &mut [u32; 120], buffer: &mut [u8], m: u
 
 // Posts the next transfer of master m where it is idle.
 fn post_idle(
-    board: &[u32; 242],
-    state: &mut [u32; 120],
+    board: &[u32; BOARD_NUMBERS],
+    state: &mut [u32; STATE_NUMBERS],
     buffer: &mut [u8],
-    posted: &mut [u32; 8],
+    posted: &mut [u32; MASTERS],
     m: u32,
     idle: u32,
 )
@@ -90,14 +100,14 @@ fn post_idle(
 
 // Runs clocks, every master posting again as soon as it is idle; the sum of the masks.
 fn run(
-    board: &[u32; 242],
-    state: &mut [u32; 120],
+    board: &[u32; BOARD_NUMBERS],
+    state: &mut [u32; STATE_NUMBERS],
     memory: &mut [u8],
     buffer: &mut [u8],
     mut clocks: u32,
 ) -> u32 {
-    let mut lines = [0u32; 96];
-    let mut posted = [0u32; 8];
+    let mut lines = [0u32; LINES_NUMBERS];
+    let mut posted = [0u32; MASTERS];
     let mut idle: u32 = 255;
     let mut sum: u32 = 0;
     let mut m: u32 = 0;
@@ -124,8 +134,8 @@ pub extern "C" fn bench_clocks(
     buffer: &mut [u8],
     clocks: u32,
 ) -> u32 {
-    let mut board = [0u32; 242];
-    let mut state = [0u32; 120];
+    let mut board = [0u32; BOARD_NUMBERS];
+    let mut state = [0u32; STATE_NUMBERS];
     description::read(text, &mut board);
     fabric::reset(&board, &mut state);
     run(&board, &mut state, memory, buffer, clocks)

@@ -15,11 +15,13 @@ use Rattle.description_board.proofs.RunLaws.{run-stays, finish-stays}
 use Rattle.description_layout.specs.Layout.{boardIn}
 use Rattle.description_rules.specs.declared.Progress.{Progress}
 use Rattle.description_rules.specs.Code.Readings.{readingOf}
-use Rattle.description_lines.specs.Reader.{itemsOf, itemsOfPieces, unended, LineFrom}
+use Rattle.description_lines.specs.Reader.{itemsOf, itemsOfPieces, unended}
+use Rattle.description_lines.specs.Code.LineFrom.{LineFrom}
 use Rattle.description.specs.Reader.{mostBytes, reading, readText}
 use Rattle.description.specs.declared.Refusal.{Refusal}
 use Rattle.description.specs.Blame.{firstRefused, chargedLine, refusedAt}
-use Rattle.description.specs.Lent.{Comes, Read}
+use Rattle.description.specs.Lent.{Read}
+use Rattle.description.specs.Code.Reading.{Comes}
 use Rattle.description.proofs.ReadLaws.{reading-short, reading-long}
 
 -- one line more

@@ -3,3 +3,4 @@ pub mod Blame
 pub mod Lent
 pub mod Writer
 pub mod Longest
+pub mod Code

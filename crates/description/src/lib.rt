@@ -1,12 +1,16 @@
 // Descriptions: a text to a board in a lent array, and a board to its text.
+use common_numbers::BOARD_NUMBERS;
+use common_numbers::TEXT_BYTES;
 ghost use mathlib.Core.Path.{_≡_};
 ghost use Prim.Native.Nat.{_≤_};
 ghost use lib.ListN.{length, replicate};
 ghost use Rattle.common_text.specs.Code.Scanning.{Put};
+ghost use Rattle.description_board.specs.Items.{boardRefusal};
 ghost use Rattle.description_layout.specs.Layout.{boardIn};
 ghost use Rattle.description.specs.Reader.{reading};
 ghost use Rattle.description.specs.Blame.{chargedLine, refusedAt};
-ghost use Rattle.description.specs.Lent.{Comes, LinesCome, refusalIn, Read};
+ghost use Rattle.description.specs.Lent.{Read};
+ghost use Rattle.description.specs.Code.Reading.{Comes, LinesCome};
 ghost use Rattle.description.specs.Writer.{writeText, writeAnswer, writeOutput};
 use description_board::Board;
 use description_board::Item;
@@ -34,7 +38,7 @@ pub struct Written {
 
 // The lines of a text one after another, counted, up to the first that is refused: a later line cannot change the answer. The
 // board is read into an array of zeros.
-fn read_lines(text: &[u8], board: &mut [u32; 242]) -> Refusal
+fn read_lines(text: &[u8], board: &mut [u32; BOARD_NUMBERS]) -> Refusal
     requires { ⌜ now board ≡ replicate 242 0 ⌝ }
     ensures { λ r. ⌜ LinesCome (now (text .entry)) (now (board .exit)) r ⌝ }
 {
@@ -62,11 +66,11 @@ fn read_lines(text: &[u8], board: &mut [u32; 242]) -> Refusal
 }
 
 // The length first: a text that is too long is refused before a byte of it is read.
-fn read_bounded(text: &[u8], board: &mut [u32; 242]) -> Refusal
+fn read_bounded(text: &[u8], board: &mut [u32; BOARD_NUMBERS]) -> Refusal
     requires { ⌜ now board ≡ replicate 242 0 ⌝ }
     ensures { λ r. ⌜ Comes (reading (now (text .entry))) (chargedLine (now (text .entry))) (now (board .exit)) r ⌝ }
 {
-    if text.len() <= 8192 {
+    if text.len() <= TEXT_BYTES {
         return read_lines(text, board);
     }
     let p = description_rules::step(board, description_rules::start(), Item::Malformed);
@@ -77,10 +81,10 @@ fn read_bounded(text: &[u8], board: &mut [u32; 242]) -> Refusal
 }
 
 // Reads the board that a text describes, or answers the number that the text is refused with: then no number of board is changed.
-pub fn read(text: &[u8], board: &mut [u32; 242]) -> u32
+pub fn read(text: &[u8], board: &mut [u32; BOARD_NUMBERS]) -> u32
     ensures { λ r. ⌜ Read (now (text .entry)) (now (board .entry)) (now (board .exit)) r ⌝ }
 {
-    let mut own = [0u32; 242];
+    let mut own = [0u32; BOARD_NUMBERS];
     let outcome = read_bounded(text, &mut own);
     if outcome.number != 0 {
         return outcome.number;
@@ -93,12 +97,12 @@ pub fn read(text: &[u8], board: &mut [u32; 242]) -> u32
 pub fn refused_at(text: &[u8]) -> Refusal
     ensures { λ r. ⌜ r ≡ refusedAt (now (text .entry)) ⌝ }
 {
-    let mut own = [0u32; 242];
+    let mut own = [0u32; BOARD_NUMBERS];
     read_bounded(text, &mut own)
 }
 
 // Writes the text of a board at the front of out, place by place of its lines; a place with no line has no bytes.
-fn put_board(out: &mut [u8], board: &[u32; 242]) -> usize
+fn put_board(out: &mut [u8], board: &[u32; BOARD_NUMBERS]) -> usize
     requires { ⌜ length (writeText (boardIn (now board))) ≤ length (now out) ⌝ }
     ensures { λ r. ⌜ Put (now (out .entry)) 0 (writeText (boardIn (now (board .entry)))) (now (out .exit)) r ⌝ }
 {
@@ -114,8 +118,8 @@ fn put_board(out: &mut [u8], board: &[u32; 242]) -> usize
 }
 
 // How many bytes that is, of a board that is accepted: then it has few places.
-fn board_length(board: &[u32; 242]) -> usize
-    requires { ⌜ refusalIn (now board) ≡ 0 ⌝ }
+fn board_length(board: &[u32; BOARD_NUMBERS]) -> usize
+    requires { ⌜ boardRefusal (boardIn (now board)) ≡ 0 ⌝ }
     ensures { λ r. ⌜ r ≡ length (writeText (boardIn (now (board .entry)))) ⌝ }
 {
     let n = description_check::entry_count(board);
@@ -131,10 +135,10 @@ fn board_length(board: &[u32; 242]) -> usize
 
 // Writes a board's text, if the board keeps the rules and its text has room: otherwise no byte of out is changed. The
 // length is known before the first byte is writeAnswer. An output of LONGEST bytes has room for every board.
-pub fn write(board: &[u32; 242], out: &mut [u8]) -> Written
+pub fn write(board: &[u32; BOARD_NUMBERS], out: &mut [u8]) -> Written
     ensures answer { λ r. ⌜ r ≡ writeAnswer (boardIn (now (board .entry))) (now (out .entry)) ⌝ }
     ensures output { λ r. ⌜ now (out .exit) ≡ writeOutput (boardIn (now (board .entry))) (now (out .entry)) ⌝ }
-    ensures room { λ r. do ⌜ ((← ⟦LONGEST⟧ .entry) ≤ length (now (out .entry)) → r .number ≡ refusalIn (now (board .entry))) ⌝ }
+    ensures room { λ r. do ⌜ ((← ⟦LONGEST⟧ .entry) ≤ length (now (out .entry)) → r .number ≡ boardRefusal (boardIn (now (board .entry)))) ⌝ }
 {
     let number = description_check::board_refusal(board);
     if number != 0 {

@@ -1,5 +1,6 @@
 // What a board that did not come through the reader is refused for: refusals 2 to 7.
 // Tests are joined by & and |, not by && and ||: each part is safe by itself, and a proof meets the whole as one test.
+use common_numbers::BOARD_NUMBERS;
 ghost use mathlib.Core.Path.{_≡_};
 ghost use mathlib.Core.Bool.{true};
 ghost use Prim.Native.Nat.{ℕ, _≤_, _<_, _+_, _-_, _%_};
@@ -18,7 +19,7 @@ use description_board::SlaveNumbers;
 use description_rules::Progress;
 
 // The line of master i; past the array, where the counts of a board that no reader made can lead, a line of zeros.
-fn master_item(board: &[u32; 242], i: usize) -> Item
+fn master_item(board: &[u32; BOARD_NUMBERS], i: usize) -> Item
     ensures { λ x. ⌜ x ≡ masterItem (boardIn (now (board .entry)) .masters) i ⌝ }
 {
     if i < 8 {
@@ -43,7 +44,7 @@ fn slave_numbers(s: Slave) -> SlaveNumbers
 }
 
 // The line of slave i; past the array a line of zeros.
-fn slave_item(board: &[u32; 242], i: usize) -> Item
+fn slave_item(board: &[u32; BOARD_NUMBERS], i: usize) -> Item
     ensures { λ x. ⌜ x ≡ slaveItem (boardIn (now (board .entry)) .slaves) i ⌝ }
 {
     if i < 16 {
@@ -63,7 +64,7 @@ fn slave_item(board: &[u32; 242], i: usize) -> Item
 }
 
 // The line at place i of the shares; Malformed where the pair is not connected.
-fn pair_item(board: &[u32; 242], i: u64) -> Item
+fn pair_item(board: &[u32; BOARD_NUMBERS], i: u64) -> Item
     ensures { λ x. ⌜ x ≡ pairItem (boardIn (now (board .entry)) .shares) i ⌝ }
 {
     let n = description_rules::share_or_none(board, i);
@@ -74,7 +75,7 @@ fn pair_item(board: &[u32; 242], i: u64) -> Item
 }
 
 // How many places a board's lines have: its masters, its slaves, the pairs of a master and a slave.
-pub fn entry_count(board: &[u32; 242]) -> usize
+pub fn entry_count(board: &[u32; BOARD_NUMBERS]) -> usize
     ensures { λ n. ⌜ n ≡ entryCount (boardIn (now (board .entry))) ⌝ }
 {
     let m = description_layout::master_count(board) as usize;
@@ -83,7 +84,7 @@ pub fn entry_count(board: &[u32; 242]) -> usize
 }
 
 // The line at place k; Malformed, which no line of a board is, where there is none.
-pub fn line_at(board: &[u32; 242], k: usize) -> Item
+pub fn line_at(board: &[u32; BOARD_NUMBERS], k: usize) -> Item
     ensures { λ x. ⌜ x ≡ lineAt (boardIn (now (board .entry))) k ⌝ }
 {
     let m = description_layout::master_count(board) as usize;
@@ -99,7 +100,7 @@ pub fn line_at(board: &[u32; 242], k: usize) -> Item
 }
 
 // A place of a board more; one that has no line changes nothing.
-fn add_entry(own: &mut [u32; 242], p: Progress, x: Item) -> Progress
+fn add_entry(own: &mut [u32; BOARD_NUMBERS], p: Progress, x: Item) -> Progress
     ensures { λ r. ⌜ readingOf r (now (own .exit)) ≡ stepAll (readingOf p (now (own .entry))) (present x) ⌝ }
 {
     match x {
@@ -110,11 +111,11 @@ fn add_entry(own: &mut [u32; 242], p: Progress, x: Item) -> Progress
 
 // The first refusal of a board's own lines, or 0. The board is built again, line by line, up to the first refusal: a later line
 // cannot change the answer, and the counts of a board that no reader made can be any number.
-pub fn board_refusal_by_lines(board: &[u32; 242]) -> u32
+pub fn board_refusal_by_lines(board: &[u32; BOARD_NUMBERS]) -> u32
     ensures { λ n. ⌜ n ≡ boardRefusal (boardIn (now (board .entry))) ⌝ }
 {
     let n = entry_count(board);
-    let mut own = [0u32; 242];
+    let mut own = [0u32; BOARD_NUMBERS];
     let mut p = description_rules::start();
     let mut k: usize = 0;
     while k < n {
@@ -165,7 +166,7 @@ fn span_fits(base: u32, span: u32) -> bool
 }
 
 // Whether each of the first n masters is legal.
-fn masters_fit(board: &[u32; 242], n: usize) -> bool
+fn masters_fit(board: &[u32; BOARD_NUMBERS], n: usize) -> bool
     requires { ⌜ n ≤ 8 ⌝ }
     ensures { λ r. ⌜ (r ≡ true → MastersFit (boardIn (now (board .entry)) .masters) n) ⌝ }
 {
@@ -198,7 +199,7 @@ fn later(a: u64, b: u64) -> u64
 
 // Whether the span at base meets none of the first n spans, of which the last ends at last. On a board whose slaves stand in the
 // order of their addresses base is never below that, and no span is looked at.
-fn clear_of(board: &[u32; 242], n: usize, base: u32, span: u32, last: u64) -> bool
+fn clear_of(board: &[u32; BOARD_NUMBERS], n: usize, base: u32, span: u32, last: u64) -> bool
     requires { ⌜ n ≤ 16 ⌝ }
     requires { ⌜ ((k : ℕ) → k < n → slaveAt (boardIn (now board)) k .base + slaveAt (boardIn (now board)) k .span ≤ last) ⌝ }
     ensures { λ r. ⌜ (r ≡ true → Clear base span (boardIn (now (board .entry)) .slaves) n) ⌝ }
@@ -210,7 +211,7 @@ fn clear_of(board: &[u32; 242], n: usize, base: u32, span: u32, last: u64) -> bo
 }
 
 // Whether the first n slaves are legal, each by itself and together.
-fn slaves_fit(board: &[u32; 242], n: usize) -> bool
+fn slaves_fit(board: &[u32; BOARD_NUMBERS], n: usize) -> bool
     requires { ⌜ n ≤ 16 ⌝ }
     ensures { λ r. ⌜ (r ≡ true → SlavesFit (boardIn (now (board .entry)) .slaves) n) ⌝ }
 {
@@ -241,7 +242,7 @@ fn share_limit(s: u32, n: u32) -> u32
 
 // Whether every share of a master is at most 100 and none stands from slave n on. The loop has no early way out and each share
 // is compared once, so that it compiles to tests of several shares at a time.
-fn row_fits(board: &[u32; 242], m: usize, n: u32) -> bool
+fn row_fits(board: &[u32; BOARD_NUMBERS], m: usize, n: u32) -> bool
     requires { ⌜ m < 8 ⌝ }
     ensures { λ r. ⌜ (r ≡ true → RowFits (boardIn (now (board .entry)) .shares) m n 16) ⌝ }
 {
@@ -256,7 +257,7 @@ fn row_fits(board: &[u32; 242], m: usize, n: u32) -> bool
 }
 
 // Whether a master has no share. A bit of any share stays in used.
-fn row_empty(board: &[u32; 242], m: usize) -> bool
+fn row_empty(board: &[u32; BOARD_NUMBERS], m: usize) -> bool
     requires { ⌜ m < 8 ⌝ }
     ensures { λ r. ⌜ (r ≡ true → RowEmpty (boardIn (now (board .entry)) .shares) m 16) ⌝ }
 {
@@ -271,7 +272,7 @@ fn row_empty(board: &[u32; 242], m: usize) -> bool
 }
 
 // Whether the shares of master m are legal on a board with so many masters and slaves.
-fn row_passes(board: &[u32; 242], m: usize, masters: usize, slaves: u32) -> bool
+fn row_passes(board: &[u32; BOARD_NUMBERS], m: usize, masters: usize, slaves: u32) -> bool
     requires { ⌜ m < 8 ⌝ }
     ensures { λ r. ⌜ (r ≡ true → RowPasses (boardIn (now (board .entry)) .shares) m masters slaves) ⌝ }
 {
@@ -282,7 +283,7 @@ fn row_passes(board: &[u32; 242], m: usize, masters: usize, slaves: u32) -> bool
 }
 
 // Whether every share is at most 100 and none stands outside the counts.
-fn shares_fit(board: &[u32; 242], masters: usize, slaves: u32) -> bool
+fn shares_fit(board: &[u32; BOARD_NUMBERS], masters: usize, slaves: u32) -> bool
     ensures { λ r. ⌜ (r ≡ true → SharesFit (boardIn (now (board .entry)) .shares) masters slaves 8) ⌝ }
 {
     let mut m: usize = 0;
@@ -296,7 +297,7 @@ fn shares_fit(board: &[u32; 242], masters: usize, slaves: u32) -> bool
 }
 
 // Whether a board passes every test. Nothing is said of one that does not.
-fn accepts(board: &[u32; 242]) -> bool
+fn accepts(board: &[u32; BOARD_NUMBERS]) -> bool
     ensures { λ r. ⌜ (r ≡ true → boardRefusal (boardIn (now (board .entry))) ≡ 0) ⌝ }
 {
     let m = description_layout::master_count(board);
@@ -317,7 +318,7 @@ fn accepts(board: &[u32; 242]) -> bool
 }
 
 // What check says, at once where the board is accepted.
-pub fn board_refusal(board: &[u32; 242]) -> u32
+pub fn board_refusal(board: &[u32; BOARD_NUMBERS]) -> u32
     ensures { λ n. ⌜ n ≡ boardRefusal (boardIn (now (board .entry))) ⌝ }
 {
     if accepts(board) {

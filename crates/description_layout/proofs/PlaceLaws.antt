@@ -13,7 +13,8 @@ use Rattle.description_board.specs.declared.Slave.{Slave}
 use Rattle.description_board.specs.declared.Board.{Board}
 use Rattle.description_board.specs.Records.{noMaster, noSlave, noBoard, masterAt, slaveAt, sharesAt}
 use Rattle.description_board.specs.Rules.{withShare}
-use Rattle.description_layout.specs.Layout.{masterFrom, slaveFrom, boardIn, withShareAt}
+use Rattle.description_layout.specs.Layout.{masterFrom, slaveFrom, boardIn}
+use Rattle.description_layout.specs.Code.Puts.{withShareAt}
 
 module _ (l : List ℕ) where
   pub masters-length : length (boardIn l .masters) ≡ 8

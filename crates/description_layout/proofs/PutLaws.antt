@@ -11,7 +11,8 @@ use Rattle.common_laws.proofs.FillLaws.{table-put, below-above}
 use Rattle.common_laws.proofs.FrontLaws.{table-same}
 use Rattle.description_board.specs.declared.Slave.{Slave}
 use Rattle.description_board.specs.Rules.{withMaster, withSlave}
-use Rattle.description_layout.specs.Layout.{masterFrom, slaveFrom, boardIn, withShareAt}
+use Rattle.description_layout.specs.Layout.{masterFrom, slaveFrom, boardIn}
+use Rattle.description_layout.specs.Code.Puts.{withShareAt}
 
 same-at : (l : List ℕ) (i v : ℕ) → i < length l → getD (set l i v) i 0 ≡ v
 same-at l i v h = getD-set-same l i v 0 h

@@ -3,7 +3,7 @@
 -- Assumes nothing.
 use mathlib.Core.List.{List}
 use Prim.Native.Nat.{ℕ, _+_, _*_}
-use lib.ListN.{getD, set}
+use lib.ListN.{getD}
 use Rattle.common_laws.specs.Lists.{table}
 use Rattle.description_board.specs.declared.Master.{Master}
 use Rattle.description_board.specs.declared.Slave.{Slave}
@@ -32,14 +32,4 @@ boardIn l = record {
   masters = table (λ m. masterFrom l (2 + 2 * m)) 8;
   slaves = table (λ s. slaveFrom l (18 + 6 * s)) 16;
   shares = table (λ i. getD l (114 + i) 0) 128;
-}
-
--- a board with the shares at place i of the 128 set
-unfoldable pub withShareAt : Board → ℕ → ℕ → Board
-withShareAt b i n = record {
-  «master_count» = b .«master_count»;
-  «slave_count» = b .«slave_count»;
-  masters = b .masters;
-  slaves = b .slaves;
-  shares = set (b .shares) i n;
 }

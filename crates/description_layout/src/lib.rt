@@ -1,4 +1,10 @@
 // A board in a lent array of 242 numbers: each record is read and put by its place. specs/Layout.antt says what the numbers mean.
+use common_numbers::BOARD_NUMBERS;
+use common_numbers::MASTER_NUMBERS;
+use common_numbers::MASTERS_FROM;
+use common_numbers::SHARES_FROM;
+use common_numbers::SLAVE_NUMBERS;
+use common_numbers::SLAVES_FROM;
 use description_board::Master;
 use description_board::Slave;
 ghost use mathlib.Core.Path.{_≡_};
@@ -6,7 +12,8 @@ ghost use Prim.Native.Nat.{_<_};
 ghost use lib.ListN.{getD, length, replicate};
 ghost use Rattle.description_board.specs.Records.{masterAt, slaveAt, sharesAt};
 ghost use Rattle.description_board.specs.Rules.{withMaster, withSlave};
-ghost use Rattle.description_layout.specs.Layout.{boardIn, withShareAt};
+ghost use Rattle.description_layout.specs.Layout.{boardIn};
+ghost use Rattle.description_layout.specs.Code.Puts.{withShareAt};
 
 // The count of numbers lent. A call of it with an array tells a proof that array's length, and costs nothing.
 pub fn count(l: &[u32]) -> usize
@@ -15,34 +22,34 @@ pub fn count(l: &[u32]) -> usize
     l.len()
 }
 
-pub fn master_count(board: &[u32; 242]) -> u32
+pub fn master_count(board: &[u32; BOARD_NUMBERS]) -> u32
     ensures { λ r. ⌜ r ≡ boardIn (now (board .entry)) .«master_count» ⌝ }
 {
     board[0]
 }
 
-pub fn slave_count(board: &[u32; 242]) -> u32
+pub fn slave_count(board: &[u32; BOARD_NUMBERS]) -> u32
     ensures { λ r. ⌜ r ≡ boardIn (now (board .entry)) .«slave_count» ⌝ }
 {
     board[1]
 }
 
-pub fn master_at(board: &[u32; 242], m: usize) -> Master
+pub fn master_at(board: &[u32; BOARD_NUMBERS], m: usize) -> Master
     requires { ⌜ m < 8 ⌝ }
     ensures { λ r. ⌜ r ≡ masterAt (boardIn (now (board .entry))) m ⌝ }
 {
-    let p = 2 + 2 * m;
+    let p = MASTERS_FROM + MASTER_NUMBERS * m;
     Master {
         width: board[p],
         burst: board[p + 1],
     }
 }
 
-pub fn slave_at(board: &[u32; 242], s: usize) -> Slave
+pub fn slave_at(board: &[u32; BOARD_NUMBERS], s: usize) -> Slave
     requires { ⌜ s < 16 ⌝ }
     ensures { λ r. ⌜ r ≡ slaveAt (boardIn (now (board .entry))) s ⌝ }
 {
-    let p = 18 + 6 * s;
+    let p = SLAVES_FROM + SLAVE_NUMBERS * s;
     Slave {
         base: board[p],
         span: board[p + 1],
@@ -54,42 +61,42 @@ pub fn slave_at(board: &[u32; 242], s: usize) -> Slave
 }
 
 // The shares at place i of the 128.
-pub fn share_in(board: &[u32; 242], i: usize) -> u32
+pub fn share_in(board: &[u32; BOARD_NUMBERS], i: usize) -> u32
     requires { ⌜ i < 128 ⌝ }
     ensures { λ r. ⌜ r ≡ getD (boardIn (now (board .entry)) .shares) i 0 ⌝ }
 {
-    board[114 + i]
+    board[SHARES_FROM + i]
 }
 
 // The shares of master m at slave s.
-pub fn shares_at(board: &[u32; 242], m: usize, s: usize) -> u32
+pub fn shares_at(board: &[u32; BOARD_NUMBERS], m: usize, s: usize) -> u32
     requires { ⌜ (m < 8) × (s < 16) ⌝ }
     ensures { λ r. ⌜ r ≡ sharesAt (boardIn (now (board .entry))) m s ⌝ }
 {
-    board[114 + (16 * m + s)]
+    board[SHARES_FROM + (16 * m + s)]
 }
 
 // One master more.
-pub fn put_master(board: &mut [u32; 242], width: u32, burst: u32)
+pub fn put_master(board: &mut [u32; BOARD_NUMBERS], width: u32, burst: u32)
     requires { ⌜ boardIn (now board) .«master_count» < 8 ⌝ }
     ensures { λ _. ⌜ boardIn (now (board .exit)) ≡ withMaster (boardIn (now (board .entry))) width burst ⌝ }
 {
     count(board);
     let n = master_count(board);
-    let p = 2 + 2 * n as usize;
+    let p = MASTERS_FROM + MASTER_NUMBERS * n as usize;
     board[p] = width;
     board[p + 1] = burst;
     board[0] = n + 1;
 }
 
 // One slave more.
-pub fn put_slave(board: &mut [u32; 242], s: Slave)
+pub fn put_slave(board: &mut [u32; BOARD_NUMBERS], s: Slave)
     requires { ⌜ boardIn (now board) .«slave_count» < 16 ⌝ }
     ensures { λ _. ⌜ boardIn (now (board .exit)) ≡ withSlave (boardIn (now (board .entry))) s ⌝ }
 {
     count(board);
     let n = slave_count(board);
-    let p = 18 + 6 * n as usize;
+    let p = SLAVES_FROM + SLAVE_NUMBERS * n as usize;
     board[p] = s.base;
     board[p + 1] = s.span;
     board[p + 2] = s.width;
@@ -100,33 +107,33 @@ pub fn put_slave(board: &mut [u32; 242], s: Slave)
 }
 
 // The shares at place i of the 128.
-pub fn put_share_at(board: &mut [u32; 242], i: usize, n: u32)
+pub fn put_share_at(board: &mut [u32; BOARD_NUMBERS], i: usize, n: u32)
     requires { ⌜ i < 128 ⌝ }
     ensures { λ _. ⌜ boardIn (now (board .exit)) ≡ withShareAt (boardIn (now (board .entry))) i n ⌝ }
 {
     count(board);
-    board[114 + i] = n;
+    board[SHARES_FROM + i] = n;
 }
 
-pub fn copy(to: &mut [u32; 242], from: &[u32; 242])
+pub fn copy(to: &mut [u32; BOARD_NUMBERS], from: &[u32; BOARD_NUMBERS])
     ensures { λ _. ⌜ now (to .exit) ≡ now (from .entry) ⌝ }
 {
     count(to);
     count(from);
     let mut i: usize = 0;
-    while i < 242 {
+    while i < BOARD_NUMBERS {
         to[i] = from[i];
         i += 1;
     }
 }
 
 // A board of zeros.
-pub fn clear(board: &mut [u32; 242])
+pub fn clear(board: &mut [u32; BOARD_NUMBERS])
     ensures { λ _. ⌜ now (board .exit) ≡ replicate 242 0 ⌝ }
 {
     count(board);
     let mut i: usize = 0;
-    while i < 242 {
+    while i < BOARD_NUMBERS {
         board[i] = 0;
         i += 1;
     }

@@ -15,7 +15,8 @@ use Rattle.common_text.proofs.Pieces.{prepend, prepend-nil, cut-rest, rest-more
 use Rattle.description_board.specs.declared.Item.{Item}
 use Rattle.description_board.specs.declared.Item.the-variants.{Malformed}
 use Rattle.description_lines.specs.Reader.{masterWord, slaveWord, shareWord, masterLine, slaveLine, shareLine}
-use Rattle.description_lines.specs.Reader.{itemOf, itemOfFields, itemsOf, itemsOfPieces, unended, LineFrom}
+use Rattle.description_lines.specs.Reader.{itemOf, itemOfFields, itemsOf, itemsOfPieces, unended}
+use Rattle.description_lines.specs.Code.LineFrom.{LineFrom}
 
 -- a line by its first field, which ends at e; m, s and h say whether that is "master", "slave", "share"
 module _

@@ -2,10 +2,9 @@
 -- Assumes nothing.
 use mathlib.Core.Bool.{cond}
 use mathlib.Core.List.{List, [], _∷_}
-use mathlib.Core.Path.{_≡_}
-use Prim.Native.Nat.{ℕ, _≤_, _<_}
+use Prim.Native.Nat.{ℕ}
 use lib.Dec.{eqb}
-use lib.ListN.{length, drop, getD}
+use lib.ListN.{getD}
 use Rattle.common_laws.specs.Bytes.{bytesOf}
 use Rattle.common_laws.specs.Lists.{same}
 use Rattle.common_text.specs.Fields.{split, comma, lineFeed, numbersOf}
@@ -75,9 +74,3 @@ itemsOfPieces (p ∷ (q ∷ ps)) = itemOf p ∷ itemsOfPieces (q ∷ ps)
 
 unfoldable pub itemsOf : List ℕ → List Item
 itemsOf text = itemsOfPieces (split lineFeed text)
-
--- "then lines in order": the line of a text that starts at place `at`, and the place where the next one starts
-pub record LineFrom (text : List ℕ) (at : ℕ) (item : Item) (next : ℕ) : Type 0 where
-  pub onward : at < next
-  pub within : next ≤ length text
-  pub lines : itemsOf (drop at text) ≡ item ∷ itemsOf (drop next text)

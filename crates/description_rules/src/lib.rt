@@ -2,6 +2,9 @@
 // is a lent array of numbers, to which each line that is not refused is added.
 mod refusals;
 
+use common_numbers::BAD_ORDER;
+use common_numbers::BAD_TEXT;
+use common_numbers::BOARD_NUMBERS;
 use description_board::Item;
 use description_board::Slave;
 use description_board::SlaveNumbers;
@@ -39,7 +42,7 @@ fn slave_of(n: SlaveNumbers) -> Slave
 }
 
 // A refusal: its number, and a board that is all zero.
-fn refused(board: &mut [u32; 242], number: u32) -> Progress
+fn refused(board: &mut [u32; BOARD_NUMBERS], number: u32) -> Progress
     ensures { λ r. ⌜ readingOf r (now (board .exit)) ≡ refused number ⌝ }
 {
     description_layout::clear(board);
@@ -60,7 +63,7 @@ pub fn start() -> Progress
 }
 
 // A master line after lines of which none was refused.
-fn step_master(board: &mut [u32; 242], p: Progress, width: u64, burst: u64) -> Progress
+fn step_master(board: &mut [u32; BOARD_NUMBERS], p: Progress, width: u64, burst: u64) -> Progress
     requires { ⌜ p .number ≡ 0 ⌝ }
     ensures { λ r. ⌜ readingOf r (now (board .exit)) ≡ step (readingOf p (now (board .entry))) (MasterLine width burst) ⌝ }
 {
@@ -76,7 +79,7 @@ fn step_master(board: &mut [u32; 242], p: Progress, width: u64, burst: u64) -> P
 }
 
 // A slave line after lines of which none was refused.
-fn step_slave(board: &mut [u32; 242], p: Progress, n: SlaveNumbers) -> Progress
+fn step_slave(board: &mut [u32; BOARD_NUMBERS], p: Progress, n: SlaveNumbers) -> Progress
     requires { ⌜ p .number ≡ 0 ⌝ }
     ensures { λ r. ⌜ readingOf r (now (board .exit)) ≡ step (readingOf p (now (board .entry))) (SlaveLine n) ⌝ }
 {
@@ -105,7 +108,13 @@ fn in_table(m: u64, s: u64) -> bool
 }
 
 // A share line after lines of which none was refused. A place past the 128 holds no share, as in share_or_none.
-fn step_share(board: &mut [u32; 242], p: Progress, m: u64, s: u64, shares: u64) -> Progress
+fn step_share(
+    board: &mut [u32; BOARD_NUMBERS],
+    p: Progress,
+    m: u64,
+    s: u64,
+    shares: u64,
+) -> Progress
     requires { ⌜ p .number ≡ 0 ⌝ }
     ensures { λ r. ⌜ readingOf r (now (board .exit)) ≡ step (readingOf p (now (board .entry))) (ShareLine m s shares) ⌝ }
 {
@@ -123,14 +132,14 @@ fn step_share(board: &mut [u32; 242], p: Progress, m: u64, s: u64, shares: u64) 
 }
 
 // One line more; a refusal stays.
-pub fn step(board: &mut [u32; 242], p: Progress, x: Item) -> Progress
+pub fn step(board: &mut [u32; BOARD_NUMBERS], p: Progress, x: Item) -> Progress
     ensures { λ r. ⌜ readingOf r (now (board .exit)) ≡ step (readingOf p (now (board .entry))) x ⌝ }
 {
     if p.number != 0 {
         return p;
     }
     match x {
-        Item::Malformed => refused(board, 1),
+        Item::Malformed => refused(board, BAD_TEXT),
         Item::MasterLine(width, burst) => step_master(board, p, width, burst),
         Item::SlaveLine(n) => step_slave(board, p, n),
         Item::ShareLine(m, s, shares) => step_share(board, p, m, s, shares),
@@ -138,7 +147,7 @@ pub fn step(board: &mut [u32; 242], p: Progress, x: Item) -> Progress
 }
 
 // After the last line: a board has a master and a slave.
-pub fn finish(board: &mut [u32; 242], p: Progress) -> Progress
+pub fn finish(board: &mut [u32; BOARD_NUMBERS], p: Progress) -> Progress
     ensures { λ r. ⌜ readingOf r (now (board .exit)) ≡ finish (readingOf p (now (board .entry))) ⌝ }
 {
     if p.number != 0 {
@@ -147,7 +156,7 @@ pub fn finish(board: &mut [u32; 242], p: Progress) -> Progress
     let masters = description_layout::master_count(board);
     let slaves = description_layout::slave_count(board);
     if (masters == 0) | (slaves == 0) {
-        return refused(board, 2);
+        return refused(board, BAD_ORDER);
     }
     p
 }

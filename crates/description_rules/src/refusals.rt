@@ -1,6 +1,17 @@
 // What a line of a description is refused for after what has been read: refusals 2 to 7.
 // Tests are joined by & and |, not by && and ||: each part is safe by itself, and a proof meets the whole as one test.
 // The board read so far is lent as its array of numbers: see board_layout.
+use common_numbers::BAD_BASE;
+use common_numbers::BAD_ORDER;
+use common_numbers::BAD_SHARE;
+use common_numbers::BAD_VALUE;
+use common_numbers::BOARD_NUMBERS;
+use common_numbers::MEMORY_BYTES;
+use common_numbers::MOST_BASE;
+use common_numbers::MOST_SHARES;
+use common_numbers::MOST_WAIT;
+use common_numbers::OVERLAP;
+use common_numbers::SPAN_TOTAL;
 use description_board::Slave;
 use description_board::SlaveNumbers;
 ghost use mathlib.Core.Path.{_≡_};
@@ -54,8 +65,8 @@ fn slave_values(n: SlaveNumbers) -> bool
     ensures { λ r. ⌜ r ≡ slaveValues n ⌝ }
 {
     let lists = member(n.width, &WIDTHS)
-        & (member(n.burst, &BURSTS) & ((n.read_wait <= 255) & (n.write_wait <= 255)));
-    (n.base <= 4294967295) & (member(n.span, &SPANS) & lists)
+        & (member(n.burst, &BURSTS) & ((n.read_wait <= MOST_WAIT) & (n.write_wait <= MOST_WAIT)));
+    (n.base <= MOST_BASE) & (member(n.span, &SPANS) & lists)
 }
 
 // Whether the span at base and that of slave s share an address. An end can pass the last address, so it is a u64.
@@ -68,7 +79,7 @@ fn meets(base: u32, span: u32, s: Slave) -> bool
 }
 
 // Whether the span at base overlaps that of one of the first n slaves.
-pub fn overlaps(board: &[u32; 242], n: usize, base: u32, span: u32) -> bool
+pub fn overlaps(board: &[u32; BOARD_NUMBERS], n: usize, base: u32, span: u32) -> bool
     requires { ⌜ n ≤ 16 ⌝ }
     ensures { λ r. ⌜ r ≡ overlaps base span (take n (boardIn (now (board .entry)) .slaves)) ⌝ }
 {
@@ -83,7 +94,7 @@ pub fn overlaps(board: &[u32; 242], n: usize, base: u32, span: u32) -> bool
 }
 
 // The spans of the first n slaves, and one span more, together: at most 17 u32, so no sum wraps.
-pub fn total_span(board: &[u32; 242], n: usize, span: u32) -> u64
+pub fn total_span(board: &[u32; BOARD_NUMBERS], n: usize, span: u32) -> u64
     requires { ⌜ n ≤ 16 ⌝ }
     ensures { λ r. ⌜ r ≡ totalSpan (take n (boardIn (now (board .entry)) .slaves)) + span ⌝ }
 {
@@ -98,46 +109,46 @@ pub fn total_span(board: &[u32; 242], n: usize, span: u32) -> u64
 }
 
 // What a master line is refused for, or 0.
-pub fn master_refusal(board: &[u32; 242], width: u64, burst: u64) -> u32
+pub fn master_refusal(board: &[u32; BOARD_NUMBERS], width: u64, burst: u64) -> u32
     ensures { λ r. ⌜ r ≡ masterRefusal (boardIn (now (board .entry))) width burst ⌝ }
 {
     let masters = description_layout::master_count(board);
     let slaves = description_layout::slave_count(board);
     if (0 < slaves) | (8 <= masters) {
-        return 2;
+        return BAD_ORDER;
     }
     if !(member(width, &WIDTHS) & member(burst, &BURSTS)) {
-        return 3;
+        return BAD_VALUE;
     }
     0
 }
 
 // What a slave line is refused for after lines of which the last was a share line or not, or 0.
-pub fn slave_refusal(board: &[u32; 242], sharing: bool, n: SlaveNumbers) -> u32
+pub fn slave_refusal(board: &[u32; BOARD_NUMBERS], sharing: bool, n: SlaveNumbers) -> u32
     ensures { λ r. ⌜ r ≡ slaveRefusal (boardIn (now (board .entry))) sharing n ⌝ }
 {
     let masters = description_layout::master_count(board);
     let slaves = description_layout::slave_count(board);
     if (masters == 0) | (sharing | (16 <= slaves)) {
-        return 2;
+        return BAD_ORDER;
     }
     if !slave_values(n) {
-        return 3;
+        return BAD_VALUE;
     }
     if n.base % n.span != 0 {
-        return 4;
+        return BAD_BASE;
     }
     if overlaps(board, slaves as usize, n.base as u32, n.span as u32) {
-        return 5;
+        return OVERLAP;
     }
-    if 65536 < total_span(board, slaves as usize, n.span as u32) {
-        return 6;
+    if MEMORY_BYTES < total_span(board, slaves as usize, n.span as u32) {
+        return SPAN_TOTAL;
     }
     0
 }
 
 // The shares at a place of the 128; 0 past them, where the counts of a board that no reader made can lead.
-pub fn share_or_none(board: &[u32; 242], at: u64) -> u32
+pub fn share_or_none(board: &[u32; BOARD_NUMBERS], at: u64) -> u32
     ensures { λ r. ⌜ r ≡ getD (boardIn (now (board .entry)) .shares) at 0 ⌝ }
 {
     if at < 128 {
@@ -147,25 +158,25 @@ pub fn share_or_none(board: &[u32; 242], at: u64) -> u32
 }
 
 // What a share line is refused for, or 0.
-pub fn share_refusal(board: &[u32; 242], m: u64, s: u64, shares: u64) -> u32
+pub fn share_refusal(board: &[u32; BOARD_NUMBERS], m: u64, s: u64, shares: u64) -> u32
     ensures { λ r. ⌜ r ≡ shareRefusal (boardIn (now (board .entry))) m s shares ⌝ }
 {
     let masters = description_layout::master_count(board);
     let slaves = description_layout::slave_count(board);
     if slaves == 0 {
-        return 2;
+        return BAD_ORDER;
     }
-    if (shares < 1) | (100 < shares) {
-        return 3;
+    if (shares < 1) | (MOST_SHARES < shares) {
+        return BAD_VALUE;
     }
     if masters as u64 <= m {
-        return 7;
+        return BAD_SHARE;
     }
     if slaves as u64 <= s {
-        return 7;
+        return BAD_SHARE;
     }
     if 0 < share_or_none(board, 16 * m + s) {
-        return 7;
+        return BAD_SHARE;
     }
     0
 }

@@ -16,11 +16,11 @@ use Rattle.fabric_state.specs.Records.{noLine}
 use Rattle.fabric_layout.specs.Layout.{stateIn, linesIn}
 use Rattle.fabric_layout.proofs.StateLaws.{transfers-length, slots-length}
 use Rattle.fabric_check.specs.Code.Targets.{targetsIn, requestMask}
-use Rattle.fabric_cycle.specs.Code.Cycles.{Passes as Accepts, Clocks as Cycled}
+use Rattle.fabric_cycle.specs.Code.Cycles.{Passes, Clocks as Cycled}
 use Rattle.fabric_cycle.proofs.AgainLaws.{same-requests}
 use Rattle.fabric.specs.Calls.{clockRefusal}
 use Rattle.fabric.specs.Running.{Run, standing, clockOn, run}
-use Rattle.fabric.specs.Lent.{Passes}
+use Rattle.fabric.specs.Lent.{Runs}
 use Rattle.fabric.proofs.ClockLaws.{exact-lengths}
 use Rattle.fabric.proofs.RunLaws.{Sized, reached, accepted-board, keeps-rules, refusal-again, on-next, on-spent, on-finished}
 
@@ -30,7 +30,7 @@ sized l = record { transfers = transfers-length l; slots = slots-length l }
 -- a run that is refused
 pub run-refused : (b : Board) (most : ℕ) (before lines : List ℕ) (d : Store) {n : ℕ} → n ≡ clockRefusal b (stateIn before) d
     → (n ≡ 0 → ⊥) → linesIn lines ≡ replicate 16 noLine
-    → Passes b most before before lines d d (record { number = n; clocks = 0; mask = 0 })
+    → Runs b most before before lines d d (record { number = n; clocks = 0; mask = 0 })
 unfolding run
 run-refused b most before lines d {n} e h q =
     let no = ne-eqb (clockRefusal b (stateIn before) d) 0 (λ z. h (e ∙ z)) in
@@ -66,12 +66,12 @@ module _ (b : Board) (most : ℕ) (before : List ℕ) (d : Store) (ok : clockRef
   ran : {after lines : List ℕ} {e : Store} (n mask : ℕ)
       → clockOn b most (standing 0 (record { state = stateIn before; store = d }))
       ≡ reached n mask (linesIn lines) (stateIn after) e
-      → Passes b most before after lines d e (record { number = 0; clocks = n; mask = mask })
+      → Runs b most before after lines d e (record { number = 0; clocks = n; mask = mask })
   unfolding run
   ran n mask f = record { answer = sym f ∙ sym (rw ok); kept = λ h. absurd (h refl) }
 
   module _ {requests now lines : List ℕ} {e : Store} {left : ℕ} (p : Passing b most before d requests now lines e left) where
-    pub passing-accepts : Accepts b (stateIn now)
+    pub passing-accepts : Passes b (stateIn now)
     passing-accepts = record {
       board = accepted-board b (stateIn now) e (p .free);
       state = keeps-rules b (stateIn now) e (p .free);
@@ -80,7 +80,7 @@ module _ (b : Board) (most : ℕ) (before : List ℕ) (d : Store) (ok : clockRef
     pub passing-lengths : (length (e .memory) ≡ memoryLength b) × (length (e .buffer) ≡ bufferLength)
     passing-lengths = exact-lengths b (stateIn now) e (p .free)
 
-    pub passing-spent : left ≡ 0 → Passes b most before now lines d e (record { number = 0; clocks = most; mask = 0 })
+    pub passing-spent : left ≡ 0 → Runs b most before now lines d e (record { number = 0; clocks = most; mask = 0 })
     passing-spent z =
         let all : most - left ≡ most = omega arith in
         ran most 0
@@ -111,5 +111,5 @@ module _ (b : Board) (most : ℕ) (before : List ℕ) (d : Store) (ok : clockRef
       }
 
       pub passing-finished : (mask ≡ 0 → ⊥)
-          → Passes b most before then shown d f (record { number = 0; clocks = most - (left - 1); mask = mask })
+          → Runs b most before then shown d f (record { number = 0; clocks = most - (left - 1); mask = mask })
       passing-finished h = ran (most - (left - 1)) mask (once ∙ on-finished b (left - 1) _ h)

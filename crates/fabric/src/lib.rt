@@ -1,4 +1,16 @@
 // The public calls on a board's fabric: reset, post, clock and run, on lent arrays of numbers.
+use common_numbers::BAD_LENGTH;
+use common_numbers::BAD_STATE;
+use common_numbers::BAD_WORDS;
+use common_numbers::BOARD_NUMBERS;
+use common_numbers::BUFFER_BYTES;
+use common_numbers::HELD;
+use common_numbers::LINES_NUMBERS;
+use common_numbers::MASTERS;
+use common_numbers::NO_MASTER;
+use common_numbers::SLAVES;
+use common_numbers::STATE_NUMBERS;
+use common_numbers::TAKEN;
 use description_board::Master;
 use fabric_accesses::Transfer;
 use fabric_state::State;
@@ -39,7 +51,7 @@ pub struct Ran {
 }
 
 // Reset: the board's own state, every slave last owned by the highest master.
-pub fn reset(board: &[u32; 242], state: &mut [u32; 120]) -> u32
+pub fn reset(board: &[u32; BOARD_NUMBERS], state: &mut [u32; STATE_NUMBERS]) -> u32
     ensures { λ r. ⌜ Resets (boardIn (now (board .entry))) (now (state .entry)) (now (state .exit)) r ⌝ }
 {
     let number = description_check::board_refusal(board);
@@ -63,7 +75,7 @@ fn words_length(ma: Master, t: Transfer) -> u64
 }
 
 // What the transfer t of master m, with `length` bytes of words, is refused for, or 0: whoever holds what.
-fn request_refusal(board: &[u32; 242], m: usize, t: Transfer, length: usize) -> u32
+fn request_refusal(board: &[u32; BOARD_NUMBERS], m: usize, t: Transfer, length: usize) -> u32
     requires { ⌜ (boardRefusal (boardIn (now board)) ≡ 0) × (m < boardIn (now board) .«master_count») ⌝ }
     ensures { λ r. ⌜ r ≡ requestRefusal (boardIn (now (board .entry))) m t length ⌝ }
 {
@@ -73,15 +85,15 @@ fn request_refusal(board: &[u32; 242], m: usize, t: Transfer, length: usize) -> 
     }
     let ma = description_layout::master_at(board, m);
     if length as u64 != words_length(ma, t) {
-        return 18;
+        return BAD_WORDS;
     }
     0
 }
 
 // What a post is refused for, or 0: of the transfer t by master m, with a buffer of `room` bytes and `length` bytes of words.
 fn post_refusal_by(
-    board: &[u32; 242],
-    state: &[u32; 120],
+    board: &[u32; BOARD_NUMBERS],
+    state: &[u32; STATE_NUMBERS],
     room: usize,
     m: u32,
     t: Transfer,
@@ -89,31 +101,31 @@ fn post_refusal_by(
 ) -> u32
     ensures { λ r. ⌜ r ≡ postRefusalBy (boardIn (now (board .entry))) (stateIn (now (state .entry))) room m t length ⌝ }
 {
-    let mut targets = [0u32; 8];
+    let mut targets = [0u32; MASTERS];
     let checked = fabric_check::ready(board, state, &mut targets);
     if checked.number != 0 {
         return checked.number;
     }
-    if room != 4096 {
-        return 8;
+    if room != BUFFER_BYTES {
+        return BAD_LENGTH;
     }
     if !checked.sound {
-        return 9;
+        return BAD_STATE;
     }
     if description_layout::master_count(board) <= m {
-        return 11;
+        return NO_MASTER;
     }
     let before = fabric_layout::transfer_at(state, m as usize);
     if before.held {
-        return 12;
+        return HELD;
     }
     request_refusal(board, m as usize, t, length)
 }
 
 // Post: a master hands in one transfer. A write's words are copied to the front of the master's part of the buffer.
 pub fn post(
-    board: &[u32; 242],
-    state: &mut [u32; 120],
+    board: &[u32; BOARD_NUMBERS],
+    state: &mut [u32; STATE_NUMBERS],
     buffer: &mut [u8],
     master: u32,
     write: bool,
@@ -144,7 +156,7 @@ pub fn post(
 
 // What a clock is refused for, or 0: by the board's number, whether the state breaks no rule, and the bytes lent.
 fn clock_refusal_by(
-    board: &[u32; 242],
+    board: &[u32; BOARD_NUMBERS],
     number: u32,
     sound: bool,
     memory: usize,
@@ -159,27 +171,27 @@ fn clock_refusal_by(
     let count = description_layout::slave_count(board) as usize;
     let room = description_rules::total_span(board, count, 0);
     if memory as u64 != room {
-        return 8;
+        return BAD_LENGTH;
     }
-    if buffer != 4096 {
-        return 8;
+    if buffer != BUFFER_BYTES {
+        return BAD_LENGTH;
     }
-    if sound { 0 } else { 9 }
+    if sound { TAKEN } else { BAD_STATE }
 }
 
 // Clock: one cycle of the whole fabric. What is refused is checked in rising order; where nothing is, each slave acts.
 pub fn clock(
-    board: &[u32; 242],
-    state: &mut [u32; 120],
+    board: &[u32; BOARD_NUMBERS],
+    state: &mut [u32; STATE_NUMBERS],
     memory: &mut [u8],
     buffer: &mut [u8],
-    lines: &mut [u32; 96],
+    lines: &mut [u32; LINES_NUMBERS],
 ) -> Answer
     ensures { λ r. ⌜ Clocks (boardIn (now (board .entry))) (now (state .entry)) (now (state .exit)) (now (lines .exit))
         (record { memory = now (memory .entry); buffer = now (buffer .entry) })
         (record { memory = now (memory .exit); buffer = now (buffer .exit) }) r ⌝ }
 {
-    let mut targets = [0u32; 8];
+    let mut targets = [0u32; MASTERS];
     let checked = fabric_check::ready(board, state, &mut targets);
     let number = clock_refusal_by(
         board,
@@ -195,7 +207,7 @@ pub fn clock(
             mask: 0,
         };
     }
-    let mut requests = [0u32; 16];
+    let mut requests = [0u32; SLAVES];
     fabric_check::request_masks(&targets, &mut requests);
     let mask = fabric_cycle::cycle(board, state, &requests, lines, memory, buffer);
     Answer {
@@ -217,18 +229,18 @@ fn run_answer(n: u32, passed: u32, finished: u32) -> Ran
 // Run: clocks until a master finishes or `most` of them have passed. Board and state are checked once: a clock leaves a state
 // that breaks no rule, and as long as no master finishes every transfer is for the slave that it was for.
 pub fn run(
-    board: &[u32; 242],
-    state: &mut [u32; 120],
+    board: &[u32; BOARD_NUMBERS],
+    state: &mut [u32; STATE_NUMBERS],
     memory: &mut [u8],
     buffer: &mut [u8],
-    lines: &mut [u32; 96],
+    lines: &mut [u32; LINES_NUMBERS],
     most: u32,
 ) -> Ran
     ensures { λ r. ⌜ Runs (boardIn (now (board .entry))) most (now (state .entry)) (now (state .exit)) (now (lines .exit))
         (record { memory = now (memory .entry); buffer = now (buffer .entry) })
         (record { memory = now (memory .exit); buffer = now (buffer .exit) }) r ⌝ }
 {
-    let mut targets = [0u32; 8];
+    let mut targets = [0u32; MASTERS];
     let checked = fabric_check::ready(board, state, &mut targets);
     let number = clock_refusal_by(
         board,
@@ -241,7 +253,7 @@ pub fn run(
     if number != 0 {
         return run_answer(number, 0, 0);
     }
-    let mut requests = [0u32; 16];
+    let mut requests = [0u32; SLAVES];
     fabric_check::request_masks(&targets, &mut requests);
     let mut left = most;
     while 0 < left {

@@ -18,9 +18,10 @@ use Rattle.description_board.specs.Rules.{widths, spans}
 use Rattle.description_board.proofs.RuleLaws.{width-bound}
 use Rattle.fabric_accesses.specs.declared.Transfer.{Transfer}
 use Rattle.fabric_lanes.specs.Lanes.{allLanes}
-use Rattle.fabric_accesses.specs.Decoding.{Span}
+use Rattle.fabric_accesses.specs.Code.Pairs.{Span}
 use Rattle.fabric_accesses.specs.Accesses.{ratio, accesses, accessBytes, firstByte, accessOffset, wordOffset}
-use Rattle.fabric_accesses.specs.Accesses.{writeLanes, slaveLanes, InWord}
+use Rattle.fabric_accesses.specs.Accesses.{writeLanes, slaveLanes}
+use Rattle.fabric_accesses.specs.Code.Pairs.{InWord}
 use Rattle.fabric_accesses.proofs.DecodeLaws.{span-eight, span-of}
 
 -- the lanes of each direction

@@ -14,7 +14,8 @@ use Rattle.common_laws.specs.Lists.{member}
 use Rattle.common_laws.proofs.Members.{of-member}
 use Rattle.description_board.specs.declared.Slave.{Slave}
 use Rattle.description_board.specs.Rules.{spans}
-use Rattle.fabric_accesses.specs.Decoding.{agrees, Span}
+use Rattle.fabric_accesses.specs.Decoding.{agrees}
+use Rattle.fabric_accesses.specs.Code.Pairs.{Span}
 
 pub span-pos : {n : ℕ} → Span n → 0 < n
 span-pos s = rw (s .power) (pow-pos (s .log))

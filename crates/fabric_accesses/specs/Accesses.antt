@@ -3,7 +3,7 @@
 -- that is not refused is not below the base.
 -- Assumes nothing.
 use mathlib.Core.Bool.{Bool, cond}
-use Prim.Native.Nat.{ℕ, _+_, _-_, _*_, _/_, _%_, _^_, _≤_, min}
+use Prim.Native.Nat.{ℕ, _+_, _-_, _*_, _/_, _%_, _^_, min}
 use lib.Dec.{ltb}
 use Rattle.description_board.specs.declared.Master.{Master}
 use Rattle.description_board.specs.declared.Slave.{Slave}
@@ -45,11 +45,6 @@ writeLanes ma sl t a =
 -- lanes it writes."
 unfoldable pub slaveLanes : Master → Slave → Transfer → ℕ → ℕ
 slaveLanes ma sl t a = cond (t .write) (writeLanes ma sl t a) (allLanes (sl .width))
-
--- access a lies within one slave word of at most 8 lanes
-pub record InWord (ma : Master) (sl : Slave) (t : Transfer) (a : ℕ) : Type 0 where
-  pub width : sl .width ≤ 8
-  pub inside : accessOffset ma sl t a % sl .width + accessBytes ma sl ≤ sl .width
 
 -- the wait of a transfer's direction
 unfoldable pub waitOf : Slave → Transfer → ℕ

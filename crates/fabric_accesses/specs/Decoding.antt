@@ -1,8 +1,7 @@
 -- Address decoding.
 -- Assumes nothing.
 use mathlib.Core.Bool.{Bool, _&&_}
-use mathlib.Core.Path.{_≡_}
-use Prim.Native.Nat.{ℕ, _/_, _≤_, _^_}
+use Prim.Native.Nat.{ℕ, _/_}
 use lib.Dec.{eqb}
 use Rattle.description_board.specs.declared.Slave.{Slave}
 use Rattle.description_board.specs.declared.Board.{Board}
@@ -21,10 +20,3 @@ selects b m address s = connected b m s && agrees (slaveAt b s) address
 -- the slave that the address selects for master m, or the count of slaves where there is none
 unfoldable pub targetOf : Board → ℕ → ℕ → ℕ
 targetOf b m address = first (selects b m address) (b .«slave_count»)
-
--- a span is a power of two from 8 to 65,536
-pub record Span (n : ℕ) : Type 0 where
-  pub log : ℕ
-  pub power : n ≡ 2 ^ log
-  pub least : 3 ≤ log
-  pub most : log ≤ 16

@@ -7,9 +7,11 @@ ghost use mathlib.Core.Bool.{true};
 ghost use Prim.Native.Nat.{_*_, _-_, _/_, _%_, _≤_};
 ghost use Rattle.common_laws.specs.Lists.{member};
 ghost use Rattle.description_board.specs.Rules.{widths, bursts};
-ghost use Rattle.fabric_accesses.specs.Decoding.{agrees, Span};
+ghost use Rattle.fabric_accesses.specs.Decoding.{agrees};
+ghost use Rattle.fabric_accesses.specs.Code.Pairs.{Span};
 ghost use Rattle.fabric_accesses.specs.Accesses.{ratio, accesses, accessBytes, firstByte, accessOffset, wordOffset};
-ghost use Rattle.fabric_accesses.specs.Accesses.{writeLanes, slaveLanes, InWord, waitOf, ownLength};
+ghost use Rattle.fabric_accesses.specs.Accesses.{writeLanes, slaveLanes, waitOf, ownLength};
+ghost use Rattle.fabric_accesses.specs.Code.Pairs.{InWord};
 ghost use Rattle.fabric_accesses.specs.Runs.{runLimit, placeOf, runOf};
 ghost use Rattle.fabric_accesses.specs.Code.Pairs.{Widths, LegalPair};
 

@@ -1,5 +1,6 @@
 // Bytes of a post and of an access. Each master's words live in its own 512 bytes of the buffer: the functions that move bytes
 // are lent that part alone.
+use common_numbers::PART_BYTES;
 use description_board::Master;
 use description_board::Slave;
 use fabric_accesses::Transfer;
@@ -32,8 +33,8 @@ pub fn post_words(buffer: &mut [u8], m: usize, words: &[u8])
     requires { ⌜ (length (now buffer) ≡ bufferLength) × (m < 8) × (length (now words) ≤ 512) ⌝ }
     ensures { λ r. ⌜ now (buffer .exit) ≡ postedWords m (now (words .entry)) (now (buffer .entry)) ⌝ }
 {
-    let start = 512 * m;
-    let end = start + 512;
+    let start = PART_BYTES * m;
+    let end = start + PART_BYTES;
     take_words(&mut buffer[start..end], words);
 }
 
@@ -56,8 +57,8 @@ fn read_access(memory: &[u8], from: usize, buffer: &mut [u8], m: usize, first: u
         × (from + (first + count) ≤ length (now memory)) ⌝ }
     ensures { λ r. ⌜ now (buffer .exit) ≡ move all (now (memory .entry)) from (partOf m) first count (now (buffer .entry)) ⌝ }
 {
-    let start = 512 * m;
-    let end = start + 512;
+    let start = PART_BYTES * m;
+    let end = start + PART_BYTES;
     store_words(memory, from, &mut buffer[start..end], first, count);
 }
 
@@ -112,8 +113,8 @@ fn write_access(
     ensures { λ r. ⌜ now (memory .exit)
         ≡ move (λ i. bit lanes (i % width)) (now (buffer .entry)) (partOf m) at first count (now (memory .entry)) ⌝ }
 {
-    let start = 512 * m;
-    let end = start + 512;
+    let start = PART_BYTES * m;
+    let end = start + PART_BYTES;
     write_words(memory, at, &buffer[start..end], first, count, lanes, width);
 }
 

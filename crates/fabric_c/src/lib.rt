@@ -1,5 +1,8 @@
 // The calls for C, as include/fabric.h declares them: each is the library's call of that name, on the same arrays. What a call
 // answers beside its number goes to numbers that C lends for it.
+use common_numbers::BOARD_NUMBERS;
+use common_numbers::LINES_NUMBERS;
+use common_numbers::STATE_NUMBERS;
 ghost use mathlib.Core.Path.{_≡_};
 ghost use lib.ListN.{getD, length};
 ghost use Rattle.description_layout.specs.Layout.{boardIn};
@@ -19,7 +22,7 @@ pub extern "C" fn fabric_wait(text: &[u8], master: u32, slave: u32, out: &mut [u
 }
 
 #[no_mangle]
-pub extern "C" fn fabric_read(text: &[u8], board: &mut [u32; 242]) -> u32
+pub extern "C" fn fabric_read(text: &[u8], board: &mut [u32; BOARD_NUMBERS]) -> u32
     ensures { λ r. ⌜ Read (now (text .entry)) (now (board .entry)) (now (board .exit)) r ⌝ }
 {
     description::read(text, board)
@@ -44,7 +47,10 @@ pub extern "C" fn fabric_refused_at(text: &[u8], line: &mut [usize; 1]) -> u32
 }
 
 #[no_mangle]
-pub extern "C" fn fabric_reset(board: &[u32; 242], state: &mut [u32; 120]) -> u32
+pub extern "C" fn fabric_reset(
+    board: &[u32; BOARD_NUMBERS],
+    state: &mut [u32; STATE_NUMBERS],
+) -> u32
     ensures { λ r. ⌜ Resets (boardIn (now (board .entry))) (now (state .entry)) (now (state .exit)) r ⌝ }
 {
     fabric::reset(board, state)
@@ -52,8 +58,8 @@ pub extern "C" fn fabric_reset(board: &[u32; 242], state: &mut [u32; 120]) -> u3
 
 #[no_mangle]
 pub extern "C" fn fabric_post(
-    board: &[u32; 242],
-    state: &mut [u32; 120],
+    board: &[u32; BOARD_NUMBERS],
+    state: &mut [u32; STATE_NUMBERS],
     buffer: &mut [u8],
     master: u32,
     write: u32,
@@ -81,11 +87,11 @@ pub extern "C" fn fabric_post(
 
 #[no_mangle]
 pub extern "C" fn fabric_clock(
-    board: &[u32; 242],
-    state: &mut [u32; 120],
+    board: &[u32; BOARD_NUMBERS],
+    state: &mut [u32; STATE_NUMBERS],
     memory: &mut [u8],
     buffer: &mut [u8],
-    lines: &mut [u32; 96],
+    lines: &mut [u32; LINES_NUMBERS],
     mask: &mut [u32; 1],
 ) -> u32
     ensures { λ r. ⌜ Clocks (boardIn (now (board .entry))) (now (state .entry)) (now (state .exit)) (now (lines .exit))
@@ -101,11 +107,11 @@ pub extern "C" fn fabric_clock(
 
 #[no_mangle]
 pub extern "C" fn fabric_run(
-    board: &[u32; 242],
-    state: &mut [u32; 120],
+    board: &[u32; BOARD_NUMBERS],
+    state: &mut [u32; STATE_NUMBERS],
     memory: &mut [u8],
     buffer: &mut [u8],
-    lines: &mut [u32; 96],
+    lines: &mut [u32; LINES_NUMBERS],
     most: u32,
     clocks: &mut [u32; 1],
     mask: &mut [u32; 1],

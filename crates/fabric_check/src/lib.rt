@@ -2,6 +2,9 @@
 // and |, not by && and ||: each part is safe by itself, and a proof meets the whole as one test.
 mod transfers;
 
+use common_numbers::BOARD_NUMBERS;
+use common_numbers::MASTERS;
+use common_numbers::STATE_NUMBERS;
 use description_board::Master;
 use description_board::Slave;
 use fabric_accesses::Transfer;
@@ -21,7 +24,12 @@ pub use transfers::weight_of;
 
 // Whether the transfer t of master m breaks no rule; where it breaks none, the slave that it is for is left in `targets`. The
 // rules ask for that slave and so does the call that follows: an address is decoded once.
-fn held_at(board: &[u32; 242], m: usize, t: Transfer, targets: &mut [u32; 8]) -> bool
+fn held_at(
+    board: &[u32; BOARD_NUMBERS],
+    m: usize,
+    t: Transfer,
+    targets: &mut [u32; MASTERS],
+) -> bool
     requires { ⌜ (boardRefusal (boardIn (now board)) ≡ 0) × (m < 8) ⌝ }
     ensures { λ r. ⌜ Held (boardIn (now (board .entry))) m t r (now (targets .entry)) (now (targets .exit)) ⌝ }
 {
@@ -42,7 +50,11 @@ fn held_at(board: &[u32; 242], m: usize, t: Transfer, targets: &mut [u32; 8]) ->
 }
 
 // Whether no transfer breaks a rule; where none does, the slave of each is left in `targets`. One pass decodes and checks.
-fn sound_transfers(board: &[u32; 242], st: &[u32; 120], targets: &mut [u32; 8]) -> bool
+fn sound_transfers(
+    board: &[u32; BOARD_NUMBERS],
+    st: &[u32; STATE_NUMBERS],
+    targets: &mut [u32; MASTERS],
+) -> bool
     requires { ⌜ boardRefusal (boardIn (now board)) ≡ 0 ⌝ }
     ensures { λ r. ⌜ Answered (boardIn (now (board .entry))) (stateIn (now (st .entry)))
         (every (soundTransfer (boardIn (now (board .entry))) (stateIn (now (st .entry)))) 8) r (now (targets .exit)) ⌝ }
@@ -76,7 +88,11 @@ fn sound_slot_by(slot: Slot, share: u32, here: bool, ma: Master, sl: Slave, t: T
 }
 
 // Whether no slot breaks a rule. Each slot is read once.
-fn sound_slots(board: &[u32; 242], st: &[u32; 120], targets: &[u32; 8]) -> bool
+fn sound_slots(
+    board: &[u32; BOARD_NUMBERS],
+    st: &[u32; STATE_NUMBERS],
+    targets: &[u32; MASTERS],
+) -> bool
     requires { ⌜ Decoded (boardIn (now board)) (stateIn (now st)) (now targets) ⌝ }
     ensures { λ r. ⌜ r ≡ every (soundSlot (boardIn (now (board .entry))) (stateIn (now (st .entry))))
         (boardIn (now (board .entry)) .«slave_count») ⌝ }
@@ -104,7 +120,11 @@ fn sound_slots(board: &[u32; 242], st: &[u32; 120], targets: &[u32; 8]) -> bool
 }
 
 // Whether the state breaks no rule; where it breaks none, the slave of each transfer is left in `targets`.
-fn sound(board: &[u32; 242], st: &[u32; 120], targets: &mut [u32; 8]) -> bool
+fn sound(
+    board: &[u32; BOARD_NUMBERS],
+    st: &[u32; STATE_NUMBERS],
+    targets: &mut [u32; MASTERS],
+) -> bool
     requires { ⌜ boardRefusal (boardIn (now board)) ≡ 0 ⌝ }
     ensures { λ r. ⌜ Answered (boardIn (now (board .entry))) (stateIn (now (st .entry)))
         (sound (boardIn (now (board .entry))) (stateIn (now (st .entry)))) r (now (targets .exit)) ⌝ }
@@ -124,7 +144,11 @@ pub struct Checked {
 
 // The board and the state checked once a call: the board's refusal first, then the state. Where neither is refused, the slave
 // of each master's transfer is left in `targets`: the array is the caller's, so that no copy of it is made.
-pub fn ready(board: &[u32; 242], st: &[u32; 120], targets: &mut [u32; 8]) -> Checked
+pub fn ready(
+    board: &[u32; BOARD_NUMBERS],
+    st: &[u32; STATE_NUMBERS],
+    targets: &mut [u32; MASTERS],
+) -> Checked
     ensures { λ r. ⌜ Preconditions (boardIn (now (board .entry))) (stateIn (now (st .entry))) r (now (targets .exit)) ⌝ }
 {
     let number = description_check::board_refusal(board);

@@ -1,5 +1,13 @@
 // Transfers: which slave each is for, who requests a slave, and what a transfer is refused for.
 // Tests are joined by & and |, not by && and ||: each part is safe by itself, and a proof meets the whole as one test.
+use common_numbers::BAD_ADDRESS;
+use common_numbers::BAD_BEATS;
+use common_numbers::BAD_LANES;
+use common_numbers::BOARD_NUMBERS;
+use common_numbers::MASTERS;
+use common_numbers::NOT_CONNECTED;
+use common_numbers::PAST_END;
+use common_numbers::SLAVES;
 use description_board::Master;
 use description_board::Slave;
 use fabric_accesses::Transfer;
@@ -18,7 +26,7 @@ ghost use Rattle.fabric_check.specs.Code.Decoded.{Decodes};
 
 // The first slave that an address selects for master m, or the count of slaves. Most slaves are ruled out by their address, so
 // that shares are read only where it agrees.
-pub fn target_of(board: &[u32; 242], m: usize, address: u32) -> u32
+pub fn target_of(board: &[u32; BOARD_NUMBERS], m: usize, address: u32) -> u32
     requires { ⌜ Decodes (boardIn (now board)) × m < 8 ⌝ }
     ensures { λ r. ⌜ r ≡ targetOf (boardIn (now (board .entry))) m address ⌝ }
 {
@@ -47,7 +55,7 @@ pub fn weight_of(on: bool, m: u32) -> u32
 
 // The requests for each slave: bit m is 1 where the transfer of master m is for it. One pass over the masters adds them all to an
 // array of zeros; a target that is no slave adds 0, so that the pass has no branch.
-pub fn request_masks(targets: &[u32; 8], out: &mut [u32; 16])
+pub fn request_masks(targets: &[u32; MASTERS], out: &mut [u32; SLAVES])
     requires { ⌜ now out ≡ replicate 16 0 ⌝ }
     ensures { λ _. ⌜ now (out .exit) ≡ table (requestMask (now (targets .entry))) 16 ⌝ }
 {
@@ -68,27 +76,27 @@ pub fn transfer_refusal_by(ma: Master, sl: Slave, t: Transfer, target: u32, coun
     ensures { λ r. ⌜ r ≡ transferRefusalBy ma sl t target count ⌝ }
 {
     if (t.beats == 0) | (ma.burst < t.beats) {
-        return 13;
+        return BAD_BEATS;
     }
     if t.address & (ma.width - 1) != 0 {
-        return 14;
+        return BAD_ADDRESS;
     }
     if !fabric_lanes::post_lanes(ma.width, t.lanes, t.beats) {
-        return 15;
+        return BAD_LANES;
     }
     if target == count {
-        return 16;
+        return NOT_CONNECTED;
     }
     // an end can pass the last address, so it is a u64
     let bytes = t.beats as u64 * ma.width as u64;
     if sl.base as u64 + (sl.span as u64) < t.address as u64 + bytes {
-        return 17;
+        return PAST_END;
     }
     0
 }
 
 // What the transfer t of master m is refused for, or 0.
-pub fn transfer_refusal(board: &[u32; 242], m: usize, t: Transfer) -> u32
+pub fn transfer_refusal(board: &[u32; BOARD_NUMBERS], m: usize, t: Transfer) -> u32
     requires { ⌜ (boardRefusal (boardIn (now board)) ≡ 0) × (m < boardIn (now board) .«master_count») ⌝ }
     ensures { λ r. ⌜ r ≡ transferRefusal (boardIn (now (board .entry))) m t ⌝ }
 {

@@ -41,7 +41,7 @@ use Rattle.fabric_state.proofs.Sound.{Sound}
 use Rattle.fabric_state.proofs.SoundLaws.{sound-facts, requester, grant-sound, finished-asks}
 use Rattle.fabric_state.proofs.StepLaws.{line-owner, finished-serving}
 use Rattle.fabric_state.proofs.DecodeLaws.{requests-one}
-use Rattle.fabric_layout.specs.Layout.{withSlot, firstLines}
+use Rattle.fabric_layout.specs.Code.Puts.{withSlot, firstLines}
 use Rattle.fabric_layout.proofs.StateLaws.{first-put}
 use Rattle.fabric_check.specs.Code.Targets.{targetsIn, requestMask}
 use Rattle.fabric_check.proofs.TargetLaws.{mask-requests}

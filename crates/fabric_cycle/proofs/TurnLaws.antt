@@ -30,7 +30,7 @@ use Rattle.fabric_state.specs.declared.Line.{Line}
 use Rattle.fabric_state.specs.declared.Step.{Step}
 use Rattle.fabric_state.specs.Records.{noLine, transferAt, slotAt, arbiterOf}
 use Rattle.fabric_state.specs.Control.{slotGranted}
-use Rattle.fabric_layout.specs.Layout.{withSlot}
+use Rattle.fabric_layout.specs.Code.Puts.{withSlot}
 use Rattle.fabric_cycle.specs.Code.Serving.{stepFrom, Serves, Served}
 use Rattle.fabric_cycle.proofs.ServeLaws.{from-resting, carried-resting}
 use Rattle.fabric_cycle.specs.Code.Turns.{slotAsked, stepAt, carriedAt, endedTransfer, stateTurned, Serving, Turned}

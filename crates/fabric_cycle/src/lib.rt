@@ -2,6 +2,10 @@
 // changed in place.
 mod slave;
 
+use common_numbers::BOARD_NUMBERS;
+use common_numbers::LINES_NUMBERS;
+use common_numbers::SLAVES;
+use common_numbers::STATE_NUMBERS;
 use fabric_accesses::Transfer;
 use fabric_arbiter::Winner;
 use fabric_state::Line;
@@ -20,7 +24,7 @@ ghost use Rattle.fabric_cycle.specs.Code.Cycles.{Passes, Clocks};
 ghost use Rattle.fabric_cycle.specs.Code.Turns.{slotAsked, endedTransfer, Ready, Serving, Turned};
 
 // Rule 1 at slave s, by a mask of who requests it: shares and beats are read once it is known whose.
-fn slot_asked(board: &[u32; 242], st: &[u32; 120], s: usize, mask: u32) -> Slot
+fn slot_asked(board: &[u32; BOARD_NUMBERS], st: &[u32; STATE_NUMBERS], s: usize, mask: u32) -> Slot
     requires { ⌜ (s < 16) × (mask < 256) ⌝ }
     ensures { λ r. ⌜ r ≡ slotAsked (boardIn (now (board .entry))) (stateIn (now (st .entry))) s mask ⌝ }
 {
@@ -48,7 +52,7 @@ fn slot_asked(board: &[u32; 242], st: &[u32; 120], s: usize, mask: u32) -> Slot
 }
 
 // The transfer of a finished master ends.
-fn end_transfer(st: &mut [u32; 120], m: usize, finished: bool)
+fn end_transfer(st: &mut [u32; STATE_NUMBERS], m: usize, finished: bool)
     requires { ⌜ m < 8 ⌝ }
     ensures { λ _. ⌜ stateIn (now (st .exit)) ≡ endedTransfer (stateIn (now (st .entry))) m finished ⌝ }
 {
@@ -66,12 +70,12 @@ fn end_transfer(st: &mut [u32; 120], m: usize, finished: bool)
 
 // Rules 2 and 3 at slave s, which serves: `slot` is its slot after rule 1. Answers the bit of its owner, where it is finished.
 fn serve_at(
-    board: &[u32; 242],
-    st: &mut [u32; 120],
+    board: &[u32; BOARD_NUMBERS],
+    st: &mut [u32; STATE_NUMBERS],
     s: usize,
     slot: Slot,
     start: usize,
-    lines: &mut [u32; 96],
+    lines: &mut [u32; LINES_NUMBERS],
     memory: &mut [u8],
     buffer: &mut [u8],
 ) -> u32
@@ -98,12 +102,12 @@ fn serve_at(
 // Slave s in one clock; its span starts at `start`. Answers the bit of the master that it finishes. A slave that does not
 // serve shows nothing.
 fn turn(
-    board: &[u32; 242],
-    st: &mut [u32; 120],
+    board: &[u32; BOARD_NUMBERS],
+    st: &mut [u32; STATE_NUMBERS],
     s: usize,
     mask: u32,
     start: usize,
-    lines: &mut [u32; 96],
+    lines: &mut [u32; LINES_NUMBERS],
     memory: &mut [u8],
     buffer: &mut [u8],
 ) -> u32
@@ -136,10 +140,10 @@ fn turn(
 // clock. A slave's slot is read at its own turn only, and a transfer that a slave is to serve is for that slave alone: so what
 // a slave reads in the state that is being changed stood there before the clock. Answers the mask of masters finished.
 pub fn cycle(
-    board: &[u32; 242],
-    st: &mut [u32; 120],
-    requests: &[u32; 16],
-    lines: &mut [u32; 96],
+    board: &[u32; BOARD_NUMBERS],
+    st: &mut [u32; STATE_NUMBERS],
+    requests: &[u32; SLAVES],
+    lines: &mut [u32; LINES_NUMBERS],
     memory: &mut [u8],
     buffer: &mut [u8],
 ) -> u32

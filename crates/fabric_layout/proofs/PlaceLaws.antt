@@ -18,7 +18,8 @@ use Rattle.fabric_state.specs.declared.Slot.{Slot}
 use Rattle.fabric_state.specs.declared.Line.{Line}
 use Rattle.fabric_state.specs.Records.{noSlot, transferAt, slotAt}
 use Rattle.fabric_state.specs.Posting.{withTransfer}
-use Rattle.fabric_layout.specs.Layout.{marked, transferFrom, slotFrom, stateIn, withSlot, lineFrom, linesIn}
+use Rattle.fabric_layout.specs.Layout.{marked, transferFrom, slotFrom, stateIn, lineFrom, linesIn}
+use Rattle.fabric_layout.specs.Code.Puts.{withSlot}
 
 mark-back : (b : Bool) {n : ℕ} → n ≡ cond b 1 0 → marked n ≡ b
 mark-back true e = rw e

@@ -19,7 +19,8 @@ use Rattle.fabric_state.specs.declared.Line.{Line}
 use Rattle.fabric_state.specs.Records.{noSlot, noLine, transferAt, slotAt}
 use Rattle.fabric_state.specs.Posting.{withTransfer}
 use Rattle.fabric_state.specs.Resetting.{resetState}
-use Rattle.fabric_layout.specs.Layout.{stateIn, transferFrom, slotFrom, withSlot, lineFrom, linesIn, firstLines, resetSlot}
+use Rattle.fabric_layout.specs.Layout.{stateIn, transferFrom, slotFrom, lineFrom, linesIn}
+use Rattle.fabric_layout.specs.Code.Puts.{withSlot, firstLines, resetSlot}
 
 module _ (l : List ℕ) where
   pub transfers-length : length (stateIn l .transfers) ≡ 8

@@ -1,17 +1,16 @@
 -- A state and a clock's lines as arrays of numbers, one u32 for each field. Every array of numbers is a state, or lines: what
 -- the numbers mean is said for each of them, and the rules refuse what is out of range.
 -- Assumes nothing.
-use mathlib.Core.Bool.{Bool, cond, not}
+use mathlib.Core.Bool.{Bool, not}
 use mathlib.Core.List.{List}
 use Prim.Native.Nat.{ℕ, _+_, _*_}
-use lib.Dec.{ltb, eqb}
-use lib.ListN.{getD, set}
+use lib.Dec.{eqb}
+use lib.ListN.{getD}
 use Rattle.common_laws.specs.Lists.{table}
 use Rattle.fabric_accesses.specs.declared.Transfer.{Transfer}
 use Rattle.fabric_state.specs.declared.Slot.{Slot}
 use Rattle.fabric_state.specs.declared.State.{State}
 use Rattle.fabric_state.specs.declared.Line.{Line}
-use Rattle.fabric_state.specs.Records.{noLine, noSlot}
 
 -- a mark: 0 is no, every other number is yes
 abbrev pub marked : ℕ → Bool
@@ -43,10 +42,6 @@ stateIn l = record {
   slots = table (λ s. slotFrom l (40 + 5 * s)) 16;
 }
 
--- a state with one slot set. With a transfer set: `Posting.withTransfer`
-unfoldable pub withSlot : State → ℕ → Slot → State
-withSlot st s x = record { transfers = st .transfers; slots = set (st .slots) s x }
-
 -- six numbers from place p on are a line; the lines in 96 numbers
 unfoldable pub lineFrom : List ℕ → ℕ → Line
 lineFrom l p = record {
@@ -60,12 +55,3 @@ lineFrom l p = record {
 
 unfoldable pub linesIn : List ℕ → List Line
 linesIn l = table (λ s. lineFrom l (6 * s)) 16
-
--- of 16 lines, those from n on show nothing
-unfoldable pub firstLines : ℕ → List Line → List Line
-firstLines n lines = table (λ s. cond (ltb s n) (getD lines s noLine) noLine) 16
-
--- the slot of slave s after a reset: the owner is the last at the first n slaves
-unfoldable pub resetSlot : ℕ → ℕ → ℕ → Slot
-resetSlot owner n s =
-    cond (ltb s n) (record { owner = owner; remaining = 0; serving = Bool.false; done = 0; waited = 0 }) noSlot

@@ -1,4 +1,10 @@
 // A state and a clock's lines in lent arrays of numbers: their records read and put by their place.
+use common_numbers::LINE_FIELDS;
+use common_numbers::LINES_NUMBERS;
+use common_numbers::SLOT_NUMBERS;
+use common_numbers::SLOTS_FROM;
+use common_numbers::STATE_NUMBERS;
+use common_numbers::TRANSFER_NUMBERS;
 use fabric_accesses::Transfer;
 use fabric_state::Line;
 use fabric_state::Slot;
@@ -10,7 +16,8 @@ ghost use Rattle.fabric_accesses.specs.Accesses.{noTransfer};
 ghost use Rattle.fabric_state.specs.Records.{transferAt, slotAt};
 ghost use Rattle.fabric_state.specs.Posting.{withTransfer};
 ghost use Rattle.fabric_state.specs.Resetting.{resetState};
-ghost use Rattle.fabric_layout.specs.Layout.{stateIn, withSlot, linesIn, firstLines, resetSlot};
+ghost use Rattle.fabric_layout.specs.Layout.{stateIn, linesIn};
+ghost use Rattle.fabric_layout.specs.Code.Puts.{withSlot, firstLines, resetSlot};
 
 fn mark_of(b: bool) -> u32
     ensures { λ r. ⌜ r ≡ cond b 1 0 ⌝ }
@@ -18,11 +25,11 @@ fn mark_of(b: bool) -> u32
     if b { 1 } else { 0 }
 }
 
-pub fn transfer_at(st: &[u32; 120], m: usize) -> Transfer
+pub fn transfer_at(st: &[u32; STATE_NUMBERS], m: usize) -> Transfer
     requires { ⌜ m < 8 ⌝ }
     ensures { λ r. ⌜ r ≡ transferAt (stateIn (now (st .entry))) m ⌝ }
 {
-    let p = 5 * m;
+    let p = TRANSFER_NUMBERS * m;
     Transfer {
         held: st[p] != 0,
         write: st[p + 1] != 0,
@@ -33,18 +40,18 @@ pub fn transfer_at(st: &[u32; 120], m: usize) -> Transfer
 }
 
 // The beats of master m's transfer.
-pub fn beats_at(st: &[u32; 120], m: usize) -> u32
+pub fn beats_at(st: &[u32; STATE_NUMBERS], m: usize) -> u32
     requires { ⌜ m < 8 ⌝ }
     ensures { λ r. ⌜ r ≡ transferAt (stateIn (now (st .entry))) m .beats ⌝ }
 {
-    st[5 * m + 4]
+    st[TRANSFER_NUMBERS * m + 4]
 }
 
-pub fn slot_at(st: &[u32; 120], s: usize) -> Slot
+pub fn slot_at(st: &[u32; STATE_NUMBERS], s: usize) -> Slot
     requires { ⌜ s < 16 ⌝ }
     ensures { λ r. ⌜ r ≡ slotAt (stateIn (now (st .entry))) s ⌝ }
 {
-    let p = 40 + 5 * s;
+    let p = SLOTS_FROM + SLOT_NUMBERS * s;
     Slot {
         owner: st[p],
         remaining: st[p + 1],
@@ -54,12 +61,12 @@ pub fn slot_at(st: &[u32; 120], s: usize) -> Slot
     }
 }
 
-pub fn put_transfer(st: &mut [u32; 120], m: usize, t: Transfer)
+pub fn put_transfer(st: &mut [u32; STATE_NUMBERS], m: usize, t: Transfer)
     requires { ⌜ m < 8 ⌝ }
     ensures { λ _. ⌜ stateIn (now (st .exit)) ≡ withTransfer (stateIn (now (st .entry))) m t ⌝ }
 {
     description_layout::count(st);
-    let p = 5 * m;
+    let p = TRANSFER_NUMBERS * m;
     st[p] = mark_of(t.held);
     st[p + 1] = mark_of(t.write);
     st[p + 2] = t.address;
@@ -67,12 +74,12 @@ pub fn put_transfer(st: &mut [u32; 120], m: usize, t: Transfer)
     st[p + 4] = t.beats;
 }
 
-pub fn put_slot(st: &mut [u32; 120], s: usize, x: Slot)
+pub fn put_slot(st: &mut [u32; STATE_NUMBERS], s: usize, x: Slot)
     requires { ⌜ s < 16 ⌝ }
     ensures { λ _. ⌜ stateIn (now (st .exit)) ≡ withSlot (stateIn (now (st .entry))) s x ⌝ }
 {
     description_layout::count(st);
-    let p = 40 + 5 * s;
+    let p = SLOTS_FROM + SLOT_NUMBERS * s;
     st[p] = x.owner;
     st[p + 1] = x.remaining;
     st[p + 2] = mark_of(x.serving);
@@ -80,12 +87,12 @@ pub fn put_slot(st: &mut [u32; 120], s: usize, x: Slot)
     st[p + 4] = x.waited;
 }
 
-pub fn put_line(lines: &mut [u32; 96], s: usize, x: Line)
+pub fn put_line(lines: &mut [u32; LINES_NUMBERS], s: usize, x: Line)
     requires { ⌜ s < 16 ⌝ }
     ensures { λ _. ⌜ linesIn (now (lines .exit)) ≡ set (linesIn (now (lines .entry))) s x ⌝ }
 {
     description_layout::count(lines);
-    let p = 6 * s;
+    let p = LINE_FIELDS * s;
     lines[p] = x.phase;
     lines[p + 1] = x.owner;
     lines[p + 2] = x.offset;
@@ -95,7 +102,7 @@ pub fn put_line(lines: &mut [u32; 96], s: usize, x: Line)
 }
 
 // The lines from n on show nothing.
-pub fn first_lines(lines: &mut [u32; 96], n: usize)
+pub fn first_lines(lines: &mut [u32; LINES_NUMBERS], n: usize)
     ensures { λ _. ⌜ linesIn (now (lines .exit)) ≡ firstLines n (linesIn (now (lines .entry))) ⌝ }
 {
     let blank = Line {
@@ -130,7 +137,7 @@ fn reset_slot(owner: u32, n: u32, s: usize) -> Slot
     x
 }
 
-fn clear_transfers(st: &mut [u32; 120])
+fn clear_transfers(st: &mut [u32; STATE_NUMBERS])
     ensures { λ _. ⌜ stateIn (now (st .exit)) .transfers ≡ replicate 8 noTransfer ⌝ }
 {
     let idle = Transfer {
@@ -148,7 +155,7 @@ fn clear_transfers(st: &mut [u32; 120])
 }
 
 // The state after a reset where `owner` is the last at the first n slaves. What stood in the array before does not matter.
-pub fn reset_state(st: &mut [u32; 120], owner: u32, n: u32)
+pub fn reset_state(st: &mut [u32; STATE_NUMBERS], owner: u32, n: u32)
     ensures { λ _. ⌜ stateIn (now (st .exit)) ≡ resetState owner n ⌝ }
 {
     clear_transfers(st);

@@ -1,4 +1,6 @@
 // What the simulator prints. It gathers in a buffer, which is written out when full and at the end.
+use common_numbers::LINES_NUMBERS;
+use common_numbers::STATE_NUMBERS;
 ghost use mathlib.Core.Path.{_≡_};
 ghost use Prim.Native.Nat.{_+_, _*_, _≤_, _<_};
 ghost use lib.ListN.{length};
@@ -106,7 +108,7 @@ fn wide(n: u32) -> u64 {
 }
 
 // Prints slave s's line of a clock: its six numbers.
-fn put_slave(out: &mut [u8; ROOM], run: Run, lines: &[u32; 96], s: usize) -> Run
+fn put_slave(out: &mut [u8; ROOM], run: Run, lines: &[u32; LINES_NUMBERS], s: usize) -> Run
     requires { ⌜ s < 16 ⌝ }
 {
     let p = 6 * s;
@@ -123,7 +125,7 @@ fn put_slave(out: &mut [u8; ROOM], run: Run, lines: &[u32; 96], s: usize) -> Run
 }
 
 // Prints the lines of the first n slaves.
-fn put_slaves(out: &mut [u8; ROOM], run: Run, lines: &[u32; 96], n: u32) -> Run {
+fn put_slaves(out: &mut [u8; ROOM], run: Run, lines: &[u32; LINES_NUMBERS], n: u32) -> Run {
     let mut next = run;
     let mut s: usize = 0;
     while s < 16 {
@@ -142,7 +144,7 @@ pub fn put_clock(
     run: Run,
     number: u32,
     mask: u32,
-    lines: &[u32; 96],
+    lines: &[u32; LINES_NUMBERS],
     slave_count: u32,
 ) -> Run {
     let next = put_line(&mut *out, run, b"clock", &[number as u64, mask as u64]);
@@ -158,7 +160,7 @@ fn put_entry(
     run: Run,
     word: &[u8],
     i: usize,
-    state: &[u32; 120],
+    state: &[u32; STATE_NUMBERS],
     p: usize,
 ) -> Run
     requires { ⌜ (length (now word) < 9) × (p < 116) ⌝ }
@@ -174,7 +176,7 @@ fn put_entry(
     put_line(out, run, word, &numbers)
 }
 
-fn put_transfers(out: &mut [u8; ROOM], run: Run, state: &[u32; 120]) -> Run {
+fn put_transfers(out: &mut [u8; ROOM], run: Run, state: &[u32; STATE_NUMBERS]) -> Run {
     let mut next = run;
     let mut m: usize = 0;
     while m < 8 {
@@ -184,7 +186,7 @@ fn put_transfers(out: &mut [u8; ROOM], run: Run, state: &[u32; 120]) -> Run {
     next
 }
 
-fn put_slots(out: &mut [u8; ROOM], run: Run, state: &[u32; 120]) -> Run {
+fn put_slots(out: &mut [u8; ROOM], run: Run, state: &[u32; STATE_NUMBERS]) -> Run {
     let mut next = run;
     let mut s: usize = 0;
     while s < 16 {
@@ -195,7 +197,7 @@ fn put_slots(out: &mut [u8; ROOM], run: Run, state: &[u32; 120]) -> Run {
 }
 
 // Prints all of a state. Its marks are 0 or 1: a line of the script and the library write no other.
-pub fn put_state(out: &mut [u8; ROOM], run: Run, state: &[u32; 120]) -> Run {
+pub fn put_state(out: &mut [u8; ROOM], run: Run, state: &[u32; STATE_NUMBERS]) -> Run {
     let next = put_transfers(&mut *out, run, state);
     put_slots(out, next, state)
 }

@@ -5,6 +5,8 @@ mod overwrite;
 mod run;
 mod world;
 
+use common_numbers::BOARD_NUMBERS;
+use common_numbers::TEXT_ROOM;
 use libc::STDERR_FILENO;
 use libc::STDOUT_FILENO;
 use program_options::Mode;
@@ -36,7 +38,7 @@ fn refuse(path: &[u8], text: &[u8]) {
 
 // Runs the script on the board that a text describes.
 fn simulate(path: &[u8], text: &[u8]) {
-    let mut board = [0u32; 242];
+    let mut board = [0u32; BOARD_NUMBERS];
     if description::read(text, &mut board) != 0 {
         refuse(path, text);
         return;
@@ -53,7 +55,7 @@ fn simulate_file(path: &[u8]) {
         program_streams::report(b"simulate", path);
         return;
     }
-    let mut text = [0u8; 8193];
+    let mut text = [0u8; TEXT_ROOM];
     let got = program_streams::read_all(fd, &mut text);
     if got.failed {
         program_streams::report(b"simulate", path);

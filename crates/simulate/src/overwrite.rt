@@ -1,4 +1,6 @@
 // Entries of the board and the state, overwritten by what a line says, number by number in the order of the line's fields.
+use common_numbers::BOARD_NUMBERS;
+use common_numbers::STATE_NUMBERS;
 ghost use Prim.Native.Nat.{_<_};
 use program_script::Command;
 
@@ -34,7 +36,7 @@ fn behind(c: Command) -> [u64; 6] {
 }
 
 // An entry of the state.
-fn put_state(state: &mut [u32; 120], c: Command, i: usize)
+fn put_state(state: &mut [u32; STATE_NUMBERS], c: Command, i: usize)
     requires { ⌜ i < 16 ⌝ }
 {
     if c.kind == program_script::TRANSFER {
@@ -45,7 +47,7 @@ fn put_state(state: &mut [u32; 120], c: Command, i: usize)
 }
 
 // An entry of the board, or its counts.
-fn put_board(board: &mut [u32; 242], c: Command, i: usize)
+fn put_board(board: &mut [u32; BOARD_NUMBERS], c: Command, i: usize)
     requires { ⌜ i < 16 ⌝ }
 {
     if c.kind == program_script::MASTER {
@@ -69,7 +71,7 @@ fn put_board(board: &mut [u32; 242], c: Command, i: usize)
 }
 
 // An entry of the state or of the board overwritten, or the board's counts. A master or a card has a number below 16.
-pub fn overwrite(board: &mut [u32; 242], state: &mut [u32; 120], c: Command) {
+pub fn overwrite(board: &mut [u32; BOARD_NUMBERS], state: &mut [u32; STATE_NUMBERS], c: Command) {
     let i = (c.first % 16) as usize;
     if (c.kind == program_script::TRANSFER) | (c.kind == program_script::SLOT) {
         put_state(state, c, i);

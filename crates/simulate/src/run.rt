@@ -1,4 +1,7 @@
 // What each line of a script does.
+use common_numbers::BOARD_NUMBERS;
+use common_numbers::LINES_NUMBERS;
+use common_numbers::STATE_NUMBERS;
 ghost use Prim.Native.Nat.{_<_};
 use crate::lending;
 use crate::overwrite;
@@ -9,16 +12,21 @@ use program_script::ROOM;
 use program_script::Run;
 
 // The state of a refused board is zeros: the library leaves what it is lent as it was.
-fn run_reset(board: &[u32; 242], state: &mut [u32; 120], run: Run, out: &mut [u8; ROOM]) -> Run {
-    *state = [0; 120];
+fn run_reset(
+    board: &[u32; BOARD_NUMBERS],
+    state: &mut [u32; STATE_NUMBERS],
+    run: Run,
+    out: &mut [u8; ROOM],
+) -> Run {
+    *state = [0; STATE_NUMBERS];
     let number = fabric::reset(board, state);
     program_script::answer(out, run, b"reset", number)
 }
 
 // A post's bytes are the line's last field.
 fn run_post(
-    board: &[u32; 242],
-    state: &mut [u32; 120],
+    board: &[u32; BOARD_NUMBERS],
+    state: &mut [u32; STATE_NUMBERS],
     run: Run,
     c: Command,
     line: &[u8],
@@ -56,15 +64,15 @@ fn left_after(left: u64, broken: bool) -> u64
 // `count` clocks, each with its answer. A refused clock changes nothing, so that those behind it are refused alike: the last
 // one's number explains them all.
 fn run_clock(
-    board: &[u32; 242],
-    state: &mut [u32; 120],
+    board: &[u32; BOARD_NUMBERS],
+    state: &mut [u32; STATE_NUMBERS],
     run: Run,
     count: u64,
     memory: &mut [u8],
     buffer: &mut [u8],
     out: &mut [u8; ROOM],
 ) -> Run {
-    let mut lines = [0u32; 96];
+    let mut lines = [0u32; LINES_NUMBERS];
     let mut next = run;
     let mut number: u32 = 0;
     let mut left = count;
@@ -80,7 +88,7 @@ fn run_clock(
 
 // The wait is that of the board as it was read.
 fn run_wait(run: Run, c: Command, text: &[u8], out: &mut [u8; ROOM]) -> Run {
-    let mut board = [0u32; 242];
+    let mut board = [0u32; BOARD_NUMBERS];
     description::read(text, &mut board);
     let q = wait::quote_of(&board, overwrite::word(c.first), overwrite::word(c.second));
     let numbers = [q.number as u64, q.wait, q.serve];
@@ -111,8 +119,8 @@ fn touch(run: Run, c: Command, line: &[u8], lent: &mut [u8], out: &mut [u8; ROOM
 
 // Every line but lend, on the bytes that are lent.
 fn obey(
-    board: &mut [u32; 242],
-    state: &mut [u32; 120],
+    board: &mut [u32; BOARD_NUMBERS],
+    state: &mut [u32; STATE_NUMBERS],
     run: Run,
     c: Command,
     line: &[u8],
@@ -146,8 +154,8 @@ fn obey(
 
 // The line that was found in the input, if there is one.
 fn run_line(
-    board: &mut [u32; 242],
-    state: &mut [u32; 120],
+    board: &mut [u32; BOARD_NUMBERS],
+    state: &mut [u32; STATE_NUMBERS],
     run: Run,
     input: &[u8],
     text: &[u8],
@@ -177,13 +185,13 @@ fn run_line(
 // most, and 8 more, so that a length over the exact one can be lent. Of the buffer, 4,096 zero bytes are what is lent; a
 // longer length is lent from `longer`, see lending::lend. Nothing says that a script ends, so the passes are counted down, from
 // a number that no script uses up.
-pub fn run_script(text: &[u8], board: &mut [u32; 242]) {
+pub fn run_script(text: &[u8], board: &mut [u32; BOARD_NUMBERS]) {
     let mut memory = [0u8; 65544];
     let mut words: [u8; 4096] = [0; 4096];
     let mut longer = [0u8; 4104];
     let mut input = [0u8; INPUT];
     let mut out = [0u8; ROOM];
-    let mut state = [0u32; 120];
+    let mut state = [0u32; STATE_NUMBERS];
     let mut run = world::start(board);
     let mut passes = u64::MAX;
     while 0 < passes {

@@ -1,9 +1,10 @@
 // Where a run of the simulator starts.
+use common_numbers::BOARD_NUMBERS;
 ghost use Prim.Native.Nat.{_≤_};
 use program_script::Run;
 
 // The spans of the first n slaves together.
-fn total_span(board: &[u32; 242], n: u32) -> u64 {
+fn total_span(board: &[u32; BOARD_NUMBERS], n: u32) -> u64 {
     let mut total: u64 = 0;
     let mut s: usize = 0;
     while s < 16 {
@@ -28,7 +29,7 @@ fn memory_length(total: u64) -> usize
 }
 
 // Before the first line.
-pub fn start(board: &[u32; 242]) -> Run {
+pub fn start(board: &[u32; BOARD_NUMBERS]) -> Run {
     let memory = memory_length(total_span(board, description_layout::slave_count(board)));
     program_script::first_run(memory)
 }

@@ -1,5 +1,6 @@
 // Reads a description on standard input, and prints its table, or its refusal, on standard output. What the refusal means goes
 // to standard error: standard output is read by other programs.
+use common_numbers::TEXT_ROOM;
 ghost use Prim.Native.Nat.{_<_};
 ghost use lib.ListN.{length};
 ghost use Rattle.description.specs.Reader.{mostBytes};
@@ -63,7 +64,7 @@ fn prepare(text: &mut [u8], page: &mut [u8; wait_table::LONGEST_TABLE]) -> Prepa
 }
 
 fn table() {
-    let mut text = [0; 8193];
+    let mut text = [0; TEXT_ROOM];
     let mut page = [0; wait_table::LONGEST_TABLE];
     let made = prepare(&mut text, &mut page);
     if made.failed {

@@ -1,6 +1,8 @@
 // Reads records from standard input, each a decimal length, a line feed and that many bytes of a description. Prints for
 // each the number that the reader answers and, where that is 0, the writer's text of the board. A damaged record ends it. Where
 // the input cannot be read, or the answers cannot be printed, standard error says so.
+use common_numbers::BOARD_NUMBERS;
+use common_numbers::TEXT_ROOM;
 ghost use Prim.Native.Nat.{_+_, _≤_};
 ghost use lib.ListN.{length};
 use common_text::Number;
@@ -162,7 +164,7 @@ fn put_answer(out: &mut [u8], at: usize, record: &[u8]) -> usize
     requires { ⌜ at + 8300 ≤ length (now out) ⌝ }
     ensures { λ r. ⌜ r ≤ length (now (out .entry)) ⌝ }
 {
-    let mut board = [0u32; 242];
+    let mut board = [0u32; BOARD_NUMBERS];
     let number = description::read(record, &mut board);
     let next = common_text::put_line(&mut *out, at, b"read", &[number as u64]);
     if number != 0 {
@@ -233,7 +235,7 @@ fn answer_records(piece: &mut [u8], record: &mut [u8], out: &mut [u8]) -> usize
 // 8,193 bytes of a record are kept: one more than a description may have, so that a longer one is refused by its length.
 fn main() {
     let mut piece = io::large_buffer();
-    let mut record = [0u8; 8193];
+    let mut record = [0u8; TEXT_ROOM];
     let mut out = io::large_buffer();
     let filled = answer_records(&mut piece, &mut record, &mut out);
     program_options::print(b"texts", &out[..filled]);

@@ -1,4 +1,8 @@
 // The calls that look up the quoted wait of a pair: one on a board, one on a text.
+use common_numbers::BOARD_NUMBERS;
+use common_numbers::NO_MASTER;
+use common_numbers::NOT_CONNECTED;
+use common_numbers::SHORT_OUTPUT;
 use wait_turns::Quote;
 ghost use mathlib.Core.Path.{_≡_};
 ghost use mathlib.Core.List.{_++_};
@@ -45,24 +49,24 @@ fn put_figures(out: &mut [u8], q: Quote) -> usize
 }
 
 // What a pair of a legal board that a wait is looked up for is refused for, or 0.
-fn pair_refusal(board: &[u32; 242], m: u32, s: u32) -> u32
+fn pair_refusal(board: &[u32; BOARD_NUMBERS], m: u32, s: u32) -> u32
     requires { ⌜ Legal (boardIn (now board)) ⌝ }
     ensures { λ r. ⌜ r ≡ pairRefusal (boardIn (now (board .entry))) m s ⌝ }
 {
     if description_layout::master_count(board) <= m {
-        return 11;
+        return NO_MASTER;
     }
     if description_layout::slave_count(board) <= s {
-        return 16;
+        return NOT_CONNECTED;
     }
     if description_layout::shares_at(board, m as usize, s as usize) == 0 {
-        return 16;
+        return NOT_CONNECTED;
     }
     0
 }
 
 // Wait and serve of a pair of a board. The board need not come through the reader: its own lines are checked first.
-pub fn quote_of(board: &[u32; 242], master: u32, slave: u32) -> Quoted
+pub fn quote_of(board: &[u32; BOARD_NUMBERS], master: u32, slave: u32) -> Quoted
     ensures { λ q. ⌜ q ≡ quoteOf (boardIn (now (board .entry))) master slave ⌝ }
 {
     let unfit = description_check::board_refusal(board);
@@ -95,13 +99,13 @@ pub fn wait_call(text: &[u8], master: u32, slave: u32, out: &mut [u8]) -> u32
     ensures { λ r. ⌜ r ≡ waitRefusal (now (text .entry)) master slave (now (out .entry)) ⌝ }
     ensures { λ r. ⌜ now (out .exit) ≡ waitOutput (now (text .entry)) master slave (now (out .entry)) ⌝ }
 {
-    let mut board = [0u32; 242];
+    let mut board = [0u32; BOARD_NUMBERS];
     let refused = description::read(text, &mut board);
     if refused != 0 {
         return refused;
     }
     if out.len() < 16 {
-        return 10;
+        return SHORT_OUTPUT;
     }
     let number = pair_refusal(&board, master, slave);
     if number != 0 {

@@ -1,4 +1,5 @@
 // The table of a board: one line for each connected pair.
+use common_numbers::BOARD_NUMBERS;
 use wait_turns::Quote;
 ghost use mathlib.Core.Path.{_≡_};
 ghost use Prim.Native.Nat.{_+_, _≤_};
@@ -29,7 +30,7 @@ fn put_quote(out: &mut [u8], at: usize, m: u32, s: u32, q: Quote) -> usize
 }
 
 // Writes the line of master m at slave s, where they are connected.
-fn put_pair(out: &mut [u8], at: usize, board: &[u32; 242], m: u32, s: u32) -> usize
+fn put_pair(out: &mut [u8], at: usize, board: &[u32; BOARD_NUMBERS], m: u32, s: u32) -> usize
     requires { ⌜ PairOf (boardIn (now board)) m s ⌝ }
     requires { ⌜ at + length (pairLine (boardIn (now board)) m s) ≤ length (now out) ⌝ }
     ensures { λ r. ⌜ Put (now (out .entry)) at (pairLine (boardIn (now (board .entry))) m s) (now (out .exit)) r ⌝ }
@@ -42,7 +43,7 @@ fn put_pair(out: &mut [u8], at: usize, board: &[u32; 242], m: u32, s: u32) -> us
 }
 
 // Writes the lines of all pairs, by master, then slave: of n slaves, pair i is master i / n at slave i % n.
-fn put_pairs(out: &mut [u8], at: usize, board: &[u32; 242]) -> usize
+fn put_pairs(out: &mut [u8], at: usize, board: &[u32; BOARD_NUMBERS]) -> usize
     requires { ⌜ Legal (boardIn (now board)) ⌝ }
     requires { ⌜ at + length (pairLines (boardIn (now board))) ≤ length (now out) ⌝ }
     ensures { λ r. ⌜ Put (now (out .entry)) at (pairLines (boardIn (now (board .entry)))) (now (out .exit)) r ⌝ }
@@ -64,7 +65,7 @@ fn put_pairs(out: &mut [u8], at: usize, board: &[u32; 242]) -> usize
 pub const LONGEST_TABLE: usize = 24 + 8 * (10 * 19 + 6 * 20);
 
 // Writes a board's table at the front of out.
-fn put_table(out: &mut [u8], board: &[u32; 242]) -> usize
+fn put_table(out: &mut [u8], board: &[u32; BOARD_NUMBERS]) -> usize
     requires { ⌜ Legal (boardIn (now board)) ⌝ }
     requires { ⌜ length (tableText (boardIn (now board))) ≤ length (now out) ⌝ }
     ensures { λ r. ⌜ Put (now (out .entry)) 0 (tableText (boardIn (now (board .entry)))) (now (out .exit)) r ⌝ }
@@ -82,7 +83,7 @@ pub fn print_table(text: &[u8], out: &mut [u8]) -> Printed
       ⌜ ((← ⟦LONGEST_TABLE⟧ .entry) ≤ length (now (out .entry))
           → r .number ≡ readText (now (text .entry)) .number) ⌝ }
 {
-    let mut board = [0u32; 242];
+    let mut board = [0u32; BOARD_NUMBERS];
     let refused = description::read(text, &mut board);
     if refused != 0 {
         return Printed {

@@ -1,4 +1,5 @@
 // The quoted wait of a pair: singles, longest transfers, turns and their sum.
+use common_numbers::BOARD_NUMBERS;
 use description_board::Master;
 use description_board::Slave;
 ghost use mathlib.Core.Path.{_≡_};
@@ -69,7 +70,7 @@ pub fn turn(ma: Master, sl: Slave, shares: u32, v: u32) -> u64
 }
 
 // The turn of master k at slave s, where another master waits for it. The slave's record is handed on: it is read once.
-fn other_turn(board: &[u32; 242], sl: Slave, v: u32, m: u32, s: u32, k: u32) -> u64
+fn other_turn(board: &[u32; BOARD_NUMBERS], sl: Slave, v: u32, m: u32, s: u32, k: u32) -> u64
     requires { ⌜ SlaveOf (boardIn (now board)) sl s × (k < boardIn (now board) .«master_count») ⌝ }
     ensures { λ r. ⌜ r ≡ otherTurn (boardIn (now (board .entry))) v m s k ⌝ }
 {
@@ -89,7 +90,7 @@ fn other_turn(board: &[u32; 242], sl: Slave, v: u32, m: u32, s: u32, k: u32) -> 
 }
 
 // The turns of the other masters at slave s, for any v. A turn is below 2 ^ 50, so the sum of 8 fits.
-fn turns_of(board: &[u32; 242], sl: Slave, v: u32, m: u32, s: u32) -> u64
+fn turns_of(board: &[u32; BOARD_NUMBERS], sl: Slave, v: u32, m: u32, s: u32) -> u64
     requires { ⌜ SlaveOf (boardIn (now board)) sl s ⌝ }
     ensures { λ r. ⌜ r ≡ turnsOf (boardIn (now (board .entry))) v m s ⌝ }
 {
@@ -104,7 +105,7 @@ fn turns_of(board: &[u32; 242], sl: Slave, v: u32, m: u32, s: u32) -> u64
 }
 
 // Wait and serve of master m at slave s. The longer wait is chosen once, for every turn.
-pub fn figures_of(board: &[u32; 242], m: u32, s: u32) -> Quote
+pub fn figures_of(board: &[u32; BOARD_NUMBERS], m: u32, s: u32) -> Quote
     requires { ⌜ PairOf (boardIn (now board)) m s ⌝ }
     ensures { λ q. ⌜ q ≡ figuresOf (boardIn (now (board .entry))) m s ⌝ }
 {

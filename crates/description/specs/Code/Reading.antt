@@ -5,11 +5,9 @@ use mathlib.Core.List.{List}
 use Prim.Native.Nat.{ℕ}
 use Rattle.description_board.specs.declared.Reading.{Reading}
 use Rattle.description_board.specs.Rules.{described, start}
-use Rattle.description_board.specs.Items.{boardRefusal}
 use Rattle.description_layout.specs.Layout.{boardIn}
 use Rattle.description_lines.specs.Reader.{itemsOf}
 use Rattle.description.specs.declared.Refusal.{Refusal}
-use Rattle.description.specs.Reader.{readText}
 use Rattle.description.specs.Blame.{firstRefused}
 
 -- the number and the line answered, and the board in the array, are those of a reading

@@ -1,11 +1,7 @@
 -- What is put into the array of a board.
 -- Assumes nothing.
-use mathlib.Core.List.{List}
-use Prim.Native.Nat.{ℕ, _+_, _*_}
-use lib.ListN.{getD, set}
-use Rattle.common_laws.specs.Lists.{table}
-use Rattle.description_board.specs.declared.Master.{Master}
-use Rattle.description_board.specs.declared.Slave.{Slave}
+use Prim.Native.Nat.{ℕ}
+use lib.ListN.{set}
 use Rattle.description_board.specs.declared.Board.{Board}
 
 -- a board with the shares at place i of the 128 set

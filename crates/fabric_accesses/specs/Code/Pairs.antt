@@ -2,10 +2,13 @@
 -- Assumes nothing.
 use mathlib.Core.Path.{_≡_}
 use mathlib.Core.Bool.{true}
+use Prim.Native.Nat.{ℕ, _+_, _%_, _^_, _≤_}
 use Rattle.common_laws.specs.Lists.{member}
 use Rattle.description_board.specs.declared.Master.{Master}
 use Rattle.description_board.specs.declared.Slave.{Slave}
 use Rattle.description_board.specs.Rules.{widths, bursts}
+use Rattle.fabric_accesses.specs.declared.Transfer.{Transfer}
+use Rattle.fabric_accesses.specs.Accesses.{accessBytes, accessOffset}
 
 -- both widths are legal
 pub record Widths (ma : Master) (sl : Slave) : Type 0 where
@@ -16,3 +19,15 @@ pub record Widths (ma : Master) (sl : Slave) : Type 0 where
 pub record LegalPair (ma : Master) (sl : Slave) : Type 0 where
   pub wide : Widths ma sl
   pub burst : member (sl .burst) bursts ≡ true
+
+-- a span is a power of two from 8 to 65,536
+pub record Span (n : ℕ) : Type 0 where
+  pub log : ℕ
+  pub power : n ≡ 2 ^ log
+  pub least : 3 ≤ log
+  pub most : log ≤ 16
+
+-- access a lies within one slave word of at most 8 lanes
+pub record InWord (ma : Master) (sl : Slave) (t : Transfer) (a : ℕ) : Type 0 where
+  pub width : sl .width ≤ 8
+  pub inside : accessOffset ma sl t a % sl .width + accessBytes ma sl ≤ sl .width

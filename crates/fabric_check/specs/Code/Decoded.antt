@@ -3,7 +3,7 @@
 use Prim.Native.Nat.{ℕ, _≤_, _<_}
 use Rattle.description_board.specs.declared.Board.{Board}
 use Rattle.description_board.specs.Records.{slaveAt}
-use Rattle.fabric_accesses.specs.Decoding.{Span}
+use Rattle.fabric_accesses.specs.Code.Pairs.{Span}
 
 -- the slaves of the board have places, and spans that can be decoded
 pub record Decodes (b : Board) : Type 0 where

@@ -6,7 +6,8 @@ use Prim.Native.Nat.{ℕ, _≤_, _<_}
 use Rattle.description_board.specs.declared.Master.{Master}
 use Rattle.description_board.specs.declared.Slave.{Slave}
 use Rattle.fabric_accesses.specs.declared.Transfer.{Transfer}
-use Rattle.fabric_accesses.specs.Accesses.{accesses, wordOffset, InWord}
+use Rattle.fabric_accesses.specs.Accesses.{accesses, wordOffset}
+use Rattle.fabric_accesses.specs.Code.Pairs.{InWord}
 use Rattle.fabric_accesses.specs.Code.Pairs.{LegalPair}
 use Rattle.fabric_bytes.specs.Bytes.{Store, carriedAccess}
 use Rattle.fabric_bytes.specs.Code.Reaching.{Reached}

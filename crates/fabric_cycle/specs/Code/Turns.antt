@@ -18,7 +18,7 @@ use Rattle.fabric_state.specs.declared.Step.{Step}
 use Rattle.fabric_state.specs.Records.{transferAt, slotAt, arbiterOf}
 use Rattle.fabric_state.specs.Posting.{withTransfer}
 use Rattle.fabric_state.specs.Control.{slotGranted}
-use Rattle.fabric_layout.specs.Layout.{withSlot}
+use Rattle.fabric_layout.specs.Code.Puts.{withSlot}
 use Rattle.fabric_cycle.specs.Code.Serving.{stepFrom, carriedFrom, Serves}
 
 -- slave s after rule 1, by a mask of who requests it

@@ -1,0 +1,105 @@
+// The numbers that the rules (docs/RULES.md) fix, each once: refusals, limits, and the lengths of what is lent. include/fabric.h has
+// those that C needs, under the same names with FABRIC_ in front; tests/names.py compares the two.
+
+// Refusal k is rule 7.k.
+pub const TAKEN: u32 = 0;
+
+pub const BAD_TEXT: u32 = 1;
+
+pub const BAD_ORDER: u32 = 2;
+
+pub const BAD_VALUE: u32 = 3;
+
+pub const BAD_BASE: u32 = 4;
+
+pub const OVERLAP: u32 = 5;
+
+pub const SPAN_TOTAL: u32 = 6;
+
+pub const BAD_SHARE: u32 = 7;
+
+pub const BAD_LENGTH: u32 = 8;
+
+pub const BAD_STATE: u32 = 9;
+
+pub const SHORT_OUTPUT: u32 = 10;
+
+pub const NO_MASTER: u32 = 11;
+
+pub const HELD: u32 = 12;
+
+pub const BAD_BEATS: u32 = 13;
+
+pub const BAD_ADDRESS: u32 = 14;
+
+pub const BAD_LANES: u32 = 15;
+
+pub const NOT_CONNECTED: u32 = 16;
+
+pub const PAST_END: u32 = 17;
+
+pub const BAD_WORDS: u32 = 18;
+
+// The last of them.
+pub const LAST_REFUSAL: u32 = BAD_WORDS;
+
+// Rule 1.1: the most masters and slaves; a share for each pair of them.
+pub const MASTERS: usize = 8;
+
+pub const SLAVES: usize = 16;
+
+pub const PAIRS: usize = MASTERS * SLAVES;
+
+// Rule 1.2: the most bytes of a description, and a reader's room, so that it sees a longer one.
+pub const TEXT_BYTES: usize = 8192;
+
+pub const TEXT_ROOM: usize = TEXT_BYTES + 1;
+
+// Rule 1.3: the numbers of a slave line, the longest; the most that any line has.
+pub const SLAVE_FIELDS: usize = 6;
+
+pub const LINE_NUMBERS: usize = SLAVE_FIELDS;
+
+// Rule 1.6.
+pub const MOST_BASE: u64 = 4294967295;
+
+pub const MOST_WAIT: u64 = 255;
+
+pub const MOST_SHARES: u64 = 100;
+
+// Rule 1.7: the most bytes of all spans, and so of the memory.
+pub const MEMORY_BYTES: u64 = 65536;
+
+// Rule 2.2: the buffer, and one master's part of it.
+pub const BUFFER_BYTES: usize = 4096;
+
+pub const PART_BYTES: usize = 512;
+
+// What a board, a state and a clock's lines are as arrays: how many numbers each record has, where each kind begins, and how many
+// numbers there are.
+pub const MASTER_NUMBERS: usize = 2;
+
+pub const SLAVE_NUMBERS: usize = SLAVE_FIELDS;
+
+pub const MASTERS_FROM: usize = 2;
+
+pub const SLAVES_FROM: usize = MASTERS_FROM + MASTERS * MASTER_NUMBERS;
+
+pub const SHARES_FROM: usize = SLAVES_FROM + SLAVES * SLAVE_NUMBERS;
+
+pub const BOARD_NUMBERS: usize = SHARES_FROM + PAIRS;
+
+pub const TRANSFER_NUMBERS: usize = 5;
+
+pub const SLOT_NUMBERS: usize = 5;
+
+pub const SLOTS_FROM: usize = MASTERS * TRANSFER_NUMBERS;
+
+pub const STATE_NUMBERS: usize = SLOTS_FROM + SLAVES * SLOT_NUMBERS;
+
+pub const LINE_FIELDS: usize = 6;
+
+pub const LINES_NUMBERS: usize = SLAVES * LINE_FIELDS;
+
+// Rule 5.8: the bytes of a wait and a serve.
+pub const WAIT_BYTES: usize = 16;
