@@ -7,8 +7,7 @@ usage() {
 usage: tests/compare.sh [SEED] [COUNT]
 
 Compares what the programs that `rt check` built in target/bin print with what the model prints,
-byte for byte, on input that the model generates from SEED (2 where it is not given; 1 is the seed
-of the records that are stored with the program texts):
+byte for byte, on input that the model generates from SEED (2 where it is not given):
 
   texts     COUNT descriptions, good and damaged (2000 where it is not given)
   table     COUNT / 2 boards

@@ -1,0 +1,318 @@
+#!/usr/bin/env python3
+"""Writes crates/texts/stdin: the chosen descriptions that the test program texts reads, each with the reason why it is there.
+
+    tests/texts.py            writes crates/texts/stdin from the list below
+    tests/texts.py --check    says whether the stored records are this list, and their stored answers those given here
+
+To add a record, put an entry into its part of the list: the number that the rules give (README.md, "Refusals"; 0 for a text that
+is taken), the reason, and the text. Outside the last two parts a record has as little wrong as can be: without the rule that it is
+there for, it would be answered with another number. Then write the records and let the model in model/ answer them. The stored
+answers are never the program's own, or it would be compared with itself:
+
+    tests/texts.py
+    cargo build --release --offline --manifest-path model/Cargo.toml --target-dir target/model
+    target/model/release/model texts < crates/texts/stdin > crates/texts/stdout
+    tests/texts.py --check
+
+The numbers of the list are one more opinion beside the program's and the model's: a record that is refused for another cause than
+it was written for shows there.
+"""
+
+import sys
+from pathlib import Path
+
+ROOT = Path(__file__).resolve().parent.parent
+RECORDS = ROOT / "crates/texts/stdin"
+ANSWERS = ROOT / "crates/texts/stdout"
+
+MASTER = "master,4,8"
+SLAVE = "slave,4096,4096,2,8,1,0"
+SHARE = "share,0,0,2"
+
+
+def text(*lines):
+    """Lines, each with its line feed."""
+    return "".join(line + "\n" for line in lines)
+
+
+def small(master=MASTER, slave=SLAVE, share=SHARE):
+    """A board of three lines that is taken, with another line in the place of one of them."""
+    return text(master, slave, share)
+
+
+def slaves(*bases_and_spans):
+    """A board of one master, no share line, and slaves that differ in base and span alone."""
+    return text(MASTER, *(f"slave,{base},{span},2,8,1,0" for base, span in bases_and_spans))
+
+
+def row(count):
+    """Bases and spans of slaves of 8 bytes, each where the one before it ends."""
+    return [(8 * index, 8) for index in range(count)]
+
+
+def stored(name):
+    """A board that stands in boards/."""
+    return (ROOT / "boards" / name).read_bytes().decode("latin-1")
+
+
+def backwards(board):
+    """A board's text with its share lines in the opposite order."""
+    lines = board.splitlines()
+    shares = [line for line in lines if line.startswith("share")]
+    return text(*(line for line in lines if line not in shares), *reversed(shares))
+
+
+def longest():
+    """Every number has the most digits it can have, spans five of them as often as their total allows."""
+    spans = [16384] * 3 + [1024] * 13
+    lines = ["master,8,64"] * 8
+    lines += [f"slave,{4294967296 - 16384 * (index + 1)},{span},8,64,255,255" for index, span in enumerate(spans)]
+    lines += [f"share,{master},{slave},100" for slave in range(16) for master in range(8)]
+    return text(*lines)
+
+
+def every_value():
+    """Every width, burst and span, but for the widest span, and both ends of the waits."""
+    widths = [1, 2, 4, 8]
+    bursts = [1, 2, 4, 8, 16, 32, 64]
+    spans = [32768 >> index for index in range(13)] + [8]
+    lines = [f"master,{widths[index % 4]},{bursts[index % 7]}" for index in range(8)]
+    base = 0
+    for index, span in enumerate(spans):
+        read_wait = [0, 255][index % 2]
+        write_wait = [0, 0, 255][index % 3]
+        lines.append(f"slave,{base},{span},{widths[index % 4]},{bursts[index % 7]},{read_wait},{write_wait}")
+        base += span
+    return text(*lines)
+
+
+def long(length):
+    """A text of so many bytes in two lines, of which the first answers 2."""
+    first = text("slave,0,8,1,1,0,0")
+    return first + text("x" * (length - len(first) - 1))
+
+
+LIST = [
+    ("0: boards of every size", [
+        (0, "the shortest text: the least of everything, and no share line", text(
+            "master,1,1", "slave,0,8,1,1,0,0")),
+        (0, "the smallest board with a connected pair, shares at their least", text(
+            "master,1,1", "slave,0,8,1,1,0,0", "share,0,0,1")),
+        (0, "the board that document 01 works out", stored("document01.txt")),
+        (0, "a board of a usual size, some of its pairs not connected", stored("crane.txt")),
+        (0, "the largest board: 8 masters, 16 slaves, every pair connected, shares at their most", stored("largest.txt")),
+        (0, "the same with its share lines backwards: the writer puts them in order", backwards(stored("largest.txt"))),
+        (0, "the longest text that a board can have, its share lines by slave, then master", longest()),
+        (0, "every value of the lists, and spans that total exactly 65,536", every_value()),
+        (0, "the widest span, the whole total by itself, at the highest base it can have", slaves((4294901760, 65536))),
+        (0, "the highest base of all and the lowest: what ends at 2^32 does not reach round to 0", slaves(
+            (4294967288, 8), (0, 8))),
+        (0, "slaves that touch below and above have no byte in common; the writer leaves them in the order of their lines", slaves(
+            (4096, 4096), (0, 4096), (8192, 8))),
+        (0, "the most masters, all alike, at one slave, and none connected", text(*[MASTER] * 8, SLAVE)),
+        (0, "one master at the most slaves: the writer orders by number, 2 before 10", slaves(*row(16)) + text(
+            "share,0,15,3", "share,0,10,4", "share,0,9,5", "share,0,2,6", "share,0,1,7")),
+        (0, "share lines in any order; a master at two slaves, or two masters at one, is no pair twice", text(
+            MASTER, "master,2,1", SLAVE, "slave,0,8,1,1,0,0",
+            "share,1,1,4", "share,0,1,2", "share,1,0,3", "share,0,0,1")),
+        (0, "no share line for the masters below and above the connected one, nor for a slave", text(
+            MASTER, "master,2,1", "master,1,1", SLAVE, "slave,0,8,1,1,0,0", "share,1,1,5")),
+    ]),
+    ("1: the text as a whole", [
+        (2, "8,192 bytes are not too many: the first line answers", long(8192)),
+        (1, "with one byte more the length answers", long(8193)),
+        (1, "more than the program keeps of a record: it still finds the next one", long(9000)),
+        (1, "the last line feed is missing", small()[:-1]),
+        (1, "a 0 byte behind the last line feed, as where a C string is handed in with its end", small() + "\0"),
+        (1, "a line feed alone: an empty line, and no empty text", "\n"),
+        (1, "an empty line between two kinds", text(MASTER, "", SLAVE, SHARE)),
+        (1, "an empty line at the end", small() + "\n"),
+        (1, "a comment", text("# crane") + small()),
+        (1, "a carriage return in each line, as Windows saves it", small().replace("\n", "\r\n")),
+        (1, "a carriage return in the last line alone", small(share="share,0,0,2\r")),
+        (1, "an editor's mark of UTF-8 in front", "\xef\xbb\xbf" + small()),
+    ]),
+    ("1: a line's word", [
+        (1, "another word", small(master="bus,4,8")),
+        (1, "a capital letter", small(master="Master,4,8")),
+        (1, "another letter at the end", small(slave="slavs,4096,4096,2,8,1,0")),
+        (1, "a letter too few", small(share="shar,0,0,2")),
+        (1, "a letter too many", small(share="shares,0,0,2")),
+        (1, "a space in front", small(master=" master,4,8")),
+        (1, "an empty word", small(master=",4,8")),
+    ]),
+    ("1: how many fields a line has", [
+        (1, "the word alone", small(master="master")),
+        (1, "a master's line with one too few", small(master="master,4")),
+        (1, "a master's line with one too many", small(master="master,4,8,1")),
+        (1, "a slave's line with one too few", small(slave="slave,4096,4096,2,8,1")),
+        (1, "a slave's line with one too many", small(slave="slave,4096,4096,2,8,1,0,0")),
+        (1, "a share line with one too few", small(share="share,0,0")),
+        (1, "a share line with one too many, an empty one behind a last comma", small(share="share,0,0,2,")),
+    ]),
+    ("1: how a number is spelled; every field has one of these", [
+        (1, "nothing, in a master's width", small(master="master,,8")),
+        (1, "nothing, at the end of a line", small(share="share,0,0,")),
+        (1, "a leading zero, in a master's burst", small(master="master,4,08")),
+        (1, "0 twice, in a write wait", small(slave="slave,4096,4096,2,8,1,00")),
+        (1, "11 digits, in a base: no number, so not 3", small(slave="slave,10000000000,8,2,8,1,0")),
+        (1, "20 digits, in shares: cut to 64 bits it is 2", small(share="share,0,0,18446744073709551618")),
+        (1, "a plus sign, in a span", small(slave="slave,4096,+4096,2,8,1,0")),
+        (1, "a minus sign, in a read wait", small(slave="slave,4096,4096,2,8,-1,0")),
+        (1, "a space in front, in a slave's width", small(slave="slave,4096,4096, 2,8,1,0")),
+        (1, "a space behind, in a slave's burst", small(slave="slave,4096,4096,2,8 ,1,0")),
+        (1, "hex, in a master's number", small(share="share,0x0,0,2")),
+        (1, "a tab, in a slave's number", small(share="share,0,\t0,2")),
+        (1, "the byte below the digit 0", small(share="share,0,0,/")),
+        (1, "the byte above the digit 9", small(share="share,0,0,:")),
+        (1, "quotes", small(share='share,0,0,"2"')),
+    ]),
+    # A text in which only the master is absent is an empty one: a slave line before any master is refused itself.
+    ("2: where a line stands, how many there are, and what is absent at the end", [
+        (2, "an empty text", ""),
+        (2, "a master and no slave", text(MASTER)),
+        (2, "a slave before any master", text(SLAVE, MASTER)),
+        (2, "a share before any master", text(SHARE, MASTER, SLAVE)),
+        (2, "a share before any slave", text(MASTER, SHARE, SLAVE)),
+        (2, "a master behind a slave", text(MASTER, SLAVE, MASTER, SHARE)),
+        (2, "a master behind a share", small() + text(MASTER)),
+        (2, "a slave behind a share", small() + text("slave,0,8,1,1,0,0")),
+        (2, "a ninth master", text(*[MASTER] * 9, SLAVE)),
+        (2, "a seventeenth slave", slaves(*row(17))),
+    ]),
+    # The values just inside are those of the boards above.
+    ("3: values that a field does not have", [
+        (3, "a master's width of 0", small(master="master,0,8")),
+        (3, "a master's width between two legal ones", small(master="master,3,8")),
+        (3, "a master's width of the next power of two", small(master="master,16,8")),
+        (3, "a master's width that is 4 when it is cut to a byte or to 32 bits", small(master="master,4294967300,8")),
+        (3, "a master's burst of 0", small(master="master,4,0")),
+        (3, "a master's burst between two legal ones", small(master="master,4,3")),
+        (3, "a master's burst of the next power of two", small(master="master,4,128")),
+        (3, "a base of 2^32, a multiple of its span", small(slave="slave,4294967296,4096,2,8,1,0")),
+        (3, "the highest number of 10 digits, in a base: a number, so not 1", small(slave="slave,9999999999,4096,2,8,1,0")),
+        (3, "a span of 0, by which nothing can be divided", small(slave="slave,0,0,2,8,1,0")),
+        (3, "a span of the power of two below the list", small(slave="slave,4096,4,2,8,1,0")),
+        (3, "a span between two legal ones, the base its multiple", small(slave="slave,12288,12,2,8,1,0")),
+        (3, "a span of the next power of two: the value answers, not the total", small(slave="slave,131072,131072,2,8,1,0")),
+        (3, "a slave's width of 0", small(slave="slave,4096,4096,0,8,1,0")),
+        (3, "a slave's width between two legal ones", small(slave="slave,4096,4096,6,8,1,0")),
+        (3, "a slave's width of the next power of two", small(slave="slave,4096,4096,16,8,1,0")),
+        (3, "a slave's burst of 0", small(slave="slave,4096,4096,2,0,1,0")),
+        (3, "a slave's burst between two legal ones", small(slave="slave,4096,4096,2,48,1,0")),
+        (3, "a slave's burst of the next power of two", small(slave="slave,4096,4096,2,128,1,0")),
+        (3, "a read wait of one too many", small(slave="slave,4096,4096,2,8,256,0")),
+        (3, "a write wait of one too many", small(slave="slave,4096,4096,2,8,1,256")),
+        (3, "shares of 0: a pair that is not connected has no line", small(share="share,0,0,0")),
+        (3, "shares of one too many", small(share="share,0,0,101")),
+        (3, "shares that are 2 when they are cut to a byte or to 32 bits", small(share="share,0,0,4294967298")),
+    ]),
+    ("4: a base between two multiples of its span", [
+        (4, "a row of document 01", small(slave="slave,4100,4096,2,8,1,0")),
+        (4, "a base below its span, and not 0", small(slave="slave,32768,65536,2,8,1,0")),
+        (4, "the highest base in range, a multiple of no span: not 3", small(slave="slave,4294967295,8,2,8,1,0")),
+    ]),
+    # Bases are multiples of spans and spans powers of two, so of two slaves with a byte in common one lies within the other.
+    ("5: slaves with a byte in common", [
+        (5, "the same bytes", slaves((4096, 4096), (4096, 4096))),
+        (5, "at the front of the earlier one", slaves((4096, 4096), (4096, 8))),
+        (5, "inside the earlier one", slaves((4096, 4096), (6144, 1024))),
+        (5, "at the back of the earlier one", slaves((4096, 4096), (8184, 8))),
+        (5, "round the earlier one: neither its first byte nor its last is in there", slaves((6144, 1024), (4096, 4096))),
+        (5, "at the end of all addresses, where base and span make 2^32", slaves((4294963200, 4096), (4294967288, 8))),
+        (5, "with the second and not the first", slaves((0, 8), (8, 8), (8, 8))),
+        (5, "the last that there can be with the first, and with none between", slaves(*row(15), (0, 8))),
+    ]),
+    # Spans are multiples of 8, so the least total that is too large is 65,544.
+    ("6: more bytes than there can be", [
+        (6, "by the least, beside the widest span", slaves((0, 65536), (65536, 8))),
+        (6, "by the least, at the fifteenth slave: the board of exactly 65,536 above and one slave more", every_value() + text(
+            "slave,65536,8,1,1,0,0")),
+    ]),
+    ("7: share lines for a pair that is not there, or has one", [
+        (7, "a master one above the last", small(share="share,1,0,2")),
+        (7, "a slave one above the last", small(share="share,0,1,2")),
+        (7, "a ninth master, where there are eight", text(*[MASTER] * 8, SLAVE, "share,8,0,2")),
+        (7, "a seventeenth slave, where there are sixteen: with all shares in one row it would be the first of master 1",
+         text(MASTER) + slaves(*row(16)) + text("share,0,16,2")),
+        (7, "a master that is 0 when it is cut to a byte or to 32 bits: a name has no range", small(share="share,4294967296,0,2")),
+        (7, "a pair twice, with the same shares", small() + text(SHARE)),
+        (7, "a pair twice, with other shares and another pair between", text(
+            MASTER, MASTER, SLAVE, SHARE, "share,1,0,3", "share,0,0,5")),
+    ]),
+    ("Several faults in one line: the lowest number", [
+        (1, "1 before 2: a slave before any master, with a bad number", text("slave,4096,4096,2,8,1,x", MASTER)),
+        (1, "1 before 3: a bad number behind a value outside its list", small(master="master,3,x")),
+        (1, "1 before 3 to 6: a bad number at the end of a slave line with every other fault", slaves((0, 65536)) + text(
+            "slave,4,65536,3,8,1,")),
+        (1, "1 before 3: no line feed behind shares of 0", small(share="share,0,0,0")[:-1]),
+        (1, "1 before 7: a pair twice, with a leading zero", small() + text("share,0,0,02")),
+        (2, "2 before 3: a ninth master, with a width of 0", text(*[MASTER] * 8, "master,0,8", SLAVE)),
+        (2, "2 before 4 to 6: a seventeenth slave, with each of them", slaves(*row(16), (4, 65536))),
+        (2, "2 before 3 and 7: a share before any slave, of 0 and for no master", text(MASTER, "share,1,0,0", SLAVE)),
+        (3, "3 before 4: a wait of 256, the base no multiple", small(slave="slave,4100,4096,2,8,256,0")),
+        (3, "3 before 5: a width of 3, the same bytes again", text(MASTER, SLAVE, "slave,4096,4096,3,8,1,0")),
+        (3, "3 before 6: a burst of 3, the total passed", slaves((0, 65536)) + text("slave,65536,8,2,3,1,0")),
+        (3, "3 before 7: shares of 0 for no master", small(share="share,1,0,0")),
+        (4, "4 before 5: half of it is the earlier slave's", slaves((4096, 4096), (6144, 4096))),
+        (4, "4 before 6: the total passed, no byte in common", slaves((0, 65536), (98304, 65536))),
+        (5, "5 before 6: the total passed, a byte in common", slaves((0, 65536), (0, 8))),
+    ]),
+    ("Several lines with a fault: the first of them", [
+        (3, "a width of 3, then another word", text("master,3,8", "bus,4,8")),
+        (5, "the same bytes, then a base that is no multiple", slaves((0, 8), (0, 8), (4, 8))),
+        (6, "the total passed, then a master behind a slave", slaves((0, 65536), (65536, 8)) + text(MASTER)),
+        (7, "a pair twice, then a line without its line feed", small() + text(SHARE) + "share,0"),
+        (3, "a width of 3, then the end without a slave", text("master,3,8")),
+        (1, "a line without its line feed, then the end without a slave", MASTER),
+    ]),
+]
+
+
+def chosen():
+    """The records of all parts: number, reason with the part's heading, text."""
+    return [(number, f"{part}: {reason}", description) for part, records in LIST for number, reason, description in records]
+
+
+def written(records):
+    """The records as the program reads them: a length, a line feed, and so many bytes."""
+    texts = [description.encode("latin-1") for _, _, description in records]
+    return b"".join(b"%d\n" % len(description) + description for description in texts)
+
+
+def answered():
+    """The numbers of the stored answers, each of which begins with a line read,N."""
+    lines = ANSWERS.read_bytes().splitlines()
+    return [int(line[len(b"read,"):]) for line in lines if line.startswith(b"read,")]
+
+
+def complaints(records):
+    """What is stored and does not agree with the list."""
+    if RECORDS.read_bytes() != written(records):
+        yield "the stored records are not those of the list"
+    numbers = answered()
+    if len(numbers) != len(records):
+        yield f"{len(numbers)} stored answers to {len(records)} records"
+    for (number, reason, _), answer in zip(records, numbers):
+        if answer != number:
+            yield f"the stored answer is {answer}, the list's {number}, for {reason}"
+
+
+def main(arguments):
+    records = chosen()
+    if not arguments:
+        RECORDS.write_bytes(written(records))
+        print(f"texts: {len(records)} records written")
+        return 0
+    if arguments == ["--check"]:
+        found = list(complaints(records))
+        for complaint in found or [f"{len(records)} records and their answers agree"]:
+            print(f"texts: {complaint}")
+        return 1 if found else 0
+    asked = arguments in (["-h"], ["--help"])
+    print(__doc__, end="", file=sys.stdout if asked else sys.stderr)
+    return 0 if asked else 2
+
+
+if __name__ == "__main__":
+    sys.exit(main(sys.argv[1:]))
