@@ -13,10 +13,10 @@ byte for byte, on input that the model generates from SEED (2 where it is not gi
   table     COUNT / 2 boards
   simulate  COUNT boards, each with a script of about 100 calls
 
-Before that the model is held to the rows of document 01 (model check). Prints a line for each; of
-what differs, the input and both outputs are kept in target/compare/NAME. Exit status: 0 where
+Before that the model is held to the rules by its own tests (cargo test). Prints a line for each;
+of what differs, the input and both outputs are kept in target/compare/NAME. Exit status: 0 where
 nothing differs, 1 where something does, 2 where something could not be compared, as where a
-program is not built.
+program is not built or the model fails its tests.
 END
 }
 
@@ -148,9 +148,10 @@ esac
 [ "$count" -ge 2 ] || fail "COUNT is 2 or more"
 cargo build --release --offline --quiet --manifest-path "$root/model/Cargo.toml" --target-dir "$root/target/model" ||
     fail "the model cannot be built"
-"$model" check > "$root/target/model/check" || {
-    cat "$root/target/model/check" >&2
-    fail "the model does not have document 01's rows"
+cargo test --offline --quiet --manifest-path "$root/model/Cargo.toml" --target-dir "$root/target/model" \
+    > "$root/target/model/tests" 2>&1 || {
+    cat "$root/target/model/tests" >&2
+    fail "the model fails its tests"
 }
 different=0
 compare_texts

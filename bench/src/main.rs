@@ -1,17 +1,9 @@
 //! Times the library's calls against the model's code, in one run.
 
-#[allow(dead_code)]
-#[path = "../../model/src/description.rs"]
-mod description;
-#[allow(dead_code)]
-#[path = "../../model/src/fabric.rs"]
-mod fabric;
 mod library;
 mod traffic;
-#[allow(dead_code)]
-#[path = "../../model/src/wait.rs"]
-mod wait;
 
+use model::{description, fabric, wait};
 use std::env;
 use std::fs;
 use std::hint::black_box;

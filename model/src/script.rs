@@ -1,10 +1,18 @@
-//! The simulator: it reads a script line by line and prints the answers.
+//! The simulator: it runs a script line by line and prints the answers.
+
+mod fields;
+mod print;
 
 use std::io::{self, BufRead, Write};
 
-use crate::description::{number, read, Board, Master, Slave, MASTER_LIMIT, SLAVE_LIMIT};
-use crate::fabric::{clock, post, reset, Answer, Slot, State, Transfer, BUFFER_LENGTH};
+use crate::board::{Board, Master, Slave, MASTER_LIMIT, SLAVE_LIMIT};
+use crate::description::{number, read};
+use crate::fabric::{clock, post, reset, Slot, State, Transfer, BUFFER_LENGTH};
 use crate::wait::{wait_call, ANSWER_LENGTH};
+use fields::{byte, exactly, flag, hex_bytes, index, is_write, number32, up_to};
+use print::{put_clock, put_slots, put_transfers};
+
+pub use print::put_hex;
 
 /// How far a lent length may pass the exact one.
 pub const LEND_OVER: usize = 8;
@@ -26,6 +34,7 @@ impl Store {
         }
     }
 
+    /// The longest that may be lent.
     pub fn limit(&self) -> usize {
         self.bytes.len()
     }
@@ -43,6 +52,7 @@ impl Store {
     }
 }
 
+/// A board with all that a caller of the fabric lends. Board, state and lengths may be set to anything.
 pub struct Simulator {
     text: Vec<u8>,
     pub board: Board,
@@ -95,11 +105,11 @@ impl Simulator {
 
     fn run_post(&mut self, fields: &[&[u8]]) -> Option<String> {
         let [master, direction, address, lanes, beats, data] = exactly(fields)?;
-        let master = up_to(master, u32::MAX as u64)? as u32;
+        let master = number32(master)?;
         let transfer = Transfer {
             held: true,
             write: is_write(direction)?,
-            address: up_to(address, u32::MAX as u64)? as u32,
+            address: number32(address)?,
             lanes: byte(lanes)?,
             beats: byte(beats)?,
         };
@@ -107,20 +117,13 @@ impl Simulator {
         if data.len() > POST_BYTES_LIMIT {
             return None;
         }
-        let buffer = self.buffer.lent();
-        let number = post(
-            &self.board,
-            &mut self.state,
-            buffer,
-            master,
-            transfer,
-            &data,
-        );
+        let (board, state, buffer) = (&self.board, &mut self.state, self.buffer.lent());
+        let number = post(board, state, buffer, master, transfer, &data);
         Some(format!("post,{number}\n"))
     }
 
     fn run_clock(&mut self, fields: &[&[u8]], output: &mut impl Write) -> io::Result<Option<()>> {
-        let count = exactly(fields).and_then(|[count]| up_to(count, u32::MAX as u64));
+        let count = exactly(fields).and_then(|[count]| number32(count));
         let Some(count) = count else {
             return Ok(None);
         };
@@ -138,12 +141,12 @@ impl Simulator {
 
     fn run_wait(&mut self, fields: &[&[u8]]) -> Option<String> {
         let [master, slave] = exactly(fields)?;
-        let master = up_to(master, u32::MAX as u64)? as u32;
-        let slave = up_to(slave, u32::MAX as u64)? as u32;
+        let master = number32(master)?;
+        let slave = number32(slave)?;
         let mut answer = [0; ANSWER_LENGTH];
         let number = wait_call(&self.text, master, slave, &mut answer);
-        let wait = low_first(&answer[..8]);
-        let serve = low_first(&answer[8..]);
+        let (wait, serve) = answer.split_at(8);
+        let (wait, serve) = (low_first(wait), low_first(serve));
         Some(format!("wait,{number},{wait},{serve}\n"))
     }
 
@@ -194,7 +197,8 @@ impl Simulator {
             return Ok(None);
         }
         let mut text = Vec::new();
-        put_state(&mut text, &self.state);
+        put_transfers(&mut text, &self.state.transfers);
+        put_slots(&mut text, &self.state.slots);
         output.write_all(&text)?;
         Ok(Some(()))
     }
@@ -205,7 +209,7 @@ impl Simulator {
         self.state.transfers[master] = Transfer {
             held: flag(held)?,
             write: flag(write)?,
-            address: up_to(address, u32::MAX as u64)? as u32,
+            address: number32(address)?,
             lanes: byte(lanes)?,
             beats: byte(beats)?,
         };
@@ -239,8 +243,8 @@ impl Simulator {
         let [slave, base, span, width, burst, read_wait, write_wait] = exactly(fields)?;
         let slave = index(slave, SLAVE_LIMIT)?;
         self.board.slaves[slave] = Slave {
-            base: up_to(base, u32::MAX as u64)? as u32,
-            span: up_to(span, u32::MAX as u64)? as u32,
+            base: number32(base)?,
+            span: number32(span)?,
             width: byte(width)?,
             burst: byte(burst)?,
             read_wait: byte(read_wait)?,
@@ -274,66 +278,7 @@ fn print_answer(answer: Option<String>, output: &mut impl Write) -> io::Result<O
     }
 }
 
-fn exactly<'a, const N: usize>(fields: &[&'a [u8]]) -> Option<[&'a [u8]; N]> {
-    fields.try_into().ok()
-}
-
-fn up_to(field: &[u8], most: u64) -> Option<u64> {
-    number(field).filter(|&value| value <= most)
-}
-
-fn byte(field: &[u8]) -> Option<u8> {
-    up_to(field, u8::MAX as u64).map(|value| value as u8)
-}
-
-fn flag(field: &[u8]) -> Option<bool> {
-    up_to(field, 1).map(|value| value == 1)
-}
-
-fn index(field: &[u8], limit: usize) -> Option<usize> {
-    number(field)
-        .filter(|&value| value < limit as u64)
-        .map(|value| value as usize)
-}
-
-fn is_write(field: &[u8]) -> Option<bool> {
-    match field {
-        b"read" => Some(false),
-        b"write" => Some(true),
-        _ => None,
-    }
-}
-
-/// Lower case hex pairs, or `-` for none.
-fn hex_bytes(field: &[u8]) -> Option<Vec<u8>> {
-    if field == b"-" {
-        return Some(Vec::new());
-    }
-    if field.is_empty() || !field.len().is_multiple_of(2) {
-        return None;
-    }
-    field
-        .chunks(2)
-        .map(|pair| Some(hex_digit(pair[0])? * 16 + hex_digit(pair[1])?))
-        .collect()
-}
-
-fn hex_digit(digit: u8) -> Option<u8> {
-    match digit {
-        b'0'..=b'9' => Some(digit - b'0'),
-        b'a'..=b'f' => Some(digit - b'a' + 10),
-        _ => None,
-    }
-}
-
-pub fn put_hex(text: &mut Vec<u8>, bytes: &[u8]) {
-    const DIGITS: &[u8; 16] = b"0123456789abcdef";
-    for &byte in bytes {
-        text.push(DIGITS[(byte / 16) as usize]);
-        text.push(DIGITS[(byte % 16) as usize]);
-    }
-}
-
+/// The number of these bytes, lowest byte first.
 fn low_first(bytes: &[u8]) -> u64 {
     bytes
         .iter()
@@ -341,76 +286,7 @@ fn low_first(bytes: &[u8]) -> u64 {
         .fold(0, |value, &byte| value * 256 + byte as u64)
 }
 
-fn put_number(text: &mut Vec<u8>, mut value: u32) {
-    let mut digits = [0; 10];
-    let mut start = digits.len();
-    loop {
-        start -= 1;
-        digits[start] = b'0' + (value % 10) as u8;
-        value /= 10;
-        if value == 0 {
-            break;
-        }
-    }
-    text.extend_from_slice(&digits[start..]);
-}
-
-/// A word and numbers parted by commas, and a line feed.
-fn put_line(text: &mut Vec<u8>, word: &[u8], values: &[u32]) {
-    text.extend_from_slice(word);
-    for &value in values {
-        text.push(b',');
-        put_number(text, value);
-    }
-    text.push(b'\n');
-}
-
-fn put_clock(text: &mut Vec<u8>, board: &Board, answer: &Answer) {
-    put_line(text, b"clock", &[answer.number as u32, answer.mask as u32]);
-    if answer.number != 0 {
-        return;
-    }
-    for slave in 0..board.slave_count as usize {
-        let line = &answer.lines[slave];
-        let values = [
-            slave as u32,
-            line.phase as u32,
-            line.owner as u32,
-            line.offset,
-            line.lanes as u32,
-            line.run as u32,
-            line.place as u32,
-        ];
-        put_line(text, b"slave", &values);
-    }
-}
-
-fn put_state(text: &mut Vec<u8>, state: &State) {
-    for (master, transfer) in state.transfers.iter().enumerate() {
-        let values = [
-            master as u32,
-            transfer.held as u32,
-            transfer.write as u32,
-            transfer.address,
-            transfer.lanes as u32,
-            transfer.beats as u32,
-        ];
-        put_line(text, b"transfer", &values);
-    }
-    for (slave, slot) in state.slots.iter().enumerate() {
-        let values = [
-            slave as u32,
-            slot.owner as u32,
-            slot.remaining as u32,
-            slot.serving as u32,
-            slot.done as u32,
-            slot.waited as u32,
-        ];
-        put_line(text, b"slot", &values);
-    }
-}
-
-/// Runs a whole script on a board's text.
+/// Runs a whole script on the board of a text, up to its first malformed line.
 pub fn simulate(text: &[u8], script: &mut impl BufRead, output: &mut impl Write) -> io::Result<()> {
     let mut simulator = match Simulator::new(text) {
         Err(number) => return writeln!(output, "refused,{number}"),

@@ -1,21 +1,23 @@
-//! The quoted wait and the table.
+//! The quoted wait: the longest that a master waits at a slave, and the longest that it is served there.
 
-use crate::description::{read, Board};
+use crate::board::Board;
+use crate::description::read;
 
+/// The bytes that the wait call writes.
 pub const ANSWER_LENGTH: usize = 16;
 
-/// "v be 1 plus the longer of the slave's two waits"
+/// The clocks of an access that waits as long as any at this slave.
 fn longest_access(board: &Board, slave: usize) -> u64 {
     let slave = &board.slaves[slave];
     1 + slave.read_wait.max(slave.write_wait) as u64
 }
 
-/// "A single lasts at most r × v clocks"
+/// The longest transfer of one beat.
 fn single(board: &Board, master: usize, slave: usize) -> u64 {
     board.ratio(master, slave) * longest_access(board, slave)
 }
 
-/// "n the smaller of the master's burst and span divided by master width"
+/// A burst is no longer than the master's own limit, nor than the span holds words.
 fn most_beats(board: &Board, master: usize, slave: usize) -> u64 {
     let width = board.masters[master].width as u64;
     let burst = board.masters[master].burst as u64;
@@ -23,18 +25,18 @@ fn most_beats(board: &Board, master: usize, slave: usize) -> u64 {
     burst.min(span / width)
 }
 
-/// "the longest transfer ("serve") n × r × v"
+/// The longest transfer of the master at the slave, in clocks.
 pub fn serve(board: &Board, master: usize, slave: usize) -> u64 {
     most_beats(board, master, slave) * single(board, master, slave)
 }
 
-/// "A turn is (shares − 1) × r × v + n × r × v."
+/// The longest turn: a burst ends it, so that all grants but the last are singles.
 fn turn(board: &Board, master: usize, slave: usize) -> u64 {
     let shares = board.shares[master][slave] as u64;
     (shares - 1) * single(board, master, slave) + serve(board, master, slave)
 }
 
-/// "the sum of the turns of all other masters connected there"
+/// At worst every other master connected to the slave has its longest turn first.
 pub fn wait(board: &Board, master: usize, slave: usize) -> u64 {
     (0..board.master_count as usize)
         .filter(|&other| other != master && board.connected(other, slave))
@@ -42,8 +44,7 @@ pub fn wait(board: &Board, master: usize, slave: usize) -> u64 {
         .sum()
 }
 
-/// The wait call: the text, then 10, 11, 16; wait and serve are written as two
-/// 64-bit numbers, lowest byte first.
+/// The wait call. Wait and serve are written as two numbers of 64 bits, lowest byte first.
 pub fn wait_call(text: &[u8], master: u32, slave: u32, output: &mut [u8]) -> u8 {
     match judge_wait(text, master, slave, output.len()) {
         Err(number) => number,
@@ -55,6 +56,7 @@ pub fn wait_call(text: &[u8], master: u32, slave: u32, output: &mut [u8]) -> u8 
     }
 }
 
+/// Refusals of the text, then 10, 11 and 16.
 fn judge_wait(text: &[u8], master: u32, slave: u32, room: usize) -> Result<(u64, u64), u8> {
     let board = read(text)?;
     if room < ANSWER_LENGTH {
@@ -69,26 +71,4 @@ fn judge_wait(text: &[u8], master: u32, slave: u32, room: usize) -> Result<(u64,
     }
     let slave = slave as usize;
     Ok((wait(&board, master, slave), serve(&board, master, slave)))
-}
-
-/// What the table program prints for a text.
-pub fn table(text: &[u8]) -> String {
-    match read(text) {
-        Err(number) => format!("refused,{number}\n"),
-        Ok(board) => board_table(&board),
-    }
-}
-
-fn board_table(board: &Board) -> String {
-    let mut output = String::from("master,slave,wait,serve\n");
-    for master in 0..board.master_count as usize {
-        for slave in 0..board.slave_count as usize {
-            if board.connected(master, slave) {
-                let wait = wait(board, master, slave);
-                let serve = serve(board, master, slave);
-                output.push_str(&format!("{master},{slave},{wait},{serve}\n"));
-            }
-        }
-    }
-    output
 }

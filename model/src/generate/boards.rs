@@ -1,0 +1,278 @@
+//! Boards that the reader takes, of all sizes.
+
+use std::fs;
+use std::io;
+use std::path::Path;
+
+use super::random::Random;
+use super::texts;
+use crate::board::{Board, Master, Slave, BURSTS, MASTER_LIMIT, MEMORY_LIMIT, SLAVE_LIMIT, WIDTHS};
+use crate::description::{check_board, write_lines};
+
+/// How large a board is to be.
+#[derive(Clone, Copy, PartialEq, Eq)]
+pub enum Size {
+    Tiny,
+    Small,
+    /// Many masters, few slaves.
+    Crowded,
+    Any,
+    Largest,
+}
+
+fn masters_of(random: &mut Random, size: Size) -> usize {
+    match size {
+        Size::Tiny => 1,
+        Size::Small => random.between(1, 4),
+        Size::Crowded => random.between(3, MASTER_LIMIT),
+        Size::Any => random.between(1, MASTER_LIMIT),
+        Size::Largest => MASTER_LIMIT,
+    }
+}
+
+fn slaves_of(random: &mut Random, size: Size) -> usize {
+    match size {
+        Size::Tiny => 1,
+        Size::Small => random.between(1, 3),
+        Size::Crowded => random.between(1, 2),
+        Size::Any => random.between(1, SLAVE_LIMIT),
+        Size::Largest => SLAVE_LIMIT,
+    }
+}
+
+/// Spans that fill the whole memory, by halving.
+pub fn spans_to_the_limit(random: &mut Random, count: usize) -> Vec<u64> {
+    let mut spans = vec![MEMORY_LIMIT];
+    while spans.len() < count {
+        let index = random.below(spans.len());
+        if spans[index] >= 16 {
+            spans[index] /= 2;
+            spans.push(spans[index]);
+        }
+    }
+    random.shuffle(&mut spans);
+    spans
+}
+
+fn spans_below_the_limit(random: &mut Random, count: usize) -> Vec<u64> {
+    let mut room = MEMORY_LIMIT;
+    let mut spans = Vec::new();
+    for index in 0..count {
+        let most = room - 8 * (count - index - 1) as u64;
+        let highest = most.ilog2() as usize;
+        let usual = if random.chance(3, 4) { 8 } else { 16 };
+        let span = 1u64 << random.between(3, highest.min(usual).max(3));
+        spans.push(span);
+        room -= span;
+    }
+    spans
+}
+
+fn spans(random: &mut Random, count: usize) -> Vec<u64> {
+    if random.chance(1, 6) {
+        spans_to_the_limit(random, count)
+    } else {
+        spans_below_the_limit(random, count)
+    }
+}
+
+fn is_free(slaves: &[Slave], base: u64, span: u64) -> bool {
+    base + span <= 1 << 32
+        && slaves.iter().all(|slave| {
+            let other = slave.base as u64;
+            base + span <= other || other + slave.span as u64 <= base
+        })
+}
+
+/// A base that is a multiple of the span, not yet known to be free.
+fn base_candidate(random: &mut Random, slaves: &[Slave], span: u64) -> u64 {
+    let neighbour = match slaves.is_empty() {
+        true => Slave::default(),
+        false => random.pick(slaves),
+    };
+    let low = neighbour.base as u64;
+    let high = low + neighbour.span as u64;
+    let base = match random.below(12) {
+        0 => 0,
+        1 => (1 << 32) - span,
+        2..=5 => high.div_ceil(span) * span,
+        6 | 7 => low.saturating_sub(span),
+        8 => random.draw() % (1 << 32),
+        9 => random.draw() % (1 << 31),
+        _ => random.draw() % (1 << 18),
+    };
+    base / span * span
+}
+
+/// A base at which a slave of this span overlaps no other.
+pub fn free_base(random: &mut Random, slaves: &[Slave], span: u64) -> u64 {
+    loop {
+        let base = base_candidate(random, slaves, span);
+        if is_free(slaves, base, span) {
+            return base;
+        }
+    }
+}
+
+/// The longest wait of a board's slaves.
+fn wait_limit(random: &mut Random) -> usize {
+    match random.below(20) {
+        0..=6 => 0,
+        7..=13 => 2,
+        14..=17 => 6,
+        18 => 30,
+        _ => 255,
+    }
+}
+
+fn wait(random: &mut Random, limit: usize) -> u8 {
+    if random.chance(1, 6) {
+        limit as u8
+    } else {
+        random.between(0, limit) as u8
+    }
+}
+
+fn shares(random: &mut Random, limit: usize) -> u8 {
+    if random.chance(1, 8) {
+        limit as u8
+    } else {
+        random.between(1, limit) as u8
+    }
+}
+
+/// Gives the pairs their shares, or leaves them unconnected.
+fn connect(random: &mut Random, board: &mut Board, size: Size) {
+    let limit = random.pick(&[1, 2, 3, 4, 5, 8, 100]);
+    // of eight pairs, how many are connected
+    let density = match random.below(20) {
+        _ if size == Size::Largest => 8,
+        0 => 0,
+        1..=3 => 3,
+        4..=8 => 6,
+        _ => 8,
+    };
+    for (master, slave) in board.pairs() {
+        if random.chance(density, 8) {
+            board.shares[master][slave] = shares(random, limit);
+        }
+    }
+}
+
+/// Puts each slave where no earlier one lies.
+fn place_slaves(random: &mut Random, board: &mut Board) {
+    let limit = wait_limit(random);
+    let spans = spans(random, board.slave_count as usize);
+    for (index, &span) in spans.iter().enumerate() {
+        board.slaves[index] = Slave {
+            base: free_base(random, &board.slaves[..index], span) as u32,
+            span: span as u32,
+            width: random.pick(&WIDTHS) as u8,
+            burst: random.pick(&BURSTS) as u8,
+            read_wait: wait(random, limit),
+            write_wait: wait(random, limit),
+        };
+    }
+}
+
+/// A board that the reader takes.
+pub fn board(random: &mut Random, size: Size) -> Board {
+    let mut board = Board {
+        master_count: masters_of(random, size) as u8,
+        slave_count: slaves_of(random, size) as u8,
+        ..Board::default()
+    };
+    for master in &mut board.masters[..board.master_count as usize] {
+        *master = Master {
+            width: random.pick(&WIDTHS) as u8,
+            burst: random.pick(&BURSTS) as u8,
+        };
+    }
+    place_slaves(random, &mut board);
+    connect(random, &mut board, size);
+    debug_assert!(check_board(&board).is_ok());
+    board
+}
+
+/// A slave whose line is as long as one can be; they lie below the highest address, downward.
+fn longest_slave(index: usize) -> Slave {
+    Slave {
+        base: u32::MAX - 4096 * (index as u32 + 1) + 1,
+        span: 4096,
+        width: 8,
+        burst: 64,
+        read_wait: 255,
+        write_wait: 255,
+    }
+}
+
+/// A board with the longest lines there can be.
+pub fn longest_board(random: &mut Random) -> Board {
+    let mut board = board(random, Size::Largest);
+    for master in &mut board.masters {
+        master.burst = 64;
+    }
+    board.slaves = std::array::from_fn(longest_slave);
+    board.shares = [[100; SLAVE_LIMIT]; MASTER_LIMIT];
+    debug_assert!(check_board(&board).is_ok());
+    board
+}
+
+pub fn any_size(random: &mut Random) -> Size {
+    match random.below(20) {
+        0 => Size::Tiny,
+        1..=5 => Size::Small,
+        6..=12 => Size::Crowded,
+        13..=18 => Size::Any,
+        _ => Size::Largest,
+    }
+}
+
+/// The lines of a board, the share lines sometimes in another order.
+pub fn lines(random: &mut Random, board: &Board) -> Vec<Vec<u8>> {
+    let mut lines: Vec<Vec<u8>> = write_lines(board)
+        .into_iter()
+        .map(String::into_bytes)
+        .collect();
+    if random.chance(1, 2) {
+        let first = board.master_count as usize + board.slave_count as usize;
+        random.shuffle(&mut lines[first..]);
+    }
+    lines
+}
+
+/// The lines, each with its line feed.
+pub fn joined(lines: &[Vec<u8>]) -> Vec<u8> {
+    let mut text = Vec::new();
+    for line in lines {
+        text.extend_from_slice(line);
+        text.push(b'\n');
+    }
+    text
+}
+
+fn taken_text(random: &mut Random) -> Vec<u8> {
+    let size = any_size(random);
+    let board = match random.chance(1, 40) {
+        true => longest_board(random),
+        false => board(random, size),
+    };
+    joined(&lines(random, &board))
+}
+
+/// Boards for the simulator, a file each: about nine in ten are taken by the reader.
+pub fn write_boards(seed: u64, count: usize, directory: &Path) -> io::Result<()> {
+    fs::create_dir_all(directory)?;
+    let mut random = Random::new(seed);
+    let plans = texts::damaging_plans();
+    for index in 0..count {
+        let text = if random.chance(1, 10) {
+            let plan = random.pick(&plans);
+            texts::text(&mut random, plan)
+        } else {
+            taken_text(&mut random)
+        };
+        fs::write(directory.join(format!("{index}.txt")), text)?;
+    }
+    Ok(())
+}

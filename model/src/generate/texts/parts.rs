@@ -1,0 +1,80 @@
+//! The parts of a description text: its board, its lines and their fields.
+
+use std::ops::Range;
+
+use crate::board::Board;
+use crate::generate::boards::{board, Size};
+use crate::generate::random::Random;
+
+/// The kinds of lines.
+#[derive(Clone, Copy, PartialEq, Eq)]
+pub enum Kind {
+    Master,
+    Slave,
+    Share,
+}
+
+pub const KINDS: [Kind; 3] = [Kind::Master, Kind::Slave, Kind::Share];
+
+impl Kind {
+    pub fn word(self) -> &'static str {
+        match self {
+            Kind::Master => "master",
+            Kind::Slave => "slave",
+            Kind::Share => "share",
+        }
+    }
+
+    pub fn field_count(self) -> usize {
+        match self {
+            Kind::Master => 3,
+            Kind::Slave => 7,
+            Kind::Share => 4,
+        }
+    }
+
+    /// Where the lines of this kind lie among a board's lines.
+    pub fn range(self, board: &Board, line_count: usize) -> Range<usize> {
+        let slaves = board.master_count as usize;
+        let shares = slaves + board.slave_count as usize;
+        match self {
+            Kind::Master => 0..slaves,
+            Kind::Slave => slaves..shares,
+            Kind::Share => shares..line_count,
+        }
+    }
+}
+
+/// A board to be damaged; it has a line of every kind.
+pub fn damage_board(random: &mut Random) -> Board {
+    let size = match random.below(20) {
+        0..=3 => Size::Tiny,
+        4..=15 => Size::Small,
+        16..=18 => Size::Any,
+        _ => Size::Largest,
+    };
+    let mut board = board(random, size);
+    if board.shares.iter().flatten().all(|&shares| shares == 0) {
+        board.shares[0][0] = 1;
+    }
+    board
+}
+
+pub fn pick_line(random: &mut Random, board: &Board, line_count: usize, kind: Kind) -> usize {
+    let range = kind.range(board, line_count);
+    random.between(range.start, range.end - 1)
+}
+
+pub fn fields_of(line: &[u8]) -> Vec<Vec<u8>> {
+    line.split(|&byte| byte == b',')
+        .map(<[u8]>::to_vec)
+        .collect()
+}
+
+pub fn joined_fields(fields: &[Vec<u8>]) -> Vec<u8> {
+    fields.join(&b',')
+}
+
+pub fn value_of(field: &[u8]) -> u64 {
+    String::from_utf8_lossy(field).parse().unwrap_or(0)
+}

@@ -1,0 +1,59 @@
+//! The generators: boards that are taken, and texts and scripts that reach every refusal.
+
+use model::description::{read, write};
+use model::generate::boards::{any_size, board, longest_board};
+use model::generate::random::Random;
+use model::generate::{scripts, texts};
+use model::records::print_boards;
+use model::script::simulate;
+
+#[test]
+fn generated_boards_are_read_back() {
+    for seed in 0..200 {
+        let mut random = Random::new(seed);
+        let size = any_size(&mut random);
+        let board = board(&mut random, size);
+        assert_eq!(read(write(&board).as_bytes()), Ok(board), "seed {seed}");
+    }
+}
+
+#[test]
+fn the_longest_board_is_taken() {
+    let board = longest_board(&mut Random::new(1));
+    assert_eq!(read(write(&board).as_bytes()), Ok(board));
+}
+
+#[test]
+fn generated_texts_reach_every_refusal_of_the_reader() {
+    let (mut records, mut answers) = (Vec::new(), Vec::new());
+    texts::write_texts(1, 2000, &mut records).expect("memory takes all");
+    print_boards(&records, &mut answers).expect("the records are whole");
+    let answers = String::from_utf8(answers).expect("the answers are ASCII");
+    for number in 0..=7 {
+        let line = format!("read,{number}");
+        assert!(answers.lines().any(|answer| answer == line), "no {line}");
+    }
+}
+
+/// What is printed for generated scripts on generated boards.
+fn printed_by_scripts(seeds: std::ops::Range<u64>) -> String {
+    let mut printed = Vec::new();
+    for seed in seeds {
+        let mut random = Random::new(seed);
+        let size = any_size(&mut random);
+        let text = write(&board(&mut random, size));
+        let mut script = Vec::new();
+        scripts::write_script(seed, 200, text.as_bytes(), &mut script).expect("memory takes all");
+        simulate(text.as_bytes(), &mut &script[..], &mut printed).expect("memory takes all");
+    }
+    String::from_utf8(printed).expect("scripts print ASCII")
+}
+
+#[test]
+fn generated_scripts_reach_every_refusal_of_a_post() {
+    let printed = printed_by_scripts(0..200);
+    for number in [0, 2, 3, 4, 5, 6, 7, 8, 9, 11, 12, 13, 14, 15, 16, 17, 18] {
+        let line = format!("post,{number}");
+        assert!(printed.lines().any(|answer| answer == line), "no {line}");
+    }
+}

@@ -1,0 +1,19 @@
+//! Holds the model to the rules: to worked examples of each, and to what they promise of every history.
+
+mod accesses;
+mod arbiter;
+mod description;
+mod fabric;
+mod generators;
+mod histories;
+mod lanes;
+mod posts;
+mod programs;
+mod waits;
+
+/// A slave with a master twice as wide and one as wide as itself.
+const BOARD: &str = "master,4,8\n\
+                     master,2,1\n\
+                     slave,4096,4096,2,8,1,0\n\
+                     share,0,0,2\n\
+                     share,1,0,3\n";

@@ -1,0 +1,48 @@
+//! The programs' formats: where a script and a file of records end.
+
+use crate::BOARD;
+use model::records::{print_boards, print_places};
+use model::script::simulate;
+
+fn printed_by_script(script: &str) -> String {
+    let mut output = Vec::new();
+    simulate(BOARD.as_bytes(), &mut script.as_bytes(), &mut output).expect("memory takes all");
+    String::from_utf8(output).expect("a script prints ASCII")
+}
+
+#[test]
+fn a_script_ends_at_its_first_malformed_line() {
+    let printed = printed_by_script("reset\nclock,1\nclock,01\nreset\n");
+    assert_eq!(
+        printed,
+        "reset,0\nclock,0,0\nslave,0,0,0,0,0,0,0\nerror,3\n"
+    );
+}
+
+#[test]
+fn a_script_needs_no_last_line_feed() {
+    assert_eq!(
+        printed_by_script("reset\nwait,1,0"),
+        "reset,0\nwait,0,36,2\n"
+    );
+}
+
+#[test]
+fn each_record_has_its_answer() {
+    let records = format!("{}\n{BOARD}1\n\n0\n", BOARD.len());
+    let mut boards = Vec::new();
+    print_boards(records.as_bytes(), &mut boards).expect("the records are whole");
+    assert_eq!(
+        boards,
+        format!("read,0\n{BOARD}read,1\nread,2\n").as_bytes()
+    );
+    let mut places = Vec::new();
+    print_places(records.as_bytes(), &mut places).expect("the records are whole");
+    assert_eq!(places, b"read,0\nother,1\nend,2\n");
+}
+
+#[test]
+fn a_record_that_is_cut_off_is_an_error() {
+    assert!(print_boards(b"3\nab", &mut Vec::new()).is_err());
+    assert!(print_boards(b"x\nab", &mut Vec::new()).is_err());
+}
