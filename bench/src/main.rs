@@ -1,107 +1,59 @@
-//! Times the library's calls against the model's code, in one run.
+//! Times the library's calls against the model, in one run. Before a call is timed both sides have to answer the same.
 
 mod library;
+mod measure;
+mod sides;
 mod traffic;
 
-use model::{description, fabric, wait};
 use std::env;
 use std::fs;
 use std::hint::black_box;
 use std::io;
 use std::path::PathBuf;
 use std::process::ExitCode;
-use std::time::Instant;
-use traffic::{Library, Model, Pace, Plan};
 
-/// How many places of the stack are tried: a call's time depends on where its locals lie in a
-/// cache line and in a page, which changes from run to run.
-const PLACES: usize = 64;
-/// How often each side is timed at one place; the best round counts.
-const ROUNDS: usize = 100;
-/// Calls of a round, and clocks of a round. A round is far shorter than a turn of the scheduler, so
-/// that on a busy machine too some rounds of each side are not interrupted.
+use measure::{clocks_to_a_second, measure, microseconds, report};
+use model::board::{Board, MASTER_LIMIT, SLAVE_LIMIT};
+use model::description;
+use model::fabric::BUFFER_LENGTH;
+use model::wait::{wait_call, ANSWER_LENGTH};
+use sides::{Library, Model};
+use traffic::{Pace, Plan};
+
+/// Calls of a round, and clocks of a round. A round is far shorter than a turn of the scheduler, so that on a busy machine too
+/// some rounds of each side are not interrupted.
 const CALLS: u32 = 16;
 const CLOCKS: u32 = 128;
 
-/// A piece of work that is done `count` times.
-type Work<'a> = &'a mut dyn FnMut(u32);
+/// Masters and slaves of the boards that the traffic is made on.
+const SIZES: [(usize, usize); 3] = [(2, 1), (8, 4), (8, 16)];
 
-/// Nanoseconds for one time of the work, by the median of the places.
-struct Measured {
-    library: f64,
-    model: f64,
-    /// The ratio at the place where the library does worst.
-    worst: f64,
-}
-
-/// Nanoseconds for one time of the work.
-fn timed(count: u32, work: Work) -> f64 {
-    let start = Instant::now();
-    work(count);
-    start.elapsed().as_nanos() as f64 / count as f64
-}
-
-/// The best round of each side, with the stack `depth` frames further down. The sides take turns, so
-/// that what slows the machine slows both.
-#[inline(never)]
-fn race(depth: usize, count: u32, library: Work, model: Work) -> (f64, f64) {
-    let frame = black_box([0u8; 200]);
-    let best = match depth {
-        0 => (0..ROUNDS).fold((f64::INFINITY, f64::INFINITY), |best, _| {
-            (
-                best.0.min(timed(count, library)),
-                best.1.min(timed(count, model)),
-            )
-        }),
-        _ => race(depth - 1, count, library, model),
-    };
-    black_box(&frame);
-    best
-}
-
-fn median(mut times: Vec<f64>) -> f64 {
-    times.sort_by(f64::total_cmp);
-    times[times.len() / 2]
-}
-
-fn measure(count: u32, library: Work, model: Work) -> Measured {
-    let places: Vec<(f64, f64)> = (0..PLACES)
-        .map(|depth| race(depth, count, library, model))
-        .collect();
-    Measured {
-        library: median(places.iter().map(|place| place.0).collect()),
-        model: median(places.iter().map(|place| place.1).collect()),
-        worst: places
-            .iter()
-            .map(|place| place.0 / place.1)
-            .fold(0.0, f64::max),
-    }
-}
-
-/// A line of the report: both sides' figures, and the ratio of the library's time to the model's.
-fn report(name: &str, measured: Measured, figure: fn(f64) -> String) {
-    println!(
-        "{name}: library {}, model {}, ratio {:.2} (at worst {:.2})",
-        figure(measured.library),
-        figure(measured.model),
-        measured.library / measured.model,
-        measured.worst
-    );
-}
-
-fn microseconds(time: f64) -> String {
-    format!("{:.2} us", time / 1000.0)
-}
-
-fn clocks_to_a_second(time: f64) -> String {
-    format!("{:.0} clocks/s", 1e9 / time)
+/// A board's numbers in the order of the library's array.
+fn numbers(board: &Board) -> [u32; library::BOARD] {
+    let counts = [board.master_count, board.slave_count].map(u32::from);
+    let masters = board
+        .masters
+        .iter()
+        .flat_map(|master| [master.width, master.burst]);
+    let slaves = board.slaves.iter().flat_map(|slave| {
+        let bytes = [slave.width, slave.burst, slave.read_wait, slave.write_wait];
+        [slave.base, slave.span]
+            .into_iter()
+            .chain(bytes.map(u32::from))
+    });
+    let shares = board.shares.into_iter().flatten();
+    let mut numbers = counts.to_vec();
+    numbers.extend(masters.map(u32::from));
+    numbers.extend(slaves);
+    numbers.extend(shares.map(u32::from));
+    numbers.try_into().expect("a board has as many numbers")
 }
 
 fn bench_read(text: &[u8]) {
     let of_model = description::read(text).expect("the largest board is refused");
     let mut board = [0; library::BOARD];
     assert_eq!(library::read(text, &mut board), 0);
-    assert_eq!(board, traffic::numbers(&of_model));
+    assert_eq!(board, numbers(&of_model));
     let mut model = |count| {
         for _ in 0..count {
             let _ = black_box(description::read(black_box(text)));
@@ -118,28 +70,34 @@ fn bench_read(text: &[u8]) {
     report("read largest board", measured, microseconds);
 }
 
-/// A master and a slave for each call.
+/// A master and a slave for each call: all pairs, one after another.
 fn pair(call: u32) -> (u32, u32) {
-    (call / 16 % 8, call % 16)
+    let (masters, slaves) = (MASTER_LIMIT as u32, SLAVE_LIMIT as u32);
+    (call / slaves % masters, call % slaves)
 }
 
-fn bench_wait(text: &[u8]) {
-    for (master, slave) in (0..128).map(pair) {
-        let mut of_model = [0; wait::ANSWER_LENGTH];
-        let mut of_library = [0; wait::ANSWER_LENGTH];
-        let number = wait::wait_call(text, master, slave, &mut of_model) as u32;
+fn compare_waits(text: &[u8]) {
+    let pairs = (MASTER_LIMIT * SLAVE_LIMIT) as u32;
+    for (master, slave) in (0..pairs).map(pair) {
+        let mut of_model = [0; ANSWER_LENGTH];
+        let mut of_library = [0; ANSWER_LENGTH];
+        let number = wait_call(text, master, slave, &mut of_model) as u32;
         assert_eq!(library::wait(text, master, slave, &mut of_library), number);
         assert_eq!(of_library, of_model);
     }
-    let mut answer = [0; wait::ANSWER_LENGTH];
+}
+
+fn bench_wait(text: &[u8]) {
+    compare_waits(text);
+    let mut answer = [0; ANSWER_LENGTH];
     let mut model = |count| {
         for call in 0..count {
             let (master, slave) = black_box(pair(call));
-            black_box(wait::wait_call(black_box(text), master, slave, &mut answer));
+            black_box(wait_call(black_box(text), master, slave, &mut answer));
             black_box(&mut answer);
         }
     };
-    let mut answer = [0; wait::ANSWER_LENGTH];
+    let mut answer = [0; ANSWER_LENGTH];
     let mut library = |count| {
         for call in 0..count {
             let (master, slave) = black_box(pair(call));
@@ -154,11 +112,11 @@ fn bench_wait(text: &[u8]) {
 /// Memory and buffer of a side.
 fn stores(slaves: usize) -> (Vec<u8>, Vec<u8>) {
     let memory = (0..slaves * traffic::SPAN).map(|i| i as u8).collect();
-    (memory, vec![0; fabric::BUFFER_LENGTH])
+    (memory, vec![0; BUFFER_LENGTH])
 }
 
-/// A traffic on a board, in clocks with their posts. The board is read once, before; each round starts with a reset, so that all
-/// rounds are alike.
+/// A traffic on a board, in clocks with their posts. The board is read once, before; each round starts with a reset, so that
+/// all rounds are alike.
 fn bench_traffic(masters: usize, slaves: usize, plan: Plan) {
     let text = traffic::board_text(masters, slaves);
     let board = &description::read(text.as_bytes()).expect("the traffic's board is refused");
@@ -216,19 +174,27 @@ fn bench_rattle(masters: usize, slaves: usize) {
     report(&name, measured, clocks_to_a_second);
 }
 
+/// The plans of the traffic: singles and bursts, clock by clock and by runs.
+fn plans() -> impl Iterator<Item = Plan> {
+    let paces = [Pace::Clock, Pace::Run];
+    paces
+        .into_iter()
+        .flat_map(|pace| [1, 8].map(|beats| Plan { pace, beats }))
+}
+
+fn bench_plan(plan: Plan) {
+    for (masters, slaves) in SIZES {
+        bench_traffic(masters, slaves, plan);
+    }
+}
+
 fn run() -> io::Result<()> {
     let folder = PathBuf::from(env::args().nth(1).unwrap_or_else(|| "boards".to_string()));
     let text = fs::read(folder.join("largest.txt"))?;
     bench_read(&text);
     bench_wait(&text);
-    for pace in [Pace::Clock, Pace::Run] {
-        for beats in [1, 8] {
-            for (masters, slaves) in [(2, 1), (8, 4), (8, 16)] {
-                bench_traffic(masters, slaves, Plan { pace, beats });
-            }
-        }
-    }
-    for (masters, slaves) in [(2, 1), (8, 4), (8, 16)] {
+    plans().for_each(bench_plan);
+    for (masters, slaves) in SIZES {
         bench_rattle(masters, slaves);
     }
     Ok(())
