@@ -117,6 +117,14 @@ compare_texts() {
     report texts "$count records" "$differences"
 }
 
+# The stored records are those of tests/texts.py, and their stored answers are the model's: rt checks only that the program
+# prints what is stored.
+compare_stored() {
+    "$root/tests/texts.py" --check || fail "the stored records are not those of tests/texts.py"
+    "$model" texts < "$root/crates/texts/stdin" | cmp -s - "$root/crates/texts/stdout" ||
+        fail "the stored answers in crates/texts/stdout are not the model's"
+}
+
 # Boards, two parts at a time.
 compare_boards() {
     begin "$1"
@@ -154,6 +162,7 @@ cargo test --offline --quiet --manifest-path "$root/model/Cargo.toml" --target-d
     fail "the model fails its tests"
 }
 different=0
+compare_stored
 compare_texts
 compare_boards table "$((count / 2))" "$((count / 2)) boards"
 compare_boards simulate "$count" "$count boards of $calls calls"

@@ -1,0 +1,203 @@
+#!/usr/bin/env python3
+"""Checks that what the documents and comments cite exists.
+
+usage: tests/names.py [--write]
+
+- a rule that is cited ("rule 4.5", "rules 4.3 to 4.6") stands in docs/RULES.md, and each rule has a row in docs/PROMISES.md;
+- a crate, file, definition, function, law or must-fail edit that a document names in backquotes exists;
+- each must-fail edit is named in docs/PROMISES.md;
+- the constants of include/fabric.h are those of crate common_numbers;
+- docs/READING.md lists every file of definitions that is to be believed, with its number of lines (--write puts the numbers).
+
+Prints a line for each complaint; exit status 0 where there is none, else 1.
+"""
+import re
+import subprocess
+import sys
+from pathlib import Path
+
+ROOT = Path(__file__).resolve().parent.parent
+# What a document may name in backquotes and this repository does not have: programs and words of the language or of the kit.
+FOREIGN = set("io libc os std check rt gcc cargo python3 valgrind antt".split())
+
+
+def tracked():
+    listed = subprocess.run(["git", "ls-files", "-co", "--exclude-standard"], cwd=ROOT, capture_output=True, text=True)
+    return [ROOT / name for name in listed.stdout.split("\n") if name and (ROOT / name).is_file()]
+
+
+def text_of(path):
+    return path.read_text(errors="replace")
+
+
+def rules():
+    return set(re.findall(r"^- \*\*(\d+\.\d+)\*\*", text_of(ROOT / "docs/RULES.md"), re.M))
+
+
+def cited_rules(text):
+    """The numbers behind "rule" or "rules": 4.3, 4.4; 4.3 to 4.6; 4.3 and 4.5."""
+    for found in re.finditer(r"\brules? (\d+\.\d+(?:(?:, | and | to | or |, and )\d+\.\d+)*)", text, re.I):
+        yield from re.findall(r"\d+\.\d+", found.group(1))
+
+
+def rule_complaints(files):
+    known = rules()
+    for path in files:
+        if path.suffix in (".md", ".antt", ".rt", ".h", ".c", ".sh", ".rs", ".py") and path.name != "LANDINGS.md":
+            for number in cited_rules(text_of(path)):
+                if number not in known:
+                    yield f"{path.relative_to(ROOT)}: there is no rule {number}"
+    rows = set()
+    for line in text_of(ROOT / "docs/PROMISES.md").split("\n"):
+        if line.startswith("| "):
+            rows |= set(re.findall(r"\d+\.\d+", line.split("|")[1]))
+    for number in sorted(known - rows, key=lambda n: [int(part) for part in n.split(".")]):
+        yield f"docs/PROMISES.md: no row for rule {number}"
+
+
+class Names:
+    """What exists: crates, files, and every word of code, definitions, laws, scripts and the header."""
+
+    def __init__(self, files):
+        self.crates = {path.parent.name for path in (ROOT / "crates").glob("*/src")}
+        self.edits = {f"{path.parent.parent.name}/{path.stem}" for path in files if path.suffix == ".edit"}
+        self.words = set()
+        self.in_crate = {}
+        for path in files:
+            if path.suffix in (".antt", ".rt", ".h", ".c", ".sh", ".rs", ".py", ".toml") or path.name == "run":
+                words = set(re.findall(r"[\w′]+(?:-[\w′]+)*", text_of(path)))
+                self.words |= words | set(re.findall(r"\w+", text_of(path)))
+                parts = path.relative_to(ROOT).parts
+                if parts[0] == "crates":
+                    self.in_crate.setdefault(parts[1], set()).update(words)
+        for path in files:
+            self.words.add(path.stem)
+
+    def path_exists(self, name):
+        return (ROOT / name).exists() or (ROOT / "crates" / name).exists()
+
+    def file_exists(self, crate, name):
+        folder = ROOT / "crates" / crate
+        tries = [folder / name, folder / "specs" / f"{name}.antt", folder / "proofs" / f"{name}.antt"]
+        return any(path.exists() for path in tries) or f"{crate}/{name}" in self.edits
+
+    def complaint(self, cited):
+        """What is wrong with one name in backquotes, or None."""
+        first = re.match(r"(\w+)::(\w+)", cited)
+        if first:
+            crate, name = first.groups()
+            if crate in FOREIGN:
+                return None
+            if crate not in self.crates:
+                return "no such crate"
+            return None if name in self.in_crate[crate] else f"crate {crate} has no {name}"
+        placed = re.match(r"(\w+)/([\w/.]+?)(?: · (.*))?$", cited)
+        if placed and placed.group(1) in self.crates:
+            crate, name, what = placed.groups()
+            if not self.file_exists(crate, name):
+                return "no such file or edit"
+            missing = [w for w in re.findall(r"[\w′]+(?:-[\w′]+)*", what or "") if w not in self.in_crate[crate]]
+            return f"crate {crate} has no {missing[0]}" if missing else None
+        labelled = re.match(r"(\w+)/([\w-]+)$", cited)
+        if labelled and labelled.group(1) in self.crates:
+            return None if self.file_exists(*labelled.groups()) else "no such file or edit"
+        if re.search(r"[A-Z]{4}", cited) and "/" in cited:  # a form to be filled in, such as crates/CRATE/specs/FILE.antt
+            return None
+        if re.match(r"(docs|crates|tests|include|boards|clients|model|bench|\.ci)/[\w./-]*\w$", cited):
+            return None if self.path_exists(cited) else "no such file"
+        if re.match(r"(common|description|fabric|wait|program|theorem)_\w+$|[a-z]+[A-Z]\w*$|[a-z]\w*_\w+$|[a-z]+(-[a-z\d]+)+$", cited):
+            return None if cited in self.words or cited in self.crates else "no such name"
+        return None
+
+
+def documents():
+    found = [ROOT / "README.md", ROOT / "CONTRIBUTING.md", ROOT / "clients/c/README.md"]
+    found += [path for path in sorted((ROOT / "docs").glob("*.md")) if path.name != "LANDINGS.md"]
+    return [path for path in found if path.exists()]
+
+
+def name_complaints(files):
+    names = Names(files)
+    for path in documents():
+        text = re.sub(r"^```.*?^```", "", text_of(path), flags=re.M | re.S)
+        for cited in sorted(set(re.findall(r"`([^`\n]+)`", text))):
+            complaint = names.complaint(cited)
+            if complaint:
+                yield f"{path.relative_to(ROOT)}: `{cited}`: {complaint}"
+    promises = text_of(ROOT / "docs/PROMISES.md")
+    for edit in sorted(names.edits):
+        if edit not in promises:
+            yield f"docs/PROMISES.md: the edit {edit} is not named"
+
+
+def value_of(expression, values):
+    return eval(re.sub(r"[A-Z]\w*", lambda m: str(values[m.group(0)]), expression), {"__builtins__": {}})
+
+
+def constant_complaints():
+    values = {}
+    for name, expression in re.findall(r"pub const (\w+): \w+ = ([^;]+);", text_of(ROOT / "crates/common_numbers/src/lib.rt")):
+        values[name] = value_of(expression, values)
+    header = text_of(ROOT / "include/fabric.h")
+    defined = dict(re.findall(r"#define FABRIC_(\w+) (\d+)", header))
+    for name, value in defined.items():
+        if name in ("IDLE", "WAITING", "ACCESS"):
+            continue
+        if values.get(name) != int(value):
+            yield f"include/fabric.h: FABRIC_{name} is {value}, common_numbers has {values.get(name)}"
+    lacking = [n for n, v in values.items() if re.search(rf"^pub const {n}: u32", text_of(ROOT / "crates/common_numbers/src/lib.rt"), re.M)]
+    for name in lacking:
+        if name not in defined and name != "LAST_REFUSAL":
+            yield f"include/fabric.h: no FABRIC_{name}"
+
+
+def lines_to_read(path):
+    """Lines that are neither blank nor an import."""
+    return sum(1 for line in text_of(path).split("\n") if line.strip() and not line.startswith("use "))
+
+
+def numbered(part, seen):
+    """A part of the page with the present numbers of lines: of each file, and of all files together."""
+    counts = []
+
+    def row(found):
+        path = ROOT / "crates" / found.group(1) / "specs" / f"{found.group(2)}.antt"
+        if not path.exists():
+            return found.group(0)
+        seen.add(path)
+        counts.append(lines_to_read(path))
+        return f"| `{found.group(1)}/{found.group(2)}` | {counts[-1]} |"
+
+    part = re.sub(r"\| `(\w+)/(\w+)` \| (\d+) \|", row, part)
+    return re.sub(r"\*\*\d+ files, [\d,]+ lines\*\*", lambda _: f"**{len(counts)} files, {sum(counts):,} lines**", part)
+
+
+def reading_complaints(write):
+    page = ROOT / "docs/READING.md"
+    text = text_of(page)
+    believed = {path for path in (ROOT / "crates").glob("*/specs/*.antt") if path.name not in ("Lib.antt", "Code.antt")}
+    seen = set()
+    parts = [numbered(part, seen) for part in re.split(r"(?=^## )", text, flags=re.M)]
+    new = "".join(parts)
+    for path in sorted(believed - seen):
+        yield f"docs/READING.md: {path.parent.parent.name}/{path.stem} is not listed"
+    if write:
+        page.write_text(new)
+    elif new != text:
+        yield "docs/READING.md: numbers of lines have changed: tests/names.py --write puts them"
+
+
+def main(arguments):
+    if arguments not in ([], ["--write"]):
+        print(__doc__, end="", file=sys.stderr)
+        return 2
+    files = tracked()
+    complaints = list(reading_complaints(arguments == ["--write"]))
+    complaints += list(rule_complaints(files)) + list(name_complaints(files)) + list(constant_complaints())
+    for complaint in complaints or ["names: all that is cited exists"]:
+        print(complaint)
+    return 1 if complaints and complaints[0] != "names: all that is cited exists" else 0
+
+
+if __name__ == "__main__":
+    sys.exit(main(sys.argv[1:]))
