@@ -1,6 +1,7 @@
 #!/bin/sh
-# Runs table and simulate on boards that are refused, simulate on scripts with refused calls, and both with options, and compares
-# what they write on standard output and on standard error, byte for byte, with the text that stands here.
+# Tries table and simulate on boards that are refused, simulate on scripts with refused calls, and both with options, and compares
+# what they write on standard output and on standard error, byte for byte, with the text that stands here. Refusal k is rule 7.k
+# of docs/RULES.md.
 set -eu
 
 root=$(CDPATH= cd -- "$(dirname -- "$0")/.." && pwd)
@@ -14,11 +15,11 @@ for program in table simulate; do
 done
 cd "$work"
 : > script.txt
-runs=0
+tries=0
 different=0
 
-# Runs a program: NAME, its input, the standard output and the standard error expected (without the last line feed), arguments.
-run() {
+# Starts a program: NAME, its input, the standard output and the standard error expected (without the last line feed), arguments.
+try() {
     name=$1 input=$2 output=$3 error=$4
     shift 4
     printf '%s' "${output:+$output
@@ -27,7 +28,7 @@ run() {
 }" > error.expected
     status=0
     "$root/target/bin/$name" "$@" < "$input" > output 2> error || status=$?
-    runs=$((runs + 1))
+    tries=$((tries + 1))
     if [ "$status" -eq 0 ] && cmp -s output output.expected && cmp -s error error.expected; then
         return 0
     fi
@@ -41,8 +42,8 @@ run() {
 refused() {
     # shellcheck disable=SC2059
     printf "$1" > board.txt
-    run table board.txt "refused,$2" "table: $3"
-    run simulate script.txt "refused,$2" "simulate: board.txt: $3" board.txt
+    try table board.txt "refused,$2" "table: $3"
+    try simulate script.txt "refused,$2" "simulate: board.txt: $3" board.txt
 }
 
 line='no final line feed, unknown first word, wrong count of fields, or bad number'
@@ -63,7 +64,7 @@ share='share line names no master or slave, or a pair twice'
 refused "master,4,8\n$slave\nshare,0,0,1\nshare,1,0,1\n" 7 "line 4: refusal 7: $share"
 refused "master,4,8\n$slave\nshare,0,0,1\nshare,0,0,1\n" 7 "line 4: refusal 7: $share"
 
-# No line is to blame: the end of the text, and its length.
+# No line is to blame: the end of the text, and its length (rule 8.3).
 refused '' 2 'refusal 2: at the end, no master or no slave'
 refused 'master,4,8\nmaster,4,8\n' 2 'refusal 2: at the end, no master or no slave'
 refused "$(printf '%08193d' 0)" 1 'refusal 1: text over 8192 bytes'
@@ -71,16 +72,16 @@ refused "$(printf '%08191d' 0)\n" 1 "line 1: refusal 1: $line"
 
 # A board that is taken is not explained.
 printf 'master,4,8\n%s\nshare,0,0,1\n' "$slave" > board.txt
-run table board.txt 'master,slave,wait,serve
+try table board.txt 'master,slave,wait,serve
 0,0,0,8' ''
-run simulate script.txt '' '' board.txt
+try simulate script.txt '' '' board.txt
 
-# A script, a format of printf, on the board of document 01: what is printed, and what is explained.
+# A script, a format of printf, on the board of docs/RULES.md, section 9: what is printed, and what is explained.
 printf 'master,4,8\nmaster,2,1\nslave,4096,4096,2,8,1,0\nshare,0,0,2\nshare,1,0,3\n' > fabric.txt
 called() {
     # shellcheck disable=SC2059
     printf "$1" > calls.txt
-    run simulate calls.txt "$2" "$3" fabric.txt
+    try simulate calls.txt "$2" "$3" fabric.txt
 }
 
 # The same where line 2, behind a reset, is refused with a number: nothing else is explained.
@@ -115,7 +116,7 @@ refused_call 'post,0,read,8188,15,2,-\n' post 17 "burst passes the slave's end"
 refused_call 'post,0,write,4096,15,1,112233\n' post 18 'data not beats times width bytes'
 refused_call 'post,0,read,4096,15,1,11223344\n' post 18 'data not beats times width bytes'
 
-# A board that the script has overwritten is refused by the call that it is handed to.
+# A board that the script has overwritten is refused by the call that it is handed to (rule 8.5).
 called 'count,0,1\nreset\n' 'reset,2' \
     'simulate: script line 2: refusal 2: at the end, no master or no slave; line kind out of order or over the count'
 called 'reset\nslave,0,4100,4096,2,8,1,0\npost,0,read,4096,15,1,-\nclock,1\nwait,0,0\n' 'reset,0
@@ -133,7 +134,7 @@ $(seq 1000 | sed 's/.*/clock,8,0/')
 clock,0,0
 slave,0,0,0,0,0,0,0" 'simulate: script line 4: refusal 8: memory or buffer not of its exact length'
 
-# A malformed line ends the run, also where it is the last and has no line feed.
+# A malformed line ends the script, also where it is the last and has no line feed.
 called 'reset\npost,2,read,4096,15,1,-\nclock,one\nclock,1\n' 'reset,0
 post,11
 error,3' 'simulate: script line 2: refusal 11: no such master
@@ -184,7 +185,7 @@ problem 'fill,cards,0,00' "$form"
 problem 'post,0,fetch,4096,15,1,-' "$form"
 problem 'slave,0,0,0,0,0,0,0,0' "$form"
 
-# Where both go to one place, an explanation comes right behind the answer.
+# Where both go to one file, an explanation comes right behind the answer.
 printf 'reset\npost,2,read,4096,15,1,-\nclock,2\nwait,2,0\nreset' > calls.txt
 "$root/target/bin/simulate" fabric.txt < calls.txt > output 2>&1 || :
 cat > output.expected <<'END'
@@ -199,7 +200,7 @@ wait,11,0,0
 simulate: script line 4: refusal 11: no such master
 reset,0
 END
-runs=$((runs + 1))
+tries=$((tries + 1))
 cmp -s output output.expected || {
     different=$((different + 1))
     diff output.expected output || :
@@ -217,16 +218,16 @@ meanings="  1 text over 8192 bytes; $line
 usage="usage: table < BOARD
 Prints master,slave,wait,serve of every connected pair, or refused, and a number:
 $meanings"
-run table board.txt "$usage" '' --help
-run table board.txt "$usage" '' -h
-run table board.txt "table (Zelgwy) $version" '' --version
-run table board.txt 'master,slave,wait,serve
+try table board.txt "$usage" '' --help
+try table board.txt "$usage" '' -h
+try table board.txt "table (Zelgwy) $version" '' --version
+try table board.txt 'master,slave,wait,serve
 0,0,0,8' '' --
-run table board.txt '' "$usage" board.txt
-run table board.txt '' "$usage" ''
-run table board.txt '' "$usage" -- board.txt
-run table board.txt '' "$usage" --help --help
-run table board.txt '' "$usage" --version --help
+try table board.txt '' "$usage" board.txt
+try table board.txt '' "$usage" ''
+try table board.txt '' "$usage" -- board.txt
+try table board.txt '' "$usage" --help --help
+try table board.txt '' "$usage" --version --help
 help="usage: simulate BOARD < SCRIPT
 Runs the script's lines on the board and prints what each call answers, a refusal by its number:
 $meanings
@@ -241,33 +242,33 @@ $meanings
   16 no connected slave there
   17 burst passes the slave's end
   18 data not beats times width bytes"
-run simulate script.txt "$help" '' --help
-run simulate script.txt "$help" '' -h
-run simulate script.txt "simulate (Zelgwy) $version" '' --version
+try simulate script.txt "$help" '' --help
+try simulate script.txt "$help" '' -h
+try simulate script.txt "simulate (Zelgwy) $version" '' --version
 printf 'wait,0,0\n' > wait.txt
 cp board.txt ./--help
 cp board.txt ./--
-run simulate wait.txt 'wait,0,0,8' '' -- board.txt
-run simulate wait.txt 'wait,0,0,8' '' -- --help
-run simulate wait.txt 'wait,0,0,8' '' -- --
-run simulate wait.txt 'wait,0,0,8' '' ./--help
+try simulate wait.txt 'wait,0,0,8' '' -- board.txt
+try simulate wait.txt 'wait,0,0,8' '' -- --help
+try simulate wait.txt 'wait,0,0,8' '' -- --
+try simulate wait.txt 'wait,0,0,8' '' ./--help
 usage_line='usage: simulate BOARD < SCRIPT'
-run simulate script.txt '' "$usage_line"
-run simulate script.txt '' "$usage_line" --
-run simulate script.txt '' "$usage_line" board.txt board.txt
-run simulate script.txt '' "$usage_line" -- board.txt board.txt
-run simulate script.txt '' "$usage_line" board.txt --help
-run simulate script.txt '' "$usage_line" --help board.txt
-run simulate script.txt '' "$usage_line" --version board.txt
+try simulate script.txt '' "$usage_line"
+try simulate script.txt '' "$usage_line" --
+try simulate script.txt '' "$usage_line" board.txt board.txt
+try simulate script.txt '' "$usage_line" -- board.txt board.txt
+try simulate script.txt '' "$usage_line" board.txt --help
+try simulate script.txt '' "$usage_line" --help board.txt
+try simulate script.txt '' "$usage_line" --version board.txt
 # A word of 5,000 bytes is no option, and no file has such a name.
 for word in - -x -hh --h --helpful --Version --version=1 --- "-$(printf '%04999d' 0)"; do
-    run table board.txt '' "$usage" "$word"
-    run simulate script.txt '' "$usage_line" "$word"
+    try table board.txt '' "$usage" "$word"
+    try simulate script.txt '' "$usage_line" "$word"
 done
-run simulate script.txt '' 'simulate: BOARD: File name too long' "$(printf '%05000d' 0)"
-run simulate script.txt '' 'simulate: absent.txt: No such file or directory' absent.txt
-run simulate script.txt '' 'simulate: -x: No such file or directory' -- -x
-run simulate script.txt '' 'simulate: : No such file or directory' ''
+try simulate script.txt '' 'simulate: BOARD: File name too long' "$(printf '%05000d' 0)"
+try simulate script.txt '' 'simulate: absent.txt: No such file or directory' absent.txt
+try simulate script.txt '' 'simulate: -x: No such file or directory' -- -x
+try simulate script.txt '' 'simulate: : No such file or directory' ''
 
-echo "explain: $runs runs, $different differences"
+echo "explain: $tries tries, $different differences"
 [ "$different" -eq 0 ]

@@ -1,5 +1,5 @@
 #!/bin/sh
-# Runs the programs and the planning tool where a read or a write fails, is interrupted, would have to wait or moves few bytes,
+# Tries the programs and the planning tool where a read or a write fails, is interrupted, would have to wait or moves few bytes,
 # and where a standard stream is closed. Compares what they write on standard output and on standard error, byte for byte, with
 # the text that stands here. An input that cannot be read is never taken for one that ends, and no output is lost without a word.
 set -eu
@@ -26,7 +26,7 @@ $gcc -I"$root/include" -o "$work/plan" "$root/clients/c/plan.c" "$library"
 cd "$work"
 cp "$root/boards/document01.txt" board.txt
 : > none
-runs=0
+tries=0
 different=0
 eintr=4
 eio=5
@@ -38,7 +38,7 @@ subject() {
     name=${command%% *}
 }
 
-# Runs the subject: what goes wrong (see faults.c), redirections of its own, the file with the standard output expected, the
+# Starts the subject: what goes wrong (see faults.c), redirections of its own, the file with the standard output expected, the
 # standard error expected (without the last line feed). Where something is expected there plan ends with status 2.
 try() {
     expected=0
@@ -47,7 +47,7 @@ try() {
 }" > error.expected
     got=0
     eval "env $1 LD_PRELOAD=./faults.so ./$command < $input > output 2> error 3>&- $2" || got=$?
-    runs=$((runs + 1))
+    tries=$((tries + 1))
     if [ "$got" -eq "${expected:-$status}" ] && cmp -s output "$3" && cmp -s error error.expected; then
         return 0
     fi
@@ -110,7 +110,7 @@ streams() {
 
 # The subject between two pipes that do not wait, the first of which pauses behind so many lines.
 through_pipes() {
-    runs=$((runs + 1))
+    tries=$((tries + 1))
     # shellcheck disable=SC2086
     ./pipes "$1" ./$command < "$input" > output 2> error || :
     if cmp -s output "$whole" && cmp -s error none; then
@@ -140,7 +140,8 @@ writes
 subject 'table --version' none version
 writes 12
 
-# Of a text that fills the room no more is read. What is refused is explained also where the refusal's line cannot be printed.
+# Of a text that fills the room no more is read: it is refused by its length (rule 8.2). What is refused is explained also where
+# the refusal's line cannot be printed.
 printf '%08193d' 0 > long.txt
 echo refused,1 > refused
 subject table long.txt refused
@@ -171,7 +172,7 @@ reads 0 'standard input' script.txt
 writes
 streams
 through_pipes 2
-runs=$((runs + 1))
+tries=$((tries + 1))
 cmp -s board.txt "$root/boards/document01.txt" || {
     different=$((different + 1))
     echo 'faults: the board was written to'
@@ -190,7 +191,7 @@ try '' '2>&-' refused ''
 try '' '> /dev/full' none "simulate: standard output: No space left on device
 simulate: long.txt: $long"
 
-# An unfinished last line is run where the script ends, and not where it cannot be read.
+# An unfinished last line is carried out where the script ends, and not where it cannot be read.
 printf 'reset\nwait,1,0' > unended.txt
 printf 'reset,0\nwait,0,36,2\n' > both
 subject 'simulate board.txt' unended.txt both
@@ -251,5 +252,5 @@ writes
 subject 'plan --version' none version
 writes
 
-echo "faults: $runs runs, $different differences"
+echo "faults: $tries tries, $different differences"
 [ "$different" -eq 0 ]

@@ -1,5 +1,5 @@
 /*
- * pipes LINES PROGRAM WORD..: runs a program between two pipes that do not wait (O_NONBLOCK), as where a program before it has
+ * pipes LINES PROGRAM WORD..: starts a program between two pipes that do not wait (O_NONBLOCK), as where a program before it has
  * left them so. Of standard input the first LINES lines are handed on, after a pause the rest; what the program prints is taken
  * after a pause, and handed on too.
  */

@@ -36,7 +36,7 @@ def text(*lines):
 
 
 def small(master=MASTER, slave=SLAVE, share=SHARE):
-    """A board of three lines that is taken, with another line in the place of one of them."""
+    """A board of three lines that is taken, with another line instead of one of them."""
     return text(master, slave, share)
 
 
@@ -98,7 +98,7 @@ LIST = [
             "master,1,1", "slave,0,8,1,1,0,0")),
         (0, "the smallest board with a connected pair, shares at their least", text(
             "master,1,1", "slave,0,8,1,1,0,0", "share,0,0,1")),
-        (0, "the board that document 01 works out", stored("document01.txt")),
+        (0, "the board of docs/RULES.md, section 9", stored("document01.txt")),
         (0, "a board of a usual size, some of its pairs not connected", stored("crane.txt")),
         (0, "the largest board: 8 masters, 16 slaves, every pair connected, shares at their most", stored("largest.txt")),
         (0, "the same with its share lines backwards: the writer puts them in order", backwards(stored("largest.txt"))),
@@ -208,7 +208,7 @@ LIST = [
         (3, "shares that are 2 when they are cut to a byte or to 32 bits", small(share="share,0,0,4294967298")),
     ]),
     ("4: a base between two multiples of its span", [
-        (4, "a row of document 01", small(slave="slave,4100,4096,2,8,1,0")),
+        (4, "an example of rule 9.8", small(slave="slave,4100,4096,2,8,1,0")),
         (4, "a base below its span, and not 0", small(slave="slave,32768,65536,2,8,1,0")),
         (4, "the highest base in range, a multiple of no span: not 3", small(slave="slave,4294967295,8,2,8,1,0")),
     ]),

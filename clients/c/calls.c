@@ -1,6 +1,6 @@
 /*
- * What the calls do to the numbers and bytes they are lent: which numbers are refused and with what, that a refusal leaves
- * everything as it was, and that a run is as many clocks.
+ * What the calls do to the numbers and bytes they are lent: which numbers are refused and with what (refusal k is rule 7.k),
+ * that a refusal leaves everything as it was (rule 8.1), and that a run of clocks leaves what as many clocks leave (rule 4.15).
  */
 #include <stdio.h>
 #include <stdlib.h>
@@ -187,7 +187,7 @@ static uint32_t run(struct lent *l, uint32_t most)
     return clock_lent(l, sizeof l->memory, sizeof l->buffer, most);
 }
 
-/* A reading that is refused leaves the board, and the line to blame is named. */
+/* A reading that is refused leaves the board, and the line to blame is named (rule 8.3). */
 static void refuses_text(const char *name, const char *text, size_t length, uint32_t due, size_t line_due)
 {
     struct fabric_board board, before;
@@ -216,7 +216,7 @@ static void readings(void)
     refuses_text("no slave", "master,4,8\n", 11, FABRIC_BAD_ORDER, 0);
 }
 
-/* What is read: the numbers of the description, and 0 behind the counts. */
+/* What is read: the numbers of the description, and 0 behind the counts; and the state after a reset (rule 4.2). */
 static void board_read(void)
 {
     static const uint32_t masters[2 * FABRIC_MASTERS] = {4, 8, 2, 1};
@@ -243,7 +243,7 @@ static void board_read(void)
     fresh.state.slot[0].owner = fresh.state.slot[1].owner = 1;
 }
 
-/* A refused clock and a refused run: all lent is as it was, and lines, mask and clocks are 0. */
+/* A refused clock and a refused run of clocks: all lent is as it was, and lines, mask and clocks are 0. */
 static void refuses_clock(const char *name, uint32_t due)
 {
     uint32_t most[3] = {0, 1, 5};
@@ -271,7 +271,7 @@ static void refuses_post(const char *name, uint32_t due, uint32_t master, uint32
     check(name, same_lent(&tried, &other));
 }
 
-/* One number of the board is another: no call takes the board, and each names the rule. */
+/* One number of the board is another (rule 1.10): no call takes the board, and each answers the same refusal. */
 static void refuses_board(const char *name, uint32_t *number, uint32_t value, uint32_t due)
 {
     uint32_t before = *number;
@@ -436,11 +436,11 @@ static void post_both(uint32_t m, uint32_t i)
     uint32_t address = m == 0 && i % 4 == 1 ? 4 * (i % 9) : 4096 + width * (i % 40);
     size_t length = i % 2 == 0 ? beats * width : 0;
 
-    check_number("a post before a run", post(&tried, m, i % 2 == 0, address, lanes, beats, length), FABRIC_TAKEN);
+    check_number("a post before a run of clocks", post(&tried, m, i % 2 == 0, address, lanes, beats, length), FABRIC_TAKEN);
     check_number("a post before clocks", post(&other, m, i % 2 == 0, address, lanes, beats, length), FABRIC_TAKEN);
 }
 
-/* Runs beside as many clocks: the same numbers and bytes, no master finished before the last clock, none left unnoticed. */
+/* Runs of clocks beside as many clocks: the same numbers and bytes, and no master finished before the last clock. */
 static void runs(void)
 {
     uint32_t posted[2] = {0, 0};
@@ -455,21 +455,21 @@ static void runs(void)
             if (tried.state.transfer[m].held == 0 && (m == 0 || i % 6 < 4))
                 post_both(m, posted[m]++);
         }
-        check_number("a run", run(&tried, most), FABRIC_TAKEN);
-        check("a run is no longer than asked", tried.clocks <= most);
-        check("a run ends where a master finishes", tried.clocks == most || tried.mask != 0);
+        check_number("a run of clocks", run(&tried, most), FABRIC_TAKEN);
+        check("a run of clocks is no longer than asked", tried.clocks <= most);
+        check("a run of clocks ends where a master finishes", tried.clocks == most || tried.mask != 0);
         memset(&other.lines, 0, sizeof other.lines);
         other.mask = 0;
         for (uint32_t c = 0; c < tried.clocks; c++) {
-            check("a run goes on where no master finishes", other.mask == 0);
-            check_number("a clock of a run", clock_once(&other), FABRIC_TAKEN);
+            check("a run of clocks goes on where no master finishes", other.mask == 0);
+            check_number("a clock of a run of clocks", clock_once(&other), FABRIC_TAKEN);
         }
-        check("a run leaves what as many clocks leave", same_lent(&tried, &other));
-        check("a run shows its last clock", same_answer(&tried, &other));
+        check("a run of clocks leaves what as many clocks leave", same_lent(&tried, &other));
+        check("a run of clocks shows its last clock", same_answer(&tried, &other));
         finished += tried.mask != 0;
         cut += tried.mask == 0;
     }
-    check("runs that end at a finish, and runs that do not", finished > 300 && cut > 20);
+    check("runs of clocks that end at a finish, and others", finished > 300 && cut > 20);
 }
 
 int main(void)

@@ -1,5 +1,5 @@
 /*
- * Runs the library's clock beside a simulator of the same board, and stops at the first clock in which they differ.
+ * Compares the library's clock with a simulator of the same board, and stops at the first clock in which they differ.
  *
  *   lockstep [--mistake NAME] BOARD CLOCKS [SEED]
  *
@@ -64,7 +64,7 @@ static int ended(int status)
     return fflush(stdout) == 0 && !ferror(stdout) ? status : failed("standard output");
 }
 
-/* A single's lanes: all, or some that are legal, 1, 2, 4 or 8 from a multiple of their count on. */
+/* A single's lanes: all, or some that rule 3.4 allows. */
 static uint32_t some_lanes(uint32_t width)
 {
     uint32_t count = width;
@@ -74,7 +74,7 @@ static uint32_t some_lanes(uint32_t width)
     return ((1u << count) - 1) << count * below(width / count);
 }
 
-/* A transfer of master m for slave s that the rules allow. Half of them are near the slave's front, where they meet. */
+/* A transfer of master m for slave s that no rule refuses. Half of them are near the slave's front, where they meet. */
 static void draw(struct post *p, uint32_t m, uint32_t s)
 {
     uint32_t width = board->master[m].width;
@@ -169,8 +169,8 @@ static int differ(uint32_t clock, const struct fabric_lines *theirs, uint32_t ou
            || bytes_differ("buffer", clock, buffer, simulator_buffer, FABRIC_BUFFER_BYTES);
 }
 
-/* Runs both sides; 1 at the first difference. */
-static int run(uint32_t clocks)
+/* Clocks both sides; 1 at the first difference. */
+static int clock_both(uint32_t clocks)
 {
     static struct fabric_lines theirs;
     uint32_t degree = DEGREES, clock = 0;
@@ -261,7 +261,7 @@ static int compare(const char *name, uint32_t clocks, uint32_t seed, const char 
     drawn = seed;
     fill_memory();
     simulator_reset(board, mistake);
-    if (run(clocks))
+    if (clock_both(clocks))
         return ended(1);
     printf("lockstep: %s: %" PRIu32 " clocks agree, %lu transfers: %lu writes, %lu bursts, %lu with some of the lanes\n", name,
            clocks, posts, writes, bursts, parts);

@@ -1,5 +1,5 @@
 /*
- * The planning tool: the quoted wait of one master at one slave of a board, and its longest transfer there.
+ * The planning tool: the quoted wait of one master at one slave of a board (rule 5.7), and its longest transfer there (rule 5.5).
  *
  *   plan BOARD MASTER SLAVE
  *
@@ -18,7 +18,7 @@
 #include "fabric.h"
 #include "number.h"
 
-/* One byte more than a description may have: a longer file is then refused as such. */
+/* One byte more than a description may have (rule 1.2): a longer file is then refused as such. */
 #define TEXT_ROOM 8193
 
 /* What keeps plan from answering: the stream or the file, and errno's text. */

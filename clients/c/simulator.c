@@ -1,7 +1,8 @@
 /*
- * A small simulator of a fabric, written from the rules (docs/SIMULATE.md) and not from the library. It works the way a bus
- * monitor sees the bus: a transfer is listed access by access when it is posted, byte by byte; a slave then counts down the
- * waits of the next access of its list and carries it out. It checks nothing: what is handed in has to be legal.
+ * A small simulator of a fabric, written from the rules (docs/RULES.md, sections 2 to 4) and not from the library. It works
+ * the way a bus monitor sees the bus: a transfer is listed access by access when it is posted, byte by byte; a slave then
+ * counts down the waits of the next access of its list and carries it out. It checks nothing: what is handed in has to be
+ * legal.
  */
 #include <string.h>
 
@@ -41,15 +42,15 @@ uint8_t simulator_memory[FABRIC_MEMORY_BYTES];
 uint8_t simulator_buffer[FABRIC_BUFFER_BYTES];
 
 const char *const simulator_mistakes[] = {
-    "from-zero",     /* masters are tried upward from 0, not from the last owner */
-    "silent-keeps",  /* a silent master keeps its grants for later */
-    "burst-keeps",   /* a burst leaves the grants that remain */
-    "share-more",    /* one grant more than the shares */
-    "between-runs",  /* another master is granted between two runs of a burst */
-    "wait-per-beat", /* the wait is charged once per beat, not per access */
-    "last-run",      /* the last run is shown as long as the others */
-    "read-lanes",    /* of a narrower master's read only its own lanes are shown */
-    "every-lane",    /* a write writes lanes that are not enabled too */
+    "from-zero",     /* rule 4.5: the lowest requester is granted, whoever was the last owner */
+    "silent-keeps",  /* rule 4.3: grants remain where nobody requests */
+    "burst-keeps",   /* rule 4.6: grants remain behind a burst */
+    "share-more",    /* rule 4.5: one grant more than the shares */
+    "between-runs",  /* rules 4.8 and 4.9: another master is granted inside a burst, where a run ends */
+    "wait-per-beat", /* rule 4.8: a beat waits once, not before each of its accesses */
+    "last-run",      /* rule 4.12: the last run is shown as long as the others */
+    "read-lanes",    /* rule 4.14: a narrower master's read shows its own lanes only */
+    "every-lane",    /* rule 4.11: a write changes bytes of lanes that are not enabled */
     NULL,
 };
 
@@ -78,7 +79,7 @@ void simulator_reset(const struct fabric_board *started, const char *on_purpose)
     }
 }
 
-/* The slave whose bytes have this address. */
+/* The slave whose bytes have this address (rule 3.6): of a legal transfer it is connected. */
 static uint32_t slave_at(uint32_t address)
 {
     uint32_t s = 0;
@@ -88,7 +89,7 @@ static uint32_t slave_at(uint32_t address)
     return s;
 }
 
-/* Cuts the accesses into runs, the last one shorter; of a narrower master each access is a run of 1. */
+/* Cuts the accesses into runs of `limit`, the last one perhaps shorter (rule 4.12). */
 static void cut_runs(struct request *r, uint32_t limit)
 {
     uint32_t first = 0;
@@ -105,7 +106,7 @@ static void cut_runs(struct request *r, uint32_t limit)
     }
 }
 
-/* Lists the accesses: each has as many bytes as the narrower of master and slave, and lights the slave's lanes byte by byte. */
+/* Lists the accesses (rule 4.10): each has as many bytes as the narrower of master and slave; its lanes are set byte by byte. */
 static void list_accesses(struct request *r, uint32_t m)
 {
     const struct fabric_slave *sl = &board.slave[r->slave];
@@ -152,7 +153,7 @@ void simulator_post(uint32_t m, uint32_t write, uint32_t address, uint32_t lanes
     list_accesses(r, m);
 }
 
-/* How many masters are tried before m: the one above the last owner comes first, the last owner last. */
+/* How many masters are tried before m (rule 4.5). */
 static uint32_t tried_before(uint32_t m, uint32_t owner)
 {
     if (mistake("from-zero"))
@@ -174,7 +175,7 @@ static uint32_t first_requester(uint32_t s)
     return chosen;
 }
 
-/* Whom a slave that does not serve serves from this clock on, if anybody. */
+/* Whom a slave that does not serve serves from this clock on, if anybody (rules 4.3 to 4.7). */
 static void grant(uint32_t s)
 {
     struct card *c = &card[s];
@@ -197,7 +198,7 @@ static void grant(uint32_t s)
     c->wait = request[c->owner].access[request[c->owner].next].wait;
 }
 
-/* Moves the bytes of an access between the slave and the master's words. */
+/* Moves the bytes of an access between the slave and the master's words (rules 3.2 and 4.11). */
 static void move_bytes(const struct card *c, const struct request *r, const struct access *a)
 {
     uint8_t *words = simulator_buffer + FABRIC_PART_BYTES * c->owner;
@@ -211,7 +212,7 @@ static void move_bytes(const struct card *c, const struct request *r, const stru
     }
 }
 
-/* A clock of a slave that serves: whether its owner is finished. */
+/* A clock of a slave that serves (rules 4.8 and 4.9): whether its owner is finished. */
 static int serve(struct card *c, struct fabric_line *line)
 {
     struct request *r = &request[c->owner];

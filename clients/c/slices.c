@@ -1,4 +1,4 @@
-/* What fabric_wait does to the bytes it is lent: none is changed by a refusal, and none behind the first 16. */
+/* What fabric_wait does to the bytes it is lent: none is changed by a refusal, and none behind the first 16 (rules 8.1, 8.6). */
 #include <stdio.h>
 #include <string.h>
 

@@ -1,7 +1,7 @@
 #!/bin/sh
 # Builds the C clients against target/staticlib/libfabric_c.a (rt staticlib fabric_c) and tries them: the planning tool, also
-# against the model; what the calls do to what they are lent; the clock beside a simulator of its own. What is lent is watched
-# by valgrind where the machine has it.
+# against the model; what the calls do to what they are lent; the clock beside a simulator of its own, and mistakes of that
+# simulator, each against a rule of docs/RULES.md. What is lent is watched by valgrind where the machine has it.
 set -eu
 here=$(cd "$(dirname "$0")" && pwd)
 root=$(cd "$here/../.." && pwd)
@@ -11,7 +11,7 @@ work=$(mktemp -d)
 trap 'rm -r "$work"' EXIT
 
 if [ ! -f "$library" ]; then
-    echo "test.sh: no $library: run rt staticlib fabric_c" >&2
+    echo "test.sh: no $library (rt staticlib fabric_c)" >&2
     exit 2
 fi
 
