@@ -7,7 +7,7 @@ use description_board::Master;
 use description_board::Slave;
 ghost use Prim.Native.Nat.{_<_};
 
-// All lanes of a legal width.
+// All lanes of a legal width (rule 1.6).
 fn all_lanes(width: u32) -> u32 {
     match width {
         1 => 1,
@@ -98,7 +98,7 @@ fn post_idle(
     }
 }
 
-// Runs clocks, every master posting again as soon as it is idle; the sum of the masks.
+// So many clocks, every master posting again as soon as it is idle; the sum of the masks.
 fn run(
     board: &[u32; BOARD_NUMBERS],
     state: &mut [u32; STATE_NUMBERS],
@@ -126,7 +126,7 @@ fn run(
     sum
 }
 
-// Reads the text, resets and runs the traffic.
+// Reads the text, resets and makes the traffic.
 #[no_mangle]
 pub extern "C" fn bench_clocks(
     text: &[u8],

@@ -4,7 +4,7 @@ ghost use mathlib.Core.Path.{_≡_};
 ghost use Rattle.program_options.specs.Options.{optionOf};
 use libc::STDOUT_FILENO;
 
-// What a program is asked for: its help, its version, or to run on the words from a place on. Wrong: none of these.
+// What a program is asked for: its help, its version, or its work on the words from an index on. Wrong: none of these.
 pub enum Mode {
     Help,
     Version,
@@ -20,7 +20,7 @@ enum Word {
     Unknown,
 }
 
-// To run on `operands` words, which stand from `first` on; the program's name is word 0.
+// To work on `operands` words, which stand from `first` on; the program's name is word 0.
 fn run_from(first: usize, operands: usize) -> Mode {
     let count = os::arg_count();
     if first <= count {
@@ -55,7 +55,7 @@ fn option_of(word: &[u8]) -> Word
     Word::Unknown
 }
 
-// What the words ask of a program that runs on so many of them. A first word that begins with `-` is an option, and `--` ends the
+// What the words ask of a program that works on so many of them. A first word that begins with `-` is an option, and `--` ends the
 // options. Of a word that is too long to be handed out the first byte still tells that it is one.
 pub fn asked(operands: usize) -> Mode {
     let mut word = io::buffer();

@@ -1,5 +1,5 @@
-// What each refusal means, in document 01's words, for programs that explain one on standard error. What can be asked for on
-// standard output too answers whether all of it was written.
+// What each refusal means, in a few words, for programs that explain one on standard error: rule 7.k has refusal k whole. What can
+// be asked for on standard output too answers whether all of it was written.
 use description::Refusal;
 use libc::STDERR_FILENO;
 use libc::STDOUT_FILENO;
@@ -10,7 +10,7 @@ fn say_decimal(fd: i32, n: u64) -> bool {
     program_streams::write_all(fd, &digits[..length])
 }
 
-// 1 or 2 where the text as a whole is to blame.
+// 1 or 2 where no line is charged (rule 8.3).
 fn say_of_text(fd: i32, number: u32) -> bool {
     match number {
         1 => program_streams::write_all(fd, b"text over 8192 bytes"),
@@ -18,7 +18,7 @@ fn say_of_text(fd: i32, number: u32) -> bool {
     }
 }
 
-// 1 to 7 where a line is to blame.
+// 1 to 7 where a line is charged.
 fn say_of_line(fd: i32, number: u32) -> bool {
     match number {
         1 => program_streams::write_all(
@@ -37,7 +37,7 @@ fn say_of_line(fd: i32, number: u32) -> bool {
     }
 }
 
-// 8 to 10, caused by whoever embeds the library, and 11 to 18, by whoever posts or looks up a wait.
+// 8 to 10, for which the embedder is to blame, and 11 to 18, of a post or of a wait.
 fn say_of_call(fd: i32, number: u32) -> bool {
     match number {
         8 => program_streams::write_all(fd, b"memory or buffer not of its exact length"),
@@ -81,8 +81,8 @@ pub fn explain_number(number: u32) {
     program_streams::write_all(STDERR_FILENO, b"\n");
 }
 
-// One line on standard error, as `line 3: refusal 4: base no multiple of span`. Of 1 and 2 the line tells the cause: where none
-// is charged, and none is named, the text as a whole is to blame.
+// One line on standard error, as `line 3: refusal 4: base no multiple of span`. Of 1 and 2 the cause is told by whether a line is
+// charged.
 pub fn explain(r: Refusal) {
     if r.line == 0 {
         say_refusal(r.number);

@@ -7,7 +7,7 @@ ghost use Rattle.program_streams.specs.Code.Reports.{Holds, head as Line
 // Two paths, each of 4,095 bytes at most, and `: ` between them.
 pub const ROOM: usize = 8192;
 
-// Puts bytes behind the first `at`, as far as they fit. The answer is the place behind them.
+// Puts bytes behind the first `at`, as far as they fit. The answer is the position behind them.
 fn put(line: &mut [u8], at: usize, bytes: &[u8]) -> usize
     requires { ⌜ at ≤ length (now line) ⌝ }
     ensures { λ r. ⌜ Holds (now (line .exit)) r (take at (now (line .entry)) ++ now (bytes .entry)) ⌝ }

@@ -40,8 +40,8 @@ struct Prepared {
     failed: bool,
 }
 
-// Reads a description, and makes the page of it. The text has room for one byte more than a description may have: a longer one
-// is then refused as such.
+// Reads a description, and makes the page of it. The text has room for one byte more than a description may have (rule 1.2): a
+// longer one is then refused as such.
 fn prepare(text: &mut [u8], page: &mut [u8; wait_table::LONGEST_TABLE]) -> Prepared
     requires { ⌜ mostBytes < length (now text) ⌝ }
     ensures { λ r. ⌜ Reads (now (text .exit)) (now (page .exit)) r ⌝ }

@@ -158,7 +158,7 @@ fn make_room(out: &[u8], filled: usize) -> Room
     }
 }
 
-// Puts the answer for a description into the output from `at` on; the answer is the place behind it. A board that was read is
+// Puts the answer for a description into the output from `at` on; the answer is the position behind it. A board that was read is
 // one that the writer takes, and its text is no longer than the record's, so that the room is enough.
 fn put_answer(out: &mut [u8], at: usize, record: &[u8]) -> usize
     requires { ⌜ at + 8300 ≤ length (now out) ⌝ }
@@ -207,7 +207,7 @@ fn answer_record(piece: &mut [u8], record: &mut [u8], out: &mut [u8], p: Progres
 }
 
 // Answers every record, up to the input's end. Nothing says that an input ends, so the turns are counted down from a number
-// that no run uses up. The answer is how many bytes of the output are filled.
+// that no input uses up. The answer is how many bytes of the output are filled.
 fn answer_records(piece: &mut [u8], record: &mut [u8], out: &mut [u8]) -> usize
     requires { ⌜ 8300 ≤ length (now out) ⌝ }
     ensures { λ r. ⌜ r ≤ length (now (out .exit)) ⌝ }
@@ -232,7 +232,7 @@ fn answer_records(piece: &mut [u8], record: &mut [u8], out: &mut [u8]) -> usize
     p.filled
 }
 
-// 8,193 bytes of a record are kept: one more than a description may have, so that a longer one is refused by its length.
+// 8,193 bytes of a record are kept: one more than a description may have (rule 1.2), so that a longer one is refused by its length.
 fn main() {
     let mut piece = io::large_buffer();
     let mut record = [0u8; TEXT_ROOM];
