@@ -101,7 +101,7 @@ class Names:
         labelled = re.match(r"(\w+)/([\w-]+)$", cited)
         if labelled and labelled.group(1) in self.crates:
             return None if self.file_exists(*labelled.groups()) else "no such file or edit"
-        if re.search(r"[A-Z]{4}", cited) and "/" in cited:  # a form to be filled in, such as crates/CRATE/specs/FILE.antt
+        if re.search(r"/(CRATE|FILE|FUNCTION|MODULE|LABEL|NAME)\b", cited):  # a form to be filled in
             return None
         if re.match(r"(docs|crates|tests|include|boards|clients|model|bench|\.ci)/[\w./-]*\w$", cited):
             return None if self.path_exists(cited) else "no such file"
