@@ -1,4 +1,4 @@
--- A text read into a lent array: what the array holds then.
+-- A text read into a lent array: what the array holds then (rules 1.10, 8.1).
 -- Assumes nothing.
 use mathlib.Core.Path.{_≡_}
 use mathlib.Core.List.{List}
@@ -6,7 +6,7 @@ use Prim.Native.Nat.{ℕ}
 use Rattle.description_layout.specs.Layout.{boardIn}
 use Rattle.description.specs.Reader.{readText}
 
--- what `read` answers, and leaves in the lent array: the board that the text describes, or every number as it was
+-- rules 1.10, 8.1: what `read` answers, and leaves in the lent array: the text's board, or every number as it was
 pub record Read (text before after : List ℕ) (n : ℕ) : Type 0 where
   pub number : n ≡ readText text .number
   pub board : n ≡ 0 → boardIn after ≡ readText text .board

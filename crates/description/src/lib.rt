@@ -1,4 +1,4 @@
-// Descriptions: a text to a board in a lent array, and a board to its text.
+// Descriptions: a text to a board in a lent array, and a board to its text (rules 1.2 to 1.10).
 use common_numbers::BOARD_NUMBERS;
 use common_numbers::TEXT_BYTES;
 ghost use mathlib.Core.Path.{_≡_};
@@ -15,29 +15,29 @@ ghost use Rattle.description.specs.Writer.{writeText, writeAnswer, write
 use description_board::Board;
 use description_board::Item;
 
-// No accepted board's text has more bytes: 8 master lines of at most 12, 16 slave lines of 36, 128 share lines of 15.
+// No accepted board's text has more bytes (rules 1.3, 1.6): 8 master lines of 12, 16 slave lines of 36, 128 share lines of 15.
 pub const LONGEST: usize = 8 * 12 + 16 * 36 + 128 * 15;
 
-// What the definitions say a text is read to: a refusal's number with the zero board, or 0 and the board.
+// What the definitions say a text is read to: a refusal's number with the zero board, or 0 and the board (rule 8.1).
 pub struct Parsed {
     pub number: u32,
     pub board: Board,
 }
 
-// A refusal's number and the line charged with it, counted from 1; the line is 0 where no line is to blame.
+// A refusal's number and the line charged with it, from 1; the line is 0 where none is charged (rule 8.3).
 pub struct Refusal {
     pub number: u32,
     pub line: usize,
 }
 
-// A refusal's number and 0, or 0 and the count of bytes writeAnswer.
+// A refusal's number and 0, or 0 and the count of bytes written (rule 8.1).
 pub struct Written {
     pub number: u32,
     pub length: usize,
 }
 
-// The lines of a text one after another, counted, up to the first that is refused: a later line cannot change the answer. The
-// board is read into an array of zeros.
+// The lines of a text one after another, counted, up to the first that is refused (rules 8.2, 8.3): a later line cannot change
+// the answer. The board is read into an array of zeros.
 fn read_lines(text: &[u8], board: &mut [u32; BOARD_NUMBERS]) -> Refusal
     requires { ⌜ now board ≡ replicate 242 0 ⌝ }
     ensures { λ r. ⌜ LinesCome (now (text .entry)) (now (board .exit)) r ⌝ }
@@ -65,7 +65,7 @@ fn read_lines(text: &[u8], board: &mut [u32; BOARD_NUMBERS]) -> Refusal
     }
 }
 
-// The length first: a text that is too long is refused before a byte of it is read.
+// The length first (rule 8.2): a text that is too long is refused before a byte of it is read.
 fn read_bounded(text: &[u8], board: &mut [u32; BOARD_NUMBERS]) -> Refusal
     requires { ⌜ now board ≡ replicate 242 0 ⌝ }
     ensures { λ r. ⌜ Comes (reading (now (text .entry))) (chargedLine (now (text .entry))) (now (board .exit)) r ⌝ }
@@ -80,7 +80,8 @@ fn read_bounded(text: &[u8], board: &mut [u32; BOARD_NUMBERS]) -> Refusal
     }
 }
 
-// Reads the board that a text describes, or answers the number that the text is refused with: then no number of board is changed.
+// Reads the board that a text describes, or answers the number that the text is refused with (rules 7.1 to 7.7, 8.2): then no
+// number of board is changed (rule 8.1).
 pub fn read(text: &[u8], board: &mut [u32; BOARD_NUMBERS]) -> u32
     ensures { λ r. ⌜ Read (now (text .entry)) (now (board .entry)) (now (board .exit)) r ⌝ }
 {
@@ -93,7 +94,7 @@ pub fn read(text: &[u8], board: &mut [u32; BOARD_NUMBERS]) -> u32
     0
 }
 
-// The number that read answers for a text, and the line that is charged with it.
+// The number that read answers for a text, and the line that is charged with it (rule 8.3).
 pub fn refused_at(text: &[u8]) -> Refusal
     ensures { λ r. ⌜ r ≡ refusedAt (now (text .entry)) ⌝ }
 {
@@ -101,7 +102,7 @@ pub fn refused_at(text: &[u8]) -> Refusal
     read_bounded(text, &mut own)
 }
 
-// Writes the text of a board at the front of out, place by place of its lines; a place with no line has no bytes.
+// Writes the text of a board at the front of out (rule 1.9), entry by entry; an entry with no line has no bytes.
 fn put_board(out: &mut [u8], board: &[u32; BOARD_NUMBERS]) -> usize
     requires { ⌜ length (writeText (boardIn (now board))) ≤ length (now out) ⌝ }
     ensures { λ r. ⌜ Put (now (out .entry)) 0 (writeText (boardIn (now (board .entry)))) (now (out .exit)) r ⌝ }
@@ -117,7 +118,7 @@ fn put_board(out: &mut [u8], board: &[u32; BOARD_NUMBERS]) -> usize
     next
 }
 
-// How many bytes that is, of a board that is accepted: then it has few places.
+// How many bytes put_board writes (rule 1.9) for a board that is accepted: then it has few entries.
 fn board_length(board: &[u32; BOARD_NUMBERS]) -> usize
     requires { ⌜ boardRefusal (boardIn (now board)) ≡ 0 ⌝ }
     ensures { λ r. ⌜ r ≡ length (writeText (boardIn (now (board .entry)))) ⌝ }
@@ -133,8 +134,9 @@ fn board_length(board: &[u32; BOARD_NUMBERS]) -> usize
     sum
 }
 
-// Writes a board's text, if the board keeps the rules and its text has room: otherwise no byte of out is changed. The
-// length is known before the first byte is writeAnswer. An output of LONGEST bytes has room for every board.
+// Writes a board's text (rules 1.9, 8.6), if the board is not refused (rule 8.5) and its text has room (rule 7.10): otherwise no
+// byte of out is changed (rule 8.1). The length is known before the first byte is written. An output of LONGEST bytes has room
+// for every board.
 pub fn write(board: &[u32; BOARD_NUMBERS], out: &mut [u8]) -> Written
     ensures answer { λ r. ⌜ r ≡ writeAnswer (boardIn (now (board .entry))) (now (out .entry)) ⌝ }
     ensures output { λ r. ⌜ now (out .exit) ≡ writeOutput (boardIn (now (board .entry))) (now (out .entry)) ⌝ }

@@ -1,4 +1,4 @@
--- The lines of a board as the writer puts them, and the check of a board that did not come through the reader.
+-- A board's lines as the writer puts them (rule 1.9), and what a board that no reader made is refused for (rule 8.5).
 -- Assumes nothing.
 use mathlib.Core.Bool.{cond}
 use mathlib.Core.List.{List, [], _∷_, _++_}
@@ -15,11 +15,11 @@ use Rattle.description_board.specs.declared.Item.the-variants.{MasterLin
 use Rattle.description_board.specs.Records.{noMaster, noSlave}
 use Rattle.description_board.specs.Rules.{described}
 
--- "master,width,burst"
+-- rule 1.3: `master,width,burst`, the line of master i
 unfoldable pub masterItem : List Master → ℕ → Item
 masterItem ms i = let m = getD ms i noMaster in MasterLine (m .width) (m .burst)
 
--- "slave,base,span,width,burst,readwait,writewait": the numbers of a slave's line
+-- rule 1.3: `slave,base,span,width,burst,readwait,writewait`, the numbers of a slave's line
 abbrev pub slaveNumbers : Slave → SlaveNumbers
 slaveNumbers s = record {
   base = s .base;
@@ -30,20 +30,20 @@ slaveNumbers s = record {
   «write_wait» = s .«write_wait»;
 }
 
--- the line of slave i
+-- rule 1.3: the line of slave i
 unfoldable pub slaveItem : List Slave → ℕ → Item
 slaveItem ss i = SlaveLine (slaveNumbers (getD ss i noSlave))
 
--- "share,master,slave,shares": the line at place i of the shares, where the pair is connected
+-- rules 1.3, 1.8: `share,master,slave,shares`, the line of the pair at index i of the shares; none where it is not connected
 unfoldable pub shareItem : List ℕ → ℕ → List Item
 shareItem shares i = cond (eqb (getD shares i 0) 0) [] (ShareLine (i / 16) (i % 16) (getD shares i 0) ∷ [])
 
--- "Masters come first, then slaves, then shares"; "the writer puts shares in order of master, then slave"
+-- rules 1.4, 1.9: a line for each master, then for each slave, then for each pair connected, all by number
 unfoldable pub items : Board → List Item
 items b =
     table (masterItem (b .masters)) (b .«master_count»)
     ++ (table (slaveItem (b .slaves)) (b .«slave_count») ++ gather (shareItem (b .shares)) 128)
 
--- "a description that did not come through the reader is checked for 2 to 7 .. line by line as the writer would put it"
+-- rules 1.10, 8.5: what a board is refused for, or 0, by the lines that the writer would put for it
 unfoldable pub boardRefusal : Board → ℕ
 boardRefusal b = described (items b) .number

@@ -1,5 +1,5 @@
--- The legal boards: those whose description is not refused. `accepted-legal` and `legal-accepted` prove that the check accepts
--- exactly these.
+-- The legal boards (rules 1.1, 1.6 to 1.8): those that are not refused.
+-- `accepted-legal` and `legal-accepted` prove that the check accepts exactly these.
 -- Assumes nothing.
 use mathlib.Core.Path.{_≡_}
 use mathlib.Core.Bool.{true, false}
@@ -13,12 +13,12 @@ use Rattle.description_board.specs.declared.Board.{Board}
 use Rattle.description_board.specs.Records.{masterAt, slaveAt, memoryLength}
 use Rattle.description_board.specs.Rules.{widths, bursts, spans, meets}
 
--- a master whose values are in their lists
+-- rule 1.6: a master whose values are in their lists
 pub record LegalMaster (m : Master) : Type 0 where
   pub width : member (m .width) widths ≡ true
   pub burst : member (m .burst) bursts ≡ true
 
--- a slave whose values are in their lists and ranges, with its base on a multiple of its span
+-- rules 1.6, 1.7: a slave whose values are in their lists and ranges, its base a multiple of its span
 pub record LegalSlave (s : Slave) : Type 0 where
   pub base : s .base ≤ 4294967295
   pub span : member (s .span) spans ≡ true
@@ -28,7 +28,7 @@ pub record LegalSlave (s : Slave) : Type 0 where
   pub writeWait : s .«write_wait» ≤ 255
   pub aligned : s .base % s .span ≡ 0
 
--- 1 to 8 masters and 1 to 16 slaves, each legal; no address in two spans; spans of at most 65,536 together; no share over 100,
+-- rules 1.1, 1.6 to 1.8: both counts; each master and slave legal; no address in two spans; the spans' total; no share over 100,
 -- and none outside the counts
 pub record Legal (b : Board) : Type 0 where
   pub someMaster : 0 < b .«master_count»

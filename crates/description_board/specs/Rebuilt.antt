@@ -1,4 +1,4 @@
--- The board that the writer's lines of a board describe: the same, with zeros behind its counts.
+-- The board that the writer's lines of a board describe (rules 1.9, 1.10): the same, with zeros behind its counts.
 -- Assumes nothing.
 use mathlib.Core.Bool.{Bool, cond}
 use lib.Dec.{ltb}
@@ -7,7 +7,7 @@ use Rattle.common_laws.specs.Lists.{table, some}
 use Rattle.description_board.specs.declared.Board.{Board}
 use Rattle.description_board.specs.Records.{noMaster, noSlave, masterAt, slaveAt}
 
--- the board with a zero master or slave at every place from its count on
+-- rules 1.9, 1.10: the board with a zero master or slave at every index from its count on
 unfoldable pub trimmed : Board → Board
 trimmed b = record {
   «master_count» = b .«master_count»;
@@ -17,6 +17,6 @@ trimmed b = record {
   shares = table (λ i. getD (b .shares) i 0) 128;
 }
 
--- the board has a share, so that its last line is a share line
+-- the board has a share, so that the last line of its description is a share line
 unfoldable pub shared : Board → Bool
 shared b = some (λ i. ltb 0 (getD (b .shares) i 0)) 128

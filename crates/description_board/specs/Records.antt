@@ -1,4 +1,4 @@
--- The records of a board, and its elements by number.
+-- The records of a board, and its elements by number (rules 1.1, 1.8, 2.1).
 -- Assumes nothing.
 use mathlib.Core.Bool.{Bool, _&&_}
 use mathlib.Core.List.{List, [], _∷_}
@@ -9,13 +9,15 @@ use Rattle.description_board.specs.declared.Master.{Master}
 use Rattle.description_board.specs.declared.Slave.{Slave}
 use Rattle.description_board.specs.declared.Board.{Board}
 
+-- a master of zeros
 abbrev pub noMaster : Master
 noMaster = record { width = 0; burst = 0 }
 
+-- a slave of zeros
 abbrev pub noSlave : Slave
 noSlave = record { base = 0; span = 0; width = 0; burst = 0; «read_wait» = 0; «write_wait» = 0 }
 
--- the board before the first line, and of every refusal
+-- rule 8.1: the board of a refusal; also that before the first line
 unfoldable pub noBoard : Board
 noBoard = record {
   «master_count» = 0;
@@ -25,32 +27,32 @@ noBoard = record {
   shares = replicate 128 0;
 }
 
--- "Masters and slaves count from 0 in line order." Past the end of a list `getD` gives its last argument.
+-- rule 1.1: master m. Past the end of a list `getD` gives its last argument.
 abbrev pub masterAt : Board → ℕ → Master
 masterAt b m = getD (b .masters) m noMaster
 
+-- rule 1.1: slave s
 abbrev pub slaveAt : Board → ℕ → Slave
 slaveAt b s = getD (b .slaves) s noSlave
 
--- the shares of master m at slave s. Each master has 16 places: from s = 16 on, which is no slave of a legal board, the place
--- is another master's.
+-- rule 1.8: the shares of master m at slave s, 0 where they are not connected. Each master has 16 numbers: from s = 16 on, which
+-- is no slave of a legal board, the index is another master's.
 abbrev pub sharesAt : Board → ℕ → ℕ → ℕ
 sharesAt b m s = getD (b .shares) (16 * m + s) 0
 
--- "A pair without a share line is not connected."
+-- rule 1.8: s is a slave of the board, and master m has shares at it
 unfoldable pub connected : Board → ℕ → ℕ → Bool
 connected b m s = ltb s (b .«slave_count») && ltb 0 (sharesAt b m s)
 
--- the spans of some slaves together
+-- rule 1.7: the spans of some slaves together
 unfoldable pub totalSpan : List Slave → ℕ
 totalSpan [] = 0
 totalSpan (s ∷ ss) = s .span + totalSpan ss
 
--- "Spans lie one after another, by slave number, in a lent memory": where the span of slave s starts in it. `take` of more
--- slaves than there are is all of them.
+-- rule 2.1: where the span of slave s starts in the memory. `take` of more slaves than there are is all of them.
 unfoldable pub startOf : Board → ℕ → ℕ
 startOf b s = totalSpan (take s (b .slaves))
 
--- "a lent memory of exactly their total length"
+-- rule 2.1: the bytes of the memory
 unfoldable pub memoryLength : Board → ℕ
 memoryLength b = startOf b (b .«slave_count»)

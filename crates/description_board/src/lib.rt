@@ -1,4 +1,5 @@
-// A board, the lines of its description, and what has been read of one. The rules (refusals 2 to 7) are in specs/Rules.antt.
+// A board, the lines of its description, and what has been read of one; specs/Rules.antt has their rules (7.1 to 7.7).
+// The numbers of a master and of a slave are those of their lines (rules 1.3, 1.6).
 pub struct Master {
     pub width: u32,
     pub burst: u32,
@@ -13,7 +14,7 @@ pub struct Slave {
     pub write_wait: u32,
 }
 
-// The shares of master m at slave s stand at 16 * m + s; 0: not connected.
+// The shares of master m at slave s stand at index 16 * m + s; 0: not connected (rule 1.8).
 pub struct Board {
     pub master_count: u32,
     pub slave_count: u32,
@@ -22,7 +23,7 @@ pub struct Board {
     pub shares: [u32; 128],
 }
 
-// The numbers of a slave line, not yet checked.
+// The numbers of a slave line (rule 1.3), not yet checked.
 pub struct SlaveNumbers {
     pub base: u64,
     pub span: u64,
@@ -32,7 +33,7 @@ pub struct SlaveNumbers {
     pub write_wait: u64,
 }
 
-// One line of a description: the numbers of its fields, or a line that is none of the three kinds.
+// One line of a description (rule 1.3): the numbers of its fields, or a line that is none of the three kinds (rule 7.1).
 pub enum Item {
     Malformed,
     MasterLine(u64, u64),
@@ -40,7 +41,7 @@ pub enum Item {
     ShareLine(u64, u64, u64),
 }
 
-// What has been read of a description: the refusal's number or 0, whether a share line was read, the board so far.
+// What has been read of a description (rule 8.2): the refusal's number or 0, whether a share line was read, the board so far.
 pub struct Reading {
     pub number: u32,
     pub sharing: bool,

@@ -1,4 +1,4 @@
-// What a board that did not come through the reader is refused for: refusals 2 to 7.
+// What a board that no reader made is refused for (rules 7.2 to 7.7, 8.5).
 // Tests are joined by & and |, not by && and ||: each part is safe by itself, and a proof meets the whole as one test.
 use common_numbers::BOARD_NUMBERS;
 ghost use mathlib.Core.Path.{_≡_};
@@ -18,7 +18,7 @@ use description_board::Slave;
 use description_board::SlaveNumbers;
 use description_rules::Progress;
 
-// The line of master i; past the array, where the counts of a board that no reader made can lead, a line of zeros.
+// The line of master i (rule 1.3); past the array, where the counts of a board that no reader made can lead, a line of zeros.
 fn master_item(board: &[u32; BOARD_NUMBERS], i: usize) -> Item
     ensures { λ x. ⌜ x ≡ masterItem (boardIn (now (board .entry)) .masters) i ⌝ }
 {
@@ -29,7 +29,7 @@ fn master_item(board: &[u32; BOARD_NUMBERS], i: usize) -> Item
     Item::MasterLine(0, 0)
 }
 
-// The numbers of a slave's line.
+// The numbers of a slave's line (rule 1.3).
 fn slave_numbers(s: Slave) -> SlaveNumbers
     ensures { λ n. ⌜ n ≡ slaveNumbers s ⌝ }
 {
@@ -43,7 +43,7 @@ fn slave_numbers(s: Slave) -> SlaveNumbers
     }
 }
 
-// The line of slave i; past the array a line of zeros.
+// The line of slave i (rule 1.3); past the array a line of zeros.
 fn slave_item(board: &[u32; BOARD_NUMBERS], i: usize) -> Item
     ensures { λ x. ⌜ x ≡ slaveItem (boardIn (now (board .entry)) .slaves) i ⌝ }
 {
@@ -63,7 +63,7 @@ fn slave_item(board: &[u32; BOARD_NUMBERS], i: usize) -> Item
     Item::SlaveLine(zeros)
 }
 
-// The line at place i of the shares; Malformed where the pair is not connected.
+// The line of the pair at index i of the shares (rules 1.3, 1.8); Malformed where it is not connected.
 fn pair_item(board: &[u32; BOARD_NUMBERS], i: u64) -> Item
     ensures { λ x. ⌜ x ≡ pairItem (boardIn (now (board .entry)) .shares) i ⌝ }
 {
@@ -74,7 +74,7 @@ fn pair_item(board: &[u32; BOARD_NUMBERS], i: u64) -> Item
     Item::ShareLine(i / 16, i % 16, n as u64)
 }
 
-// How many places a board's lines have: its masters, its slaves, the pairs of a master and a slave.
+// How many entries a board's lines have (rule 1.9): its masters, its slaves, the pairs of a master and a slave.
 pub fn entry_count(board: &[u32; BOARD_NUMBERS]) -> usize
     ensures { λ n. ⌜ n ≡ entryCount (boardIn (now (board .entry))) ⌝ }
 {
@@ -83,7 +83,7 @@ pub fn entry_count(board: &[u32; BOARD_NUMBERS]) -> usize
     m + s + 128
 }
 
-// The line at place k; Malformed, which no line of a board is, where there is none.
+// The line of entry k (rules 1.4, 1.9); Malformed, which no line of a board is, where there is none.
 pub fn line_at(board: &[u32; BOARD_NUMBERS], k: usize) -> Item
     ensures { λ x. ⌜ x ≡ lineAt (boardIn (now (board .entry))) k ⌝ }
 {
@@ -99,7 +99,7 @@ pub fn line_at(board: &[u32; BOARD_NUMBERS], k: usize) -> Item
     pair_item(board, (k - n) as u64)
 }
 
-// A place of a board more; one that has no line changes nothing.
+// An entry of a board more (rule 8.5); one that has no line changes nothing.
 fn add_entry(own: &mut [u32; BOARD_NUMBERS], p: Progress, x: Item) -> Progress
     ensures { λ r. ⌜ readingOf r (now (own .exit)) ≡ stepAll (readingOf p (now (own .entry))) (present x) ⌝ }
 {
@@ -109,8 +109,8 @@ fn add_entry(own: &mut [u32; BOARD_NUMBERS], p: Progress, x: Item) -> Progress
     }
 }
 
-// The first refusal of a board's own lines, or 0. The board is built again, line by line, up to the first refusal: a later line
-// cannot change the answer, and the counts of a board that no reader made can be any number.
+// The first refusal of a board's own lines, or 0 (rules 1.10, 8.5). The board is built again, line by line, up to the first
+// refusal: a later line cannot change the answer, and the counts of a board that no reader made can be any number.
 pub fn board_refusal_by_lines(board: &[u32; BOARD_NUMBERS]) -> u32
     ensures { λ n. ⌜ n ≡ boardRefusal (boardIn (now (board .entry))) ⌝ }
 {
@@ -131,8 +131,8 @@ pub fn board_refusal_by_lines(board: &[u32; BOARD_NUMBERS]) -> u32
 }
 
 // ---- a fast accept
-// check builds a board again from its lines: too much for every clock. These functions test the board where it stands. One that
-// passes is accepted; one that fails is left to check, which says what it is refused for.
+// board_refusal_by_lines builds a board again from its lines: too much for every clock. These functions test the board as it
+// stands. One that passes is accepted; one that fails is left to that function, which says what it is refused for.
 
 // One less, and 0 of 0: so the tests that follow need no return of their own at 0, which would be a branch for each number.
 fn below(x: u32) -> u32
@@ -141,7 +141,7 @@ fn below(x: u32) -> u32
     if x == 0 { 0 } else { x - 1 }
 }
 
-// Whether x is a legal width. Of a number with one bit set, and of no other but 0, no bit is left in x & (x - 1).
+// Whether x is a legal width (rule 1.6). Of a number with one bit set, and of no other but 0, no bit is left in x & (x - 1).
 fn width_fits(x: u32) -> bool
     ensures { λ r. ⌜ r ≡ member x widths ⌝ }
 {
@@ -149,7 +149,7 @@ fn width_fits(x: u32) -> bool
     (x <= 8) & ((0 < x) & (x & low == 0))
 }
 
-// Whether x is a legal burst.
+// Whether x is a legal burst (rule 1.6).
 fn burst_fits(x: u32) -> bool
     ensures { λ r. ⌜ r ≡ member x bursts ⌝ }
 {
@@ -157,7 +157,8 @@ fn burst_fits(x: u32) -> bool
     (x <= 64) & ((0 < x) & (x & low == 0))
 }
 
-// Whether span is legal and base a multiple of it. A legal span has one bit set, so the bits below that one do for a remainder.
+// Whether span is legal and base a multiple of it (rules 1.6, 1.7). A legal span has one bit set, so the bits below that one do
+// for a remainder.
 fn span_fits(base: u32, span: u32) -> bool
     ensures { λ r. ⌜ (r ≡ true → (member span spans ≡ true) × (base % span ≡ 0)) ⌝ }
 {
@@ -165,7 +166,7 @@ fn span_fits(base: u32, span: u32) -> bool
     ((span & low == 0) & (base & low == 0)) & ((8 <= span) & (span <= 65536))
 }
 
-// Whether each of the first n masters is legal.
+// Whether each of the first n masters is legal (rule 1.6).
 fn masters_fit(board: &[u32; BOARD_NUMBERS], n: usize) -> bool
     requires { ⌜ n ≤ 8 ⌝ }
     ensures { λ r. ⌜ (r ≡ true → MastersFit (boardIn (now (board .entry)) .masters) n) ⌝ }
@@ -181,7 +182,7 @@ fn masters_fit(board: &[u32; BOARD_NUMBERS], n: usize) -> bool
     true
 }
 
-// Whether a slave by itself is legal.
+// Whether a slave by itself is legal (rules 1.6, 1.7).
 fn slave_fits(s: Slave) -> bool
     ensures { λ r. ⌜ (r ≡ true → SlaveFits s) ⌝ }
 {
@@ -197,8 +198,8 @@ fn later(a: u64, b: u64) -> u64
     if a < b { b } else { a }
 }
 
-// Whether the span at base meets none of the first n spans, of which the last ends at last. On a board whose slaves stand in the
-// order of their addresses base is never below that, and no span is looked at.
+// Whether the span at base meets none of the first n spans (rule 1.7), none of which ends behind last. On a board whose slaves
+// stand in the order of their addresses base is never below that, and no span is looked at.
 fn clear_of(board: &[u32; BOARD_NUMBERS], n: usize, base: u32, span: u32, last: u64) -> bool
     requires { ⌜ n ≤ 16 ⌝ }
     requires { ⌜ ((k : ℕ) → k < n → slaveAt (boardIn (now board)) k .base + slaveAt (boardIn (now board)) k .span ≤ last) ⌝ }
@@ -210,7 +211,7 @@ fn clear_of(board: &[u32; BOARD_NUMBERS], n: usize, base: u32, span: u32, last: 
     !description_rules::overlaps(board, n, base, span)
 }
 
-// Whether the first n slaves are legal, each by itself and together.
+// Whether the first n slaves are legal, each by itself and together (rules 1.6, 1.7).
 fn slaves_fit(board: &[u32; BOARD_NUMBERS], n: usize) -> bool
     requires { ⌜ n ≤ 16 ⌝ }
     ensures { λ r. ⌜ (r ≡ true → SlavesFit (boardIn (now (board .entry)) .slaves) n) ⌝ }
@@ -233,15 +234,15 @@ fn slaves_fit(board: &[u32; BOARD_NUMBERS], n: usize) -> bool
     total <= 65536
 }
 
-// The most shares that a master can have at slave s of n.
+// The most shares that a master can have at slave s of n (rules 1.6, 1.8).
 fn share_limit(s: u32, n: u32) -> u32
     ensures { λ x. ⌜ x ≡ shareLimit s n ⌝ }
 {
     if s < n { 100 } else { 0 }
 }
 
-// Whether every share of a master is at most 100 and none stands from slave n on. The loop has no early way out and each share
-// is compared once, so that it compiles to tests of several shares at a time.
+// Whether every share of a master is at most 100 and none stands from slave n on (rules 1.6, 1.8). The loop has no early return
+// and each share is compared once, so that it compiles to tests of several shares at a time.
 fn row_fits(board: &[u32; BOARD_NUMBERS], m: usize, n: u32) -> bool
     requires { ⌜ m < 8 ⌝ }
     ensures { λ r. ⌜ (r ≡ true → RowFits (boardIn (now (board .entry)) .shares) m n 16) ⌝ }
@@ -256,7 +257,7 @@ fn row_fits(board: &[u32; BOARD_NUMBERS], m: usize, n: u32) -> bool
     !bad
 }
 
-// Whether a master has no share. A bit of any share stays in used.
+// Whether a master has no share (rule 1.8). A bit of any share stays in used.
 fn row_empty(board: &[u32; BOARD_NUMBERS], m: usize) -> bool
     requires { ⌜ m < 8 ⌝ }
     ensures { λ r. ⌜ (r ≡ true → RowEmpty (boardIn (now (board .entry)) .shares) m 16) ⌝ }
@@ -271,7 +272,7 @@ fn row_empty(board: &[u32; BOARD_NUMBERS], m: usize) -> bool
     used == 0
 }
 
-// Whether the shares of master m are legal on a board with so many masters and slaves.
+// Whether the shares of master m are legal on a board with so many masters and slaves (rules 1.6, 1.8).
 fn row_passes(board: &[u32; BOARD_NUMBERS], m: usize, masters: usize, slaves: u32) -> bool
     requires { ⌜ m < 8 ⌝ }
     ensures { λ r. ⌜ (r ≡ true → RowPasses (boardIn (now (board .entry)) .shares) m masters slaves) ⌝ }
@@ -282,7 +283,7 @@ fn row_passes(board: &[u32; BOARD_NUMBERS], m: usize, masters: usize, slaves: u3
     row_empty(board, m)
 }
 
-// Whether every share is at most 100 and none stands outside the counts.
+// Whether every share is at most 100 and none stands outside the counts (rules 1.6, 1.8).
 fn shares_fit(board: &[u32; BOARD_NUMBERS], masters: usize, slaves: u32) -> bool
     ensures { λ r. ⌜ (r ≡ true → SharesFit (boardIn (now (board .entry)) .shares) masters slaves 8) ⌝ }
 {
@@ -296,7 +297,7 @@ fn shares_fit(board: &[u32; BOARD_NUMBERS], masters: usize, slaves: u32) -> bool
     true
 }
 
-// Whether a board passes every test. Nothing is said of one that does not.
+// Whether a board passes every test (rules 1.1, 1.6 to 1.8). Nothing is said of one that does not.
 fn accepts(board: &[u32; BOARD_NUMBERS]) -> bool
     ensures { λ r. ⌜ (r ≡ true → boardRefusal (boardIn (now (board .entry))) ≡ 0) ⌝ }
 {
@@ -317,7 +318,7 @@ fn accepts(board: &[u32; BOARD_NUMBERS]) -> bool
     shares_fit(board, m as usize, s)
 }
 
-// What check says, at once where the board is accepted.
+// What a board is refused for, or 0 (rules 1.10, 8.5): what board_refusal_by_lines answers, at once where the board is accepted.
 pub fn board_refusal(board: &[u32; BOARD_NUMBERS]) -> u32
     ensures { λ n. ⌜ n ≡ boardRefusal (boardIn (now (board .entry))) ⌝ }
 {

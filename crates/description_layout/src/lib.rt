@@ -1,4 +1,5 @@
-// A board in a lent array of 242 numbers: each record is read and put by its place. specs/Layout.antt says what the numbers mean.
+// A board in a lent array of 242 numbers (rule 1.10): each record is read and put at its index.
+// specs/Layout.antt says what the numbers mean.
 use common_numbers::BOARD_NUMBERS;
 use common_numbers::MASTER_NUMBERS;
 use common_numbers::MASTERS_FROM;
@@ -22,18 +23,21 @@ pub fn count(l: &[u32]) -> usize
     l.len()
 }
 
+// The count of masters (rules 1.1, 1.10).
 pub fn master_count(board: &[u32; BOARD_NUMBERS]) -> u32
     ensures { λ r. ⌜ r ≡ boardIn (now (board .entry)) .«master_count» ⌝ }
 {
     board[0]
 }
 
+// The count of slaves (rules 1.1, 1.10).
 pub fn slave_count(board: &[u32; BOARD_NUMBERS]) -> u32
     ensures { λ r. ⌜ r ≡ boardIn (now (board .entry)) .«slave_count» ⌝ }
 {
     board[1]
 }
 
+// Master m (rules 1.1, 1.10).
 pub fn master_at(board: &[u32; BOARD_NUMBERS], m: usize) -> Master
     requires { ⌜ m < 8 ⌝ }
     ensures { λ r. ⌜ r ≡ masterAt (boardIn (now (board .entry))) m ⌝ }
@@ -45,6 +49,7 @@ pub fn master_at(board: &[u32; BOARD_NUMBERS], m: usize) -> Master
     }
 }
 
+// Slave s (rules 1.1, 1.10).
 pub fn slave_at(board: &[u32; BOARD_NUMBERS], s: usize) -> Slave
     requires { ⌜ s < 16 ⌝ }
     ensures { λ r. ⌜ r ≡ slaveAt (boardIn (now (board .entry))) s ⌝ }
@@ -60,7 +65,7 @@ pub fn slave_at(board: &[u32; BOARD_NUMBERS], s: usize) -> Slave
     }
 }
 
-// The shares at place i of the 128.
+// The shares at index i of the 128 (rules 1.8, 1.10).
 pub fn share_in(board: &[u32; BOARD_NUMBERS], i: usize) -> u32
     requires { ⌜ i < 128 ⌝ }
     ensures { λ r. ⌜ r ≡ getD (boardIn (now (board .entry)) .shares) i 0 ⌝ }
@@ -68,7 +73,7 @@ pub fn share_in(board: &[u32; BOARD_NUMBERS], i: usize) -> u32
     board[SHARES_FROM + i]
 }
 
-// The shares of master m at slave s.
+// The shares of master m at slave s (rules 1.8, 1.10); 0: not connected.
 pub fn shares_at(board: &[u32; BOARD_NUMBERS], m: usize, s: usize) -> u32
     requires { ⌜ (m < 8) × (s < 16) ⌝ }
     ensures { λ r. ⌜ r ≡ sharesAt (boardIn (now (board .entry))) m s ⌝ }
@@ -76,7 +81,7 @@ pub fn shares_at(board: &[u32; BOARD_NUMBERS], m: usize, s: usize) -> u32
     board[SHARES_FROM + (16 * m + s)]
 }
 
-// One master more.
+// One master more (rules 1.1, 1.10).
 pub fn put_master(board: &mut [u32; BOARD_NUMBERS], width: u32, burst: u32)
     requires { ⌜ boardIn (now board) .«master_count» < 8 ⌝ }
     ensures { λ _. ⌜ boardIn (now (board .exit)) ≡ withMaster (boardIn (now (board .entry))) width burst ⌝ }
@@ -89,7 +94,7 @@ pub fn put_master(board: &mut [u32; BOARD_NUMBERS], width: u32, burst: u32)
     board[0] = n + 1;
 }
 
-// One slave more.
+// One slave more (rules 1.1, 1.10).
 pub fn put_slave(board: &mut [u32; BOARD_NUMBERS], s: Slave)
     requires { ⌜ boardIn (now board) .«slave_count» < 16 ⌝ }
     ensures { λ _. ⌜ boardIn (now (board .exit)) ≡ withSlave (boardIn (now (board .entry))) s ⌝ }
@@ -106,7 +111,7 @@ pub fn put_slave(board: &mut [u32; BOARD_NUMBERS], s: Slave)
     board[1] = n + 1;
 }
 
-// The shares at place i of the 128.
+// Sets the shares at index i of the 128 (rules 1.8, 1.10).
 pub fn put_share_at(board: &mut [u32; BOARD_NUMBERS], i: usize, n: u32)
     requires { ⌜ i < 128 ⌝ }
     ensures { λ _. ⌜ boardIn (now (board .exit)) ≡ withShareAt (boardIn (now (board .entry))) i n ⌝ }
@@ -115,6 +120,7 @@ pub fn put_share_at(board: &mut [u32; BOARD_NUMBERS], i: usize, n: u32)
     board[SHARES_FROM + i] = n;
 }
 
+// A board's numbers, copied as they stand (rule 1.10).
 pub fn copy(to: &mut [u32; BOARD_NUMBERS], from: &[u32; BOARD_NUMBERS])
     ensures { λ _. ⌜ now (to .exit) ≡ now (from .entry) ⌝ }
 {
@@ -127,7 +133,7 @@ pub fn copy(to: &mut [u32; BOARD_NUMBERS], from: &[u32; BOARD_NUMBERS])
     }
 }
 
-// A board of zeros.
+// A board of zeros (rule 8.1).
 pub fn clear(board: &mut [u32; BOARD_NUMBERS])
     ensures { λ _. ⌜ now (board .exit) ≡ replicate 242 0 ⌝ }
 {

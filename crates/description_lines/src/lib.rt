@@ -1,4 +1,4 @@
-// The lines of a description: the item that a line of a text says, and an item's line.
+// The lines of a description: the item that a line of a text says, and an item's line (rules 1.2, 1.3).
 ghost use mathlib.Core.Path.{_≡_};
 ghost use Prim.Native.Nat.{_+_, _≤_, _<_};
 ghost use lib.ListN.{length};
@@ -10,13 +10,13 @@ use common_text::Numbers;
 use description_board::Item;
 use description_board::SlaveNumbers;
 
-// A line that was read, and the place in its text where the next one starts.
+// A line that was read, and the position in its text where the next one starts (rule 1.2).
 pub struct LineRead {
     pub item: Item,
     pub next: usize,
 }
 
-// A master line's numbers.
+// What a master line's numbers say (rules 1.3, 7.1).
 fn master_line(ns: Numbers) -> Item
     ensures { λ x. ⌜ x ≡ masterLine ns ⌝ }
 {
@@ -26,7 +26,7 @@ fn master_line(ns: Numbers) -> Item
     Item::Malformed
 }
 
-// A slave line's numbers.
+// What a slave line's numbers say (rules 1.3, 7.1).
 fn slave_line(ns: Numbers) -> Item
     ensures { λ x. ⌜ x ≡ slaveLine ns ⌝ }
 {
@@ -44,7 +44,7 @@ fn slave_line(ns: Numbers) -> Item
     Item::Malformed
 }
 
-// A share line's numbers.
+// What a share line's numbers say (rules 1.3, 7.1).
 fn share_line(ns: Numbers) -> Item
     ensures { λ x. ⌜ x ≡ shareLine ns ⌝ }
 {
@@ -54,7 +54,7 @@ fn share_line(ns: Numbers) -> Item
     Item::Malformed
 }
 
-// What a line without its line feed says. The numbers are read before the word is known: one place does it for all three.
+// What a line without its line feed says (rules 1.3, 7.1). The numbers are read before the word is known, once for all three.
 fn item_of(line: &[u8]) -> Item
     ensures { λ x. ⌜ x ≡ itemOf (now (line .entry)) ⌝ }
 {
@@ -73,7 +73,7 @@ fn item_of(line: &[u8]) -> Item
     Item::Malformed
 }
 
-// The line at a place of a text, which is not its end. One that lacks its line feed is malformed, and the last.
+// The line from a position of a text on, not its end (rules 1.2, 8.2). One that lacks its line feed is malformed, and the last.
 pub fn line_from(text: &[u8], at: usize) -> LineRead
     requires { ⌜ at < length (now text) ⌝ }
     ensures { λ r. ⌜ LineFrom (now (text .entry)) at (r .item) (r .next) ⌝ }
@@ -93,14 +93,14 @@ pub fn line_from(text: &[u8], at: usize) -> LineRead
     }
 }
 
-// The numbers of a slave line in the order of its fields.
+// The numbers of a slave line in the order of its fields (rule 1.3).
 fn slave_fields(n: SlaveNumbers) -> [u64; 6]
     ensures { λ r. ⌜ r ≡ slaveFields n ⌝ }
 {
     [n.base, n.span, n.width, n.burst, n.read_wait, n.write_wait]
 }
 
-// Writes a line with its line feed; a malformed one has no bytes, and no board has one.
+// Writes a line with its line feed (rules 1.2, 1.3); a malformed one has no bytes, and no board has one.
 pub fn put_item(out: &mut [u8], at: usize, x: Item) -> usize
     requires { ⌜ at + length (itemText x) ≤ length (now out) ⌝ }
     ensures { λ r. ⌜ Put (now (out .entry)) at (itemText x) (now (out .exit)) r ⌝ }
@@ -126,7 +126,7 @@ pub fn put_item(out: &mut [u8], at: usize, x: Item) -> usize
     }
 }
 
-// How many bytes that is: the word's, the fields', the line feed.
+// How many bytes put_item writes: the word's, the fields', the line feed (rules 1.2, 1.3).
 pub fn item_length(x: Item) -> usize
     ensures { λ r. ⌜ r ≡ length (itemText x) ⌝ }
 {

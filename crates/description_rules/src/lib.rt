@@ -1,5 +1,5 @@
-// What has been read of a description, line by line: the fold that the reader and the check of a board share. The board so far
-// is a lent array of numbers, to which each line that is not refused is added.
+// What has been read of a description, line by line (rule 8.2): the fold that the reader and the check of a board share.
+// The board so far is a lent array of numbers, to which each line that is not refused is added.
 mod refusals;
 
 use common_numbers::BAD_ORDER;
@@ -20,13 +20,13 @@ pub use refusals::overlaps;
 pub use refusals::share_or_none;
 pub use refusals::total_span;
 
-// The refusal's number or 0, and whether a share line was read.
+// The refusal's number or 0, and whether a share line was read (rules 1.4, 8.2).
 pub struct Progress {
     pub number: u32,
     pub sharing: bool,
 }
 
-// The slave of a line whose values are in their lists and ranges.
+// The slave of a line whose values are in their lists and ranges (rules 1.3, 1.6).
 fn slave_of(n: SlaveNumbers) -> Slave
     requires { ⌜ slaveValues n ≡ true ⌝ }
     ensures { λ s. ⌜ s ≡ slaveOf n ⌝ }
@@ -41,7 +41,7 @@ fn slave_of(n: SlaveNumbers) -> Slave
     }
 }
 
-// A refusal: its number, and a board that is all zero.
+// A refusal: its number, and a board that is all zero (rule 8.1).
 fn refused(board: &mut [u32; BOARD_NUMBERS], number: u32) -> Progress
     ensures { λ r. ⌜ readingOf r (now (board .exit)) ≡ refused number ⌝ }
 {
@@ -52,7 +52,7 @@ fn refused(board: &mut [u32; BOARD_NUMBERS], number: u32) -> Progress
     }
 }
 
-// Before the first line. The board is an array of zeros then.
+// Before the first line (rule 8.2). The board is an array of zeros then.
 pub fn start() -> Progress
     ensures { λ r. ⌜ readingOf r (replicate 242 0) ≡ start ⌝ }
 {
@@ -62,7 +62,7 @@ pub fn start() -> Progress
     }
 }
 
-// A master line after lines of which none was refused.
+// A master line after lines of which none was refused (rules 7.2, 7.3).
 fn step_master(board: &mut [u32; BOARD_NUMBERS], p: Progress, width: u64, burst: u64) -> Progress
     requires { ⌜ p .number ≡ 0 ⌝ }
     ensures { λ r. ⌜ readingOf r (now (board .exit)) ≡ step (readingOf p (now (board .entry))) (MasterLine width burst) ⌝ }
@@ -78,7 +78,7 @@ fn step_master(board: &mut [u32; BOARD_NUMBERS], p: Progress, width: u64, burst:
     }
 }
 
-// A slave line after lines of which none was refused.
+// A slave line after lines of which none was refused (rules 7.2 to 7.6).
 fn step_slave(board: &mut [u32; BOARD_NUMBERS], p: Progress, n: SlaveNumbers) -> Progress
     requires { ⌜ p .number ≡ 0 ⌝ }
     ensures { λ r. ⌜ readingOf r (now (board .exit)) ≡ step (readingOf p (now (board .entry))) (SlaveLine n) ⌝ }
@@ -94,7 +94,7 @@ fn step_slave(board: &mut [u32; BOARD_NUMBERS], p: Progress, n: SlaveNumbers) ->
     }
 }
 
-// Whether the share of master m at slave s has one of the 128 places. The first two tests keep the sum in a u64.
+// Whether the shares of master m at slave s are among the 128 (rule 1.8). The first two tests keep the sum in a u64.
 fn in_table(m: u64, s: u64) -> bool
     ensures { λ r. ⌜ r ≡ ltb (16 * m + s) 128 ⌝ }
 {
@@ -107,7 +107,8 @@ fn in_table(m: u64, s: u64) -> bool
     16 * m + s < 128
 }
 
-// A share line after lines of which none was refused. A place past the 128 holds no share, as in share_or_none.
+// A share line after lines of which none was refused (rules 7.2, 7.3, 7.7). Past the 128 there are no shares, as in
+// share_or_none.
 fn step_share(
     board: &mut [u32; BOARD_NUMBERS],
     p: Progress,
@@ -131,7 +132,7 @@ fn step_share(
     }
 }
 
-// One line more; a refusal stays.
+// One line more (rules 7.1 to 7.7, 8.2); a refusal stays.
 pub fn step(board: &mut [u32; BOARD_NUMBERS], p: Progress, x: Item) -> Progress
     ensures { λ r. ⌜ readingOf r (now (board .exit)) ≡ step (readingOf p (now (board .entry))) x ⌝ }
 {
@@ -146,7 +147,7 @@ pub fn step(board: &mut [u32; BOARD_NUMBERS], p: Progress, x: Item) -> Progress
     }
 }
 
-// After the last line: a board has a master and a slave.
+// After the last line (rules 7.2, 8.2): a board has a master and a slave.
 pub fn finish(board: &mut [u32; BOARD_NUMBERS], p: Progress) -> Progress
     ensures { λ r. ⌜ readingOf r (now (board .exit)) ≡ finish (readingOf p (now (board .entry))) ⌝ }
 {

@@ -1,6 +1,6 @@
-// What a line of a description is refused for after what has been read: refusals 2 to 7.
+// What a line of a description is refused for after what has been read (rules 7.2 to 7.7).
 // Tests are joined by & and |, not by && and ||: each part is safe by itself, and a proof meets the whole as one test.
-// The board read so far is lent as its array of numbers: see board_layout.
+// The board read so far is lent as its array of numbers: see description_layout.
 use common_numbers::BAD_BASE;
 use common_numbers::BAD_ORDER;
 use common_numbers::BAD_SHARE;
@@ -22,13 +22,13 @@ ghost use Rattle.description_board.specs.Records.{totalSpan};
 ghost use Rattle.description_board.specs.Rules.{slaveValues, meets, overlaps, masterRefusal, slaveRefusal, shareRefusal};
 ghost use Rattle.description_layout.specs.Layout.{boardIn};
 
-// The legal widths, in bytes. These lists are of u64, as the numbers of a line are.
+// The legal widths, in bytes (rule 1.6). These lists are of u64, as the numbers of a line are.
 const WIDTHS: [u64; 4] = [1, 2, 4, 8];
 
-// The legal bursts, in words.
+// The legal bursts, in words (rule 1.6).
 const BURSTS: [u64; 7] = [1, 2, 4, 8, 16, 32, 64];
 
-// The legal spans, in bytes.
+// The legal spans, in bytes (rule 1.6).
 const SPANS: [u64; 14] = [
     8,
     16,
@@ -60,7 +60,7 @@ fn member(x: u64, list: &[u64]) -> bool
     false
 }
 
-// Whether every value of a slave line is in its list or range.
+// Whether every value of a slave line is in its list or range (rule 1.6).
 fn slave_values(n: SlaveNumbers) -> bool
     ensures { λ r. ⌜ r ≡ slaveValues n ⌝ }
 {
@@ -69,7 +69,8 @@ fn slave_values(n: SlaveNumbers) -> bool
     (n.base <= MOST_BASE) & (member(n.span, &SPANS) & lists)
 }
 
-// Whether the span at base and that of slave s share an address. An end can pass the last address, so it is a u64.
+// Whether the span at base and that of slave s have an address in common (rule 1.7). An end can pass the last address: it is a
+// u64.
 fn meets(base: u32, span: u32, s: Slave) -> bool
     ensures { λ r. ⌜ r ≡ meets base span s ⌝ }
 {
@@ -78,7 +79,7 @@ fn meets(base: u32, span: u32, s: Slave) -> bool
     ((base as u64) < s_end) & ((s.base as u64) < end)
 }
 
-// Whether the span at base overlaps that of one of the first n slaves.
+// Whether the span at base has an address in common with one of the first n slaves (rules 1.7, 7.5).
 pub fn overlaps(board: &[u32; BOARD_NUMBERS], n: usize, base: u32, span: u32) -> bool
     requires { ⌜ n ≤ 16 ⌝ }
     ensures { λ r. ⌜ r ≡ overlaps base span (take n (boardIn (now (board .entry)) .slaves)) ⌝ }
@@ -93,7 +94,7 @@ pub fn overlaps(board: &[u32; BOARD_NUMBERS], n: usize, base: u32, span: u32) ->
     false
 }
 
-// The spans of the first n slaves, and one span more, together: at most 17 u32, so no sum wraps.
+// The spans of the first n slaves, and one span more, together (rules 1.7, 2.1): at most 17 u32, so no sum wraps.
 pub fn total_span(board: &[u32; BOARD_NUMBERS], n: usize, span: u32) -> u64
     requires { ⌜ n ≤ 16 ⌝ }
     ensures { λ r. ⌜ r ≡ totalSpan (take n (boardIn (now (board .entry)) .slaves)) + span ⌝ }
@@ -108,7 +109,7 @@ pub fn total_span(board: &[u32; BOARD_NUMBERS], n: usize, span: u32) -> u64
     total
 }
 
-// What a master line is refused for, or 0.
+// What a master line is refused for, or 0 (rules 7.2, 7.3).
 pub fn master_refusal(board: &[u32; BOARD_NUMBERS], width: u64, burst: u64) -> u32
     ensures { λ r. ⌜ r ≡ masterRefusal (boardIn (now (board .entry))) width burst ⌝ }
 {
@@ -123,7 +124,7 @@ pub fn master_refusal(board: &[u32; BOARD_NUMBERS], width: u64, burst: u64) -> u
     0
 }
 
-// What a slave line is refused for after lines of which the last was a share line or not, or 0.
+// What a slave line is refused for after lines of which the last was a share line or not, or 0 (rules 7.2 to 7.6).
 pub fn slave_refusal(board: &[u32; BOARD_NUMBERS], sharing: bool, n: SlaveNumbers) -> u32
     ensures { λ r. ⌜ r ≡ slaveRefusal (boardIn (now (board .entry))) sharing n ⌝ }
 {
@@ -147,7 +148,7 @@ pub fn slave_refusal(board: &[u32; BOARD_NUMBERS], sharing: bool, n: SlaveNumber
     0
 }
 
-// The shares at a place of the 128; 0 past them, where the counts of a board that no reader made can lead.
+// The shares at an index of the 128 (rule 1.8); 0 past them, where the counts of a board that no reader made can lead.
 pub fn share_or_none(board: &[u32; BOARD_NUMBERS], at: u64) -> u32
     ensures { λ r. ⌜ r ≡ getD (boardIn (now (board .entry)) .shares) at 0 ⌝ }
 {
@@ -157,7 +158,7 @@ pub fn share_or_none(board: &[u32; BOARD_NUMBERS], at: u64) -> u32
     0
 }
 
-// What a share line is refused for, or 0.
+// What a share line is refused for, or 0 (rules 7.2, 7.3, 7.7).
 pub fn share_refusal(board: &[u32; BOARD_NUMBERS], m: u64, s: u64, shares: u64) -> u32
     ensures { λ r. ⌜ r ≡ shareRefusal (boardIn (now (board .entry))) m s shares ⌝ }
 {

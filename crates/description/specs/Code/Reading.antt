@@ -1,4 +1,4 @@
--- What the fold over a text's lines leaves in an array.
+-- Gives the code of description its shape: what the fold over a text's lines leaves in an array.
 -- Assumes nothing.
 use mathlib.Core.Path.{_≡_}
 use mathlib.Core.List.{List}

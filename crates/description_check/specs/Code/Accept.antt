@@ -1,4 +1,4 @@
--- What the parts of the fast accept find of a board's masters, slaves and shares.
+-- Gives the code of description_check its shape: what the fast accept finds of a board's masters, slaves and shares.
 -- Assumes nothing.
 use mathlib.Core.Path.{_≡_}
 use mathlib.Core.Bool.{true, false, cond}
@@ -14,32 +14,32 @@ use Rattle.description_board.specs.Records.{noMaster, noSlave, totalSpan}
 use Rattle.description_board.specs.Rules.{widths, bursts, slaveValues, meets}
 use Rattle.description_board.specs.Items.{slaveNumbers}
 
--- the first n masters
+-- the first n masters (rule 1.6)
 pub record MastersFit (masters : List Master) (n : ℕ) : Type 0 where
   pub each : (m : ℕ) → m < n
       → (member (getD masters m noMaster .width) widths ≡ true) × (member (getD masters m noMaster .burst) bursts ≡ true)
 
--- one slave by itself
+-- one slave by itself (rules 1.6, 1.7)
 pub record SlaveFits (s : Slave) : Type 0 where
   pub values : slaveValues (slaveNumbers s) ≡ true
   pub aligned : s .base % s .span ≡ 0
 
--- the span at base meets none of the first n slaves
+-- the span at base meets none of the first n slaves (rule 1.7)
 pub record Clear (base span : ℕ) (slaves : List Slave) (n : ℕ) : Type 0 where
   pub each : (k : ℕ) → k < n → meets base span (getD slaves k noSlave) ≡ false
 
--- the first n slaves, each by itself and together
+-- the first n slaves, each by itself and together (rules 1.6, 1.7)
 pub record SlavesFit (slaves : List Slave) (n : ℕ) : Type 0 where
   pub each : (k : ℕ) → k < n → SlaveFits (getD slaves k noSlave)
   pub apart : (j k : ℕ) → j < k → k < n
       → meets (getD slaves k noSlave .base) (getD slaves k noSlave .span) (getD slaves j noSlave) ≡ false
   pub total : totalSpan (take n slaves) ≤ 65536
 
--- the most shares at slave s of n
+-- the most shares at slave s of n (rules 1.6, 1.8)
 unfoldable pub shareLimit : ℕ → ℕ → ℕ
 shareLimit s n = cond (ltb s n) 100 0
 
--- the shares of master m at the first k slaves: at most 100, and none from slave n on
+-- the shares of master m at the first k slaves: at most 100, and none from slave n on (rules 1.6, 1.8)
 pub record RowFits (shares : List ℕ) (m n k : ℕ) : Type 0 where
   pub each : (s : ℕ) → s < k → getD shares (16 * m + s) 0 ≢ 0 → (getD shares (16 * m + s) 0 ≤ 100) × (s < n)
 

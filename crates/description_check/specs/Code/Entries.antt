@@ -1,4 +1,4 @@
--- The lines of a board by place: its masters, its slaves, then the 128 places of its shares.
+-- Gives the code of description_check its shape: a board's lines by index, its masters, its slaves, then the 128 pairs.
 -- Assumes nothing.
 use mathlib.Core.Bool.{cond}
 use mathlib.Core.List.{List, [], _∷_}
@@ -11,15 +11,15 @@ use Rattle.description_board.specs.declared.Item.{Item}
 use Rattle.description_board.specs.declared.Item.the-variants.{Malformed, MasterLine, SlaveLine, ShareLine}
 use Rattle.description_board.specs.Items.{masterItem, slaveItem}
 
--- how many places a board has
+-- how many entries a board has: its masters, its slaves, 128 pairs
 abbrev pub entryCount : Board → ℕ
 entryCount b = b .«master_count» + b .«slave_count» + 128
 
--- "A pair without a share line is not connected.": Malformed, which no line of a board is, stands for no line
+-- the line of the pair at index i of the shares (rule 1.8); Malformed, which no line of a board is, stands for no line
 unfoldable pub pairItem : List ℕ → ℕ → Item
 pairItem shares i = cond (eqb (getD shares i 0) 0) Malformed (ShareLine (i / 16) (i % 16) (getD shares i 0))
 
--- "Masters come first, then slaves, then shares": the line at place k
+-- the line of entry k (rules 1.4, 1.9)
 unfoldable pub lineAt : Board → ℕ → Item
 lineAt b k =
     cond (ltb k (b .«master_count»)) (masterItem (b .masters) k)
@@ -33,6 +33,6 @@ present (MasterLine w u) = MasterLine w u ∷ []
 present (SlaveLine n) = SlaveLine n ∷ []
 present (ShareLine m s n) = ShareLine m s n ∷ []
 
--- the lines of the first n places
+-- the lines of the first n entries
 unfoldable pub linesTo : Board → ℕ → List Item
 linesTo b n = gather (λ k. present (lineAt b k)) n

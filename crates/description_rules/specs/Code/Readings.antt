@@ -1,4 +1,4 @@
--- What has been read of a description, where the board so far is an array of numbers.
+-- Gives the code of description_rules and description_check its shape: what has been read, where the board is an array.
 -- Assumes nothing.
 use mathlib.Core.List.{List}
 use Prim.Native.Nat.{ℕ}
