@@ -1,4 +1,4 @@
--- What reset, post and clock answer, and what they leave in the lent bytes.
+-- What reset, post and clock answer, and what they leave in the lent bytes (rules 3.1 to 3.3, 4.1 to 4.14, 8.1).
 -- Assumes nothing.
 use mathlib.Core.Bool.{Bool, cond, not, _||_}
 use mathlib.Core.List.{List}
@@ -22,20 +22,20 @@ use Rattle.fabric_state.specs.Soundness.{sound}
 use Rattle.fabric_state.specs.Clocking.{clockedOf, refusedClock}
 use Rattle.fabric_state.specs.Carrying.{storeAfter}
 
--- what `reset` answers; "memory and buffer are not touched"
+-- rules 4.2, 8.1, 8.5: what `reset` answers; it is lent no memory and no buffer
 unfoldable pub reset : Board → Started
 reset b = record { number = boardRefusal b; state = cond (eqb (boardRefusal b) 0) (stateAtReset b) noState }
 
--- 18: "data not beats × width bytes (0 for a read)"
+-- rule 7.18: so many bytes are not the words of the transfer
 unfoldable pub wrongWords : Master → Transfer → ℕ → Bool
 wrongWords ma t bytes = not (eqb bytes (cond (t .write) (t .beats * ma .width) 0))
 
--- what a transfer of master m with so many bytes of words is refused for, or 0: 13 to 18
+-- rules 7.13 to 7.18, 8.4: what a transfer of master m with so many bytes of words is refused for, or 0
 unfoldable pub requestRefusal : Board → ℕ → Transfer → ℕ → ℕ
 requestRefusal b m t bytes =
     cond (not (eqb (transferRefusal b m t) 0)) (transferRefusal b m t) (cond (wrongWords (masterAt b m) t bytes) 18 0)
 
--- the refusal of its post, or 0, with a buffer of `room` bytes: "A call checks in rising order"
+-- rules 7.8, 7.9, 7.11, 7.12, 8.4, 8.5: what the post of that transfer is refused for, or 0, with a buffer of `room` bytes
 unfoldable pub postRefusalBy : Board → State → ℕ → ℕ → Transfer → ℕ → ℕ
 postRefusalBy b st room m t bytes =
     cond (not (eqb (boardRefusal b) 0)) (boardRefusal b)
@@ -45,23 +45,23 @@ postRefusalBy b st room m t bytes =
     (cond (transferAt st m .held) 12
     (requestRefusal b m t bytes)))))
 
--- the refusal of a post, or 0
+-- rules 8.4, 8.5: what a post is refused for, or 0
 unfoldable pub postRefusal : Board → State → List ℕ → Request → ℕ
 postRefusal b st buffer q = postRefusalBy b st (length buffer) (q .master) (transferOf q) (length (q .words))
 
--- what `post` answers: "the state stay[s] unchanged" on a refusal
+-- rules 3.3, 8.1: what `post` answers, and the state that it leaves
 unfoldable pub post : Board → State → List ℕ → Request → Posted
 post b st buffer q = record {
   number = postRefusal b st buffer q;
   state = cond (eqb (postRefusal b st buffer q) 0) (withTransfer st (q .master) (transferOf q)) st;
 }
 
--- the lent buffer after a post
+-- rules 3.2, 8.1: the lent buffer after a post
 unfoldable pub bufferAfterPost : Board → State → List ℕ → Request → List ℕ
 bufferAfterPost b st buffer q =
     cond (eqb (postRefusal b st buffer q) 0) (postedWords (q .master) (q .words) buffer) buffer
 
--- the refusal of a clock, or 0. 8: "memory or buffer not of its exact length"
+-- rules 7.8, 7.9, 8.4, 8.5: what a clock is refused for, or 0
 unfoldable pub clockRefusal : Board → State → Store → ℕ
 clockRefusal b st d =
     cond (not (eqb (boardRefusal b) 0)) (boardRefusal b)
@@ -69,29 +69,29 @@ clockRefusal b st d =
     (cond (not (sound b st)) 9
     0))
 
--- what `clock` answers
+-- rules 4.13, 8.1: what `clock` answers, and the state that it leaves
 unfoldable pub clock : Board → State → Store → Clocked
 clock b st d =
     cond (eqb (clockRefusal b st d) 0)
     (clockedOf b st)
     (refusedClock (clockRefusal b st d) st)
 
--- the lent memory and buffer after a clock
+-- rules 4.8, 4.11, 8.1: the lent memory and buffer after a clock
 unfoldable pub storeAfterClock : Board → State → Store → Store
 storeAfterClock b st d = cond (eqb (clockRefusal b st d) 0) (storeAfter b st d) d
 
--- "state, memory and buffer as the call before left them"
+-- rule 6.1: state, memory and buffer, as a call is handed them
 pub record World : Type 0 where
   pub state : State
   pub store : Store
 
--- what a post leaves
+-- rule 6.1: what a post leaves
 unfoldable pub afterPost : Board → World → Request → World
 afterPost b w q = record {
   state = post b (w .state) (w .store .buffer) q .state;
   store = record { memory = w .store .memory; buffer = bufferAfterPost b (w .state) (w .store .buffer) q };
 }
 
--- what a clock leaves
+-- rule 6.1: what a clock leaves
 unfoldable pub afterClock : Board → World → World
 afterClock b w = record { state = clock b (w .state) (w .store) .state; store = storeAfterClock b (w .state) (w .store) }

@@ -1,5 +1,5 @@
--- The calls on lent arrays: what each answers and leaves, by the definitions of the calls on what the arrays say. A refusal
--- leaves every number of the state as it was.
+-- The calls on lent arrays: what each answers and leaves, by the definitions of the calls on what the arrays say (rule 2.4).
+-- A refusal leaves every number of the state as it was (rule 8.1).
 -- Assumes nothing.
 use mathlib.Core.Path.{_≡_}
 use mathlib.Core.List.{List}
@@ -14,26 +14,27 @@ use Rattle.fabric.specs.Running.{run}
 use Rattle.fabric.specs.declared.Answer.{Answer}
 use Rattle.fabric.specs.declared.Ran.{Ran}
 
--- a reset: its number, and the state's numbers before and after
+-- rules 4.2, 8.1: a reset: its number, and the state's numbers before and after
 pub record Resets (b : Board) (before after : List ℕ) (number : ℕ) : Type 0 where
   pub answer : number ≡ reset b .number
   pub state : number ≡ 0 → stateIn after ≡ reset b .state
   pub kept : number ≢ 0 → after ≡ before
 
--- a post: its number, the state's numbers and the buffer before and after
+-- rules 3.2, 3.3, 8.1: a post: its number, the state's numbers and the buffer before and after
 pub record Posts (b : Board) (q : Request) (before after buffer left : List ℕ) (number : ℕ) : Type 0 where
   pub answer : record { number = number; state = stateIn after } ≡ post b (stateIn before) buffer q
   pub stored : left ≡ bufferAfterPost b (stateIn before) buffer q
   pub kept : number ≢ 0 → after ≡ before
 
--- a clock: its answer, the state's numbers before and after, the lines, the lent bytes d and what it leaves of them
+-- rules 4.13, 8.1: a clock: its answer, the state's numbers before and after, the lines, the lent bytes d and what is left of
+-- them
 pub record Clocks (b : Board) (before after lines : List ℕ) (d left : Store) (a : Answer) : Type 0 where
   pub answer : record { number = a .number; state = stateIn after; mask = a .mask; lines = linesIn lines }
       ≡ clock b (stateIn before) d
   pub stored : left ≡ storeAfterClock b (stateIn before) d
   pub kept : a .number ≢ 0 → after ≡ before
 
--- a run of at most so many clocks, likewise
+-- rules 4.15, 8.1: a run of at most so many clocks, likewise
 pub record Runs (b : Board) (most : ℕ) (before after lines : List ℕ) (d left : Store) (a : Ran) : Type 0 where
   pub answer : record {
     number = a .number;

@@ -1,4 +1,4 @@
--- What a run answers and leaves: clocks, one after another, until a master finishes or so many have passed.
+-- What a run of clocks answers and leaves (rule 4.15).
 -- Assumes nothing.
 use mathlib.Core.Bool.{cond}
 use mathlib.Core.List.{List}
@@ -10,7 +10,8 @@ use Rattle.fabric_state.specs.declared.Line.{Line}
 use Rattle.fabric_state.specs.Records.{noLine}
 use Rattle.fabric.specs.Calls.{World, clockRefusal, clock, afterClock}
 
--- how far a run has come: the number answered, the clocks passed, the last one's mask and lines, and what stands behind it
+-- rule 4.15: how far a run of clocks has come: the number answered, the clocks passed, the last one's mask and lines, and what
+-- stands behind it
 pub record Run : Type 0 where
   pub number : ℕ
   pub clocks : ℕ
@@ -18,22 +19,22 @@ pub record Run : Type 0 where
   pub lines : List Line
   pub world : World
 
--- before the first clock, and the whole of a run that is refused: no mask and no lines
+-- before the first clock, and the whole of a run of clocks that is refused (rule 8.1): no mask, and lines of zeros
 abbrev pub standing : ℕ → World → Run
 standing n w = record { number = n; clocks = 0; mask = 0; lines = replicate 16 noLine; world = w }
 
--- one clock more
+-- rule 4.15: one clock more
 unfoldable pub clockMore : Board → Run → Run
 clockMore b r =
     let a = clock b (r .world .state) (r .world .store) in
     record { number = a .number; clocks = r .clocks + 1; mask = a .mask; lines = a .lines; world = afterClock b (r .world) }
 
--- at most n clocks more, none behind one that finishes a master
+-- rule 4.15: at most n clocks more, none behind one that finishes a master
 unfoldable pub clockOn : Board → ℕ → Run → Run
 clockOn b zero r = r
 clockOn b (suc n) r = cond (eqb (r .mask) 0) (clockOn b n (clockMore b r)) r
 
--- what `run` answers and leaves: it is refused for what a clock is refused for, with no clock passed
+-- rules 4.15, 8.1: what `run` answers and leaves: it is refused for what a clock is refused for, with no clock passed
 unfoldable pub run : Board → World → ℕ → Run
 run b w most =
     let n = clockRefusal b (w .state) (w .store) in cond (eqb n 0) (clockOn b most (standing 0 w)) (standing n w)

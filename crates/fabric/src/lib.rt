@@ -1,4 +1,4 @@
-// The public calls on a board's fabric: reset, post, clock and run, on lent arrays of numbers.
+// The public calls on a board's fabric: reset, post, clock and a run of clocks, on lent arrays of numbers.
 use common_numbers::BAD_LENGTH;
 use common_numbers::BAD_STATE;
 use common_numbers::BAD_WORDS;
@@ -26,7 +26,7 @@ ghost use Rattle.fabric.specs.Calls.{requestRefusal, postRefusalBy};
 ghost use Rattle.fabric.specs.Code.Requests.{request, clockRefusalBy};
 ghost use Rattle.fabric.specs.Lent.{Resets, Posts, Clocks, Runs};
 
-// What the definitions of reset and post answer. The calls are lent the state, and answer the number alone.
+// What the definitions of reset and post answer. The calls are lent the state, and answer the number alone (rules 3.3, 4.2).
 pub struct Started {
     pub number: u32,
     pub state: State,
@@ -37,20 +37,22 @@ pub struct Posted {
     pub state: State,
 }
 
-// The answer of clock beside its lines: a refusal's number and 0, or 0 and the mask of masters finished.
+// The answer of clock beside its lines (rules 4.13, 8.1): a refusal's number and 0, or 0 and the mask of masters finished.
 pub struct Answer {
     pub number: u32,
     pub mask: u32,
 }
 
-// The answer of run beside its lines: a refusal's number and zeros, or 0, the clocks passed and the last one's mask.
+// The answer of a run of clocks beside its lines (rules 4.15, 8.1): a refusal's number and zeros, or 0, the clocks passed and the
+// last one's mask.
 pub struct Ran {
     pub number: u32,
     pub clocks: u32,
     pub mask: u32,
 }
 
-// Reset: the board's own state, every slave last owned by the highest master.
+// Reset (rule 4.2): no transfer is held, every slave's last owner is the highest master. The board alone is judged (rule 8.5); a
+// refusal leaves the state (rule 8.1).
 pub fn reset(board: &[u32; BOARD_NUMBERS], state: &mut [u32; STATE_NUMBERS]) -> u32
     ensures { λ r. ⌜ Resets (boardIn (now (board .entry))) (now (state .entry)) (now (state .exit)) r ⌝ }
 {
@@ -64,7 +66,7 @@ pub fn reset(board: &[u32; BOARD_NUMBERS], state: &mut [u32; STATE_NUMBERS]) -> 
     0
 }
 
-// The bytes that a post hands in with a transfer: none for a read. In 64 bits no product of two numbers wraps.
+// The bytes that a post hands in with a transfer (rule 7.18): none for a read. In 64 bits no product of two numbers wraps.
 fn words_length(ma: Master, t: Transfer) -> u64
     ensures { λ r. ⌜ r ≡ cond (t .write) (t .beats * ma .width) 0 ⌝ }
 {
@@ -74,7 +76,8 @@ fn words_length(ma: Master, t: Transfer) -> u64
     0
 }
 
-// What the transfer t of master m, with `length` bytes of words, is refused for, or 0: whoever holds what.
+// What the transfer t of master m, with `length` bytes of words, is refused for, or 0 (rules 7.13 to 7.18): whether m holds
+// another is not asked.
 fn request_refusal(board: &[u32; BOARD_NUMBERS], m: usize, t: Transfer, length: usize) -> u32
     requires { ⌜ (boardRefusal (boardIn (now board)) ≡ 0) × (m < boardIn (now board) .«master_count») ⌝ }
     ensures { λ r. ⌜ r ≡ requestRefusal (boardIn (now (board .entry))) m t length ⌝ }
@@ -90,7 +93,8 @@ fn request_refusal(board: &[u32; BOARD_NUMBERS], m: usize, t: Transfer, length: 
     0
 }
 
-// What a post is refused for, or 0: of the transfer t by master m, with a buffer of `room` bytes and `length` bytes of words.
+// What a post is refused for, or 0 (rules 7.8, 7.9, 7.11 to 7.18, 8.4, 8.5): of the transfer t by master m, with a buffer of
+// `room` bytes and `length` bytes of words.
 fn post_refusal_by(
     board: &[u32; BOARD_NUMBERS],
     state: &[u32; STATE_NUMBERS],
@@ -122,7 +126,8 @@ fn post_refusal_by(
     request_refusal(board, m as usize, t, length)
 }
 
-// Post: a master hands in one transfer. A write's words are copied to the front of the master's part of the buffer.
+// Post: master `master` is to hold one transfer (rules 3.1 to 3.3). The words of a write are copied to the front of its part of
+// the buffer. What is refused is judged in rising order (rule 8.4), and leaves state and buffer (rule 8.1).
 pub fn post(
     board: &[u32; BOARD_NUMBERS],
     state: &mut [u32; STATE_NUMBERS],
@@ -154,7 +159,7 @@ pub fn post(
     0
 }
 
-// What a clock is refused for, or 0: by the board's number, whether the state breaks no rule, and the bytes lent.
+// What a clock is refused for, or 0 (rules 7.8, 7.9, 8.4, 8.5): by the board's number, the state's check and the bytes lent.
 fn clock_refusal_by(
     board: &[u32; BOARD_NUMBERS],
     number: u32,
@@ -179,7 +184,8 @@ fn clock_refusal_by(
     if sound { TAKEN } else { BAD_STATE }
 }
 
-// Clock: one cycle of the whole fabric. What is refused is checked in rising order; where nothing is, each slave acts.
+// One clock (rules 4.1, 4.3 to 4.14). What is refused is judged in rising order (rule 8.4), and leaves state, memory and buffer
+// (rule 8.1); where nothing is, each slave acts.
 pub fn clock(
     board: &[u32; BOARD_NUMBERS],
     state: &mut [u32; STATE_NUMBERS],
@@ -216,6 +222,7 @@ pub fn clock(
     }
 }
 
+// The answer of a run of clocks (rule 4.15).
 fn run_answer(n: u32, passed: u32, finished: u32) -> Ran
     ensures { λ r. ⌜ r ≡ record { number = n; clocks = passed; mask = finished } ⌝ }
 {
@@ -226,8 +233,9 @@ fn run_answer(n: u32, passed: u32, finished: u32) -> Ran
     }
 }
 
-// Run: clocks until a master finishes or `most` of them have passed. Board and state are checked once: a clock leaves a state
-// that breaks no rule, and as long as no master finishes every transfer is for the slave that it was for.
+// A run of clocks (rule 4.15), until a master finishes or `most` of them have passed; refused as a clock is. Board and state are
+// checked once: a clock leaves a state that breaks no rule, and as long as no master finishes every transfer is for the slave
+// that it was for.
 pub fn run(
     board: &[u32; BOARD_NUMBERS],
     state: &mut [u32; STATE_NUMBERS],

@@ -1,6 +1,6 @@
--- The accesses of one transfer at one slave: how many, which bytes, where. The definitions are total: a quotient by 0 is 0, a
--- remainder by 0 the number itself, and a difference stops at 0. On a legal board no width is 0, and the address of a transfer
--- that is not refused is not below the base.
+-- The accesses of one transfer at one slave: how many, which bytes, where (rules 4.8, 4.10, 4.13, 4.14, 5.4).
+-- The definitions are total: a quotient by 0 is 0, a remainder by 0 the number itself, and a difference stops at 0. On a legal
+-- board no width is 0, and the address of a transfer that is not refused is not below the base.
 -- Assumes nothing.
 use mathlib.Core.Bool.{Bool, cond}
 use Prim.Native.Nat.{ℕ, _+_, _-_, _*_, _/_, _%_, _^_, min}
@@ -10,46 +10,47 @@ use Rattle.description_board.specs.declared.Slave.{Slave}
 use Rattle.fabric_accesses.specs.declared.Transfer.{Transfer}
 use Rattle.fabric_lanes.specs.Lanes.{allLanes}
 
+-- rules 4.2, 4.9: no transfer, as a reset and a finish leave it
 abbrev pub noTransfer : Transfer
 noTransfer = record { held = Bool.false; write = Bool.false; address = 0; lanes = 0; beats = 0 }
 
--- "for a master r times wider than the slave, a beat is r accesses"; "For an equal or narrower master a beat is one access"
+-- rules 4.10, 5.2: r, the accesses of a beat
 unfoldable pub ratio : Master → Slave → ℕ
 ratio ma sl = cond (ltb (sl .width) (ma .width)) (ma .width / sl .width) 1
 
+-- rule 4.10: the accesses of a transfer
 unfoldable pub accesses : Master → Slave → Transfer → ℕ
 accesses ma sl t = t .beats * ratio ma sl
 
--- the bytes of one access: a slave word of a wider master's beat, or the whole beat of an equal or narrower one
+-- rule 4.10: the bytes of one access: a slave word of a wider master's beat, or the whole beat of any other
 unfoldable pub accessBytes : Master → Slave → ℕ
 accessBytes ma sl = min (ma .width) (sl .width)
 
--- "lowest address first": the number, within the transfer, of the first byte of access a
+-- rule 4.10: the number, within the transfer, of the first byte of access a; accesses go from the lowest address up
 unfoldable pub firstByte : Master → Slave → ℕ → ℕ
 firstByte ma sl a = a * accessBytes ma sl
 
--- where access a begins within the slave
+-- rule 4.10: where access a begins within the slave
 unfoldable pub accessOffset : Master → Slave → Transfer → ℕ → ℕ
 accessOffset ma sl t a = t .address - sl .base + firstByte ma sl a
 
--- "byte offset of the access within the slave, rounded down to the slave's width"
+-- rule 4.13: where the slave word of access a begins within the slave
 unfoldable pub wordOffset : Master → Slave → Transfer → ℕ → ℕ
 wordOffset ma sl t a = accessOffset ma sl t a / sl .width * sl .width
 
--- the lanes of the master's word that access a moves, on the slave's lanes: "the part of the slave word at its address"
+-- rules 2.3, 4.10, 4.14: the lanes of the master's word that access a moves, on the slave's lanes
 unfoldable pub writeLanes : Master → Slave → Transfer → ℕ → ℕ
 writeLanes ma sl t a =
     t .lanes / 2 ^ (firstByte ma sl a % ma .width) % 2 ^ accessBytes ma sl * 2 ^ (accessOffset ma sl t a % sl .width)
 
--- "The lanes of a read access are all ones over the slave's width, also for a narrower master; those of a write are the
--- lanes it writes."
+-- rule 4.14: the lanes that a clock's line shows of access a
 unfoldable pub slaveLanes : Master → Slave → Transfer → ℕ → ℕ
 slaveLanes ma sl t a = cond (t .write) (writeLanes ma sl t a) (allLanes (sl .width))
 
--- the wait of a transfer's direction
+-- rule 4.8: the slave's wait for the transfer's direction
 unfoldable pub waitOf : Slave → Transfer → ℕ
 waitOf sl t = cond (t .write) (sl .«write_wait») (sl .«read_wait»)
 
--- "A transfer's own length is its accesses × (1 + the wait of its direction)."
+-- rule 5.4: the own length of a transfer
 unfoldable pub ownLength : Master → Slave → Transfer → ℕ
 ownLength ma sl t = accesses ma sl t * (1 + waitOf sl t)

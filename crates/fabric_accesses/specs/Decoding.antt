@@ -1,4 +1,4 @@
--- Address decoding.
+-- Address decoding (rule 3.6).
 -- Assumes nothing.
 use mathlib.Core.Bool.{Bool, _&&_}
 use Prim.Native.Nat.{ℕ, _/_}
@@ -8,15 +8,15 @@ use Rattle.description_board.specs.declared.Board.{Board}
 use Rattle.description_board.specs.Records.{slaveAt, connected}
 use Rattle.common_laws.specs.Lists.{first}
 
--- "the address agrees with its base in all bits above the span (of weight span and higher)". A quotient by 0 is 0, so that
--- every address agrees with a span of 0, which no legal board has.
+-- rule 3.6: address and base have the same bits of weight span and above. A quotient by 0 is 0, so that every address agrees with
+-- a span of 0, which no legal board has.
 unfoldable pub agrees : Slave → ℕ → Bool
 agrees sl address = eqb (address / sl .span) (sl .base / sl .span)
 
--- "A slave is selected when the address agrees with its base .. and the master is connected to it."
+-- rule 3.6: the address selects slave s for master m
 unfoldable pub selects : Board → ℕ → ℕ → ℕ → Bool
 selects b m address s = connected b m s && agrees (slaveAt b s) address
 
--- the slave that the address selects for master m, or the count of slaves where there is none
+-- rule 3.6: the slave that a transfer of master m to the address is for, or the count of slaves where there is none
 unfoldable pub targetOf : Board → ℕ → ℕ → ℕ
 targetOf b m address = first (selects b m address) (b .«slave_count»)

@@ -1,5 +1,5 @@
--- Slave bursts: the runs that a transfer's accesses are cut into. With a burst of 0, which no legal board has, access a is at
--- place a of a run of 0: a remainder by 0 is the number itself.
+-- The runs that a transfer's accesses are cut into (rule 4.12).
+-- With a burst of 0, which no legal board has, access a has place a in a run of 0: a remainder by 0 is the number itself.
 -- Assumes nothing.
 use mathlib.Core.Bool.{cond}
 use Prim.Native.Nat.{ℕ, _-_, _*_, _/_, _%_, min}
@@ -9,15 +9,14 @@ use Rattle.description_board.specs.declared.Slave.{Slave}
 use Rattle.fabric_accesses.specs.declared.Transfer.{Transfer}
 use Rattle.fabric_accesses.specs.Accesses.{accesses}
 
--- "accesses of an equal or wider master are cut into runs of the slave's burst length"; "Of a narrower master every access
--- is a run of 1."
+-- rule 4.12: how long a run is at the most
 unfoldable pub runLimit : Master → Slave → ℕ
 runLimit ma sl = cond (ltb (ma .width) (sl .width)) 1 (sl .burst)
 
--- "place in the run from 0" of access a
+-- rule 4.13: the place of access a in its run
 unfoldable pub placeOf : Master → Slave → ℕ → ℕ
 placeOf ma sl a = a % runLimit ma sl
 
--- the run length at access a: "the last run shorter"
+-- rules 4.12, 4.13: the length of the run that access a is in; the last run has what is left
 unfoldable pub runOf : Master → Slave → Transfer → ℕ → ℕ
 runOf ma sl t a = min (runLimit ma sl) (accesses ma sl t - a / runLimit ma sl * runLimit ma sl)

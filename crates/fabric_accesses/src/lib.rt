@@ -1,5 +1,5 @@
-// One pair of master and slave: accesses, lanes, runs; address decoding. Widths, bursts and spans are powers of two, so that
-// shifts and masks take the place of divisions.
+// One pair of master and slave: accesses, lanes, runs; address decoding (rules 3.6, 4.10 to 4.14).
+// Widths, bursts and spans are powers of two (rule 1.6), so that shifts and masks do what divisions would.
 use description_board::Master;
 use description_board::Slave;
 ghost use mathlib.Core.Path.{_≡_};
@@ -15,8 +15,8 @@ ghost use Rattle.fabric_accesses.specs.Code.Pairs.{InWord};
 ghost use Rattle.fabric_accesses.specs.Runs.{runLimit, placeOf, runOf};
 ghost use Rattle.fabric_accesses.specs.Code.Pairs.{Widths, LegalPair};
 
-// What a master posted. Where `held` is false the master is idle and the other fields say nothing; a reset and a finish leave
-// the zero record.
+// What a master posted (rule 3.1). Where `held` is false the master holds nothing and the other fields say nothing; a reset and a
+// finish leave the zero record (rules 4.2, 4.9).
 pub struct Transfer {
     pub held: bool,
     pub write: bool,
@@ -25,7 +25,7 @@ pub struct Transfer {
     pub beats: u32,
 }
 
-// The words of this width in so many bytes.
+// The words of this width in so many bytes (rules 4.10, 5.3).
 pub fn quotient(bytes: u32, width: u32) -> u32
     requires { ⌜ member width widths ≡ true ⌝ }
     ensures { λ r. ⌜ r ≡ bytes / width ⌝ }
@@ -48,7 +48,7 @@ fn difference(a: u64, b: u64) -> u64
     if a < b { 0 } else { a - b }
 }
 
-// The bits of a number above a span, which is a power of two: those below it are masked out.
+// The bits of a number of weight span and above (rule 3.6): a span is a power of two, and the bits below it are masked out.
 fn above_span(n: u32, span: u32) -> u32
     requires { ⌜ Span span ⌝ }
     ensures { λ r. ⌜ r ≡ n / span * span ⌝ }
@@ -56,7 +56,7 @@ fn above_span(n: u32, span: u32) -> u32
     n - (n & (span - 1))
 }
 
-// Whether an address agrees with the slave's base above the span.
+// Whether an address has the same bits of weight span and above as the slave's base (rule 3.6).
 pub fn agrees(sl: Slave, address: u32) -> bool
     requires { ⌜ Span (sl .span) ⌝ }
     ensures { λ r. ⌜ r ≡ agrees sl address ⌝ }
@@ -64,7 +64,7 @@ pub fn agrees(sl: Slave, address: u32) -> bool
     above_span(address, sl.span) == above_span(sl.base, sl.span)
 }
 
-// The bytes of one access.
+// The bytes of one access (rule 4.10).
 pub fn access_bytes(ma: Master, sl: Slave) -> u32
     ensures { λ r. ⌜ r ≡ accessBytes ma sl ⌝ }
 {
@@ -75,7 +75,7 @@ pub fn access_bytes(ma: Master, sl: Slave) -> u32
     }
 }
 
-// The accesses of one beat.
+// r, the accesses of one beat (rules 4.10, 5.2).
 pub fn ratio(ma: Master, sl: Slave) -> u32
     requires { ⌜ Widths ma sl ⌝ }
     ensures { λ r. ⌜ r ≡ ratio ma sl ⌝ }
@@ -84,7 +84,7 @@ pub fn ratio(ma: Master, sl: Slave) -> u32
     quotient(ma.width, bytes)
 }
 
-// The accesses of a transfer.
+// The accesses of a transfer (rule 4.10).
 pub fn accesses(ma: Master, sl: Slave, t: Transfer) -> u64
     requires { ⌜ Widths ma sl ⌝ }
     ensures { λ r. ⌜ r ≡ accesses ma sl t ⌝ }
@@ -93,7 +93,7 @@ pub fn accesses(ma: Master, sl: Slave, t: Transfer) -> u64
     (t.beats as u64) * (each as u64)
 }
 
-// Where the bytes of access a begin among those of the transfer.
+// Where the bytes of access a begin among those of the transfer (rule 4.10).
 pub fn first_byte(ma: Master, sl: Slave, a: u32) -> u64
     ensures { λ r. ⌜ r ≡ firstByte ma sl a ⌝ }
 {
@@ -101,7 +101,7 @@ pub fn first_byte(ma: Master, sl: Slave, a: u32) -> u64
     (a as u64) * (bytes as u64)
 }
 
-// Where access a begins within the slave.
+// Where access a begins within the slave (rule 4.10).
 pub fn access_offset(ma: Master, sl: Slave, t: Transfer, a: u32) -> u64
     ensures { λ r. ⌜ r ≡ accessOffset ma sl t a ⌝ }
 {
@@ -110,7 +110,7 @@ pub fn access_offset(ma: Master, sl: Slave, t: Transfer, a: u32) -> u64
     start + moved
 }
 
-// Where the slave word of access a begins within the slave.
+// Where the slave word of access a begins within the slave (rule 4.13).
 pub fn word_offset(ma: Master, sl: Slave, t: Transfer, a: u32) -> u64
     requires { ⌜ Widths ma sl ⌝ }
     ensures { λ r. ⌜ r ≡ wordOffset ma sl t a ⌝ }
@@ -120,7 +120,7 @@ pub fn word_offset(ma: Master, sl: Slave, t: Transfer, a: u32) -> u64
     at - over
 }
 
-// The lanes of the master's word that access a writes, on the slave's lanes.
+// The lanes of the master's word that access a writes, on the slave's lanes (rules 2.3, 4.10, 4.14).
 fn write_lanes(ma: Master, sl: Slave, t: Transfer, a: u32) -> u32
     requires { ⌜ (Widths ma sl) × (InWord ma sl t a) ⌝ }
     ensures { λ r. ⌜ r ≡ writeLanes ma sl t a ⌝ }
@@ -134,7 +134,7 @@ fn write_lanes(ma: Master, sl: Slave, t: Transfer, a: u32) -> u32
     ((t.lanes >> from) & mask) << to
 }
 
-// The slave's lanes in access a: a read fetches the whole slave word.
+// The slave's lanes in access a (rule 4.14): of a read the whole slave word.
 pub fn slave_lanes(ma: Master, sl: Slave, t: Transfer, a: u32) -> u32
     requires { ⌜ (Widths ma sl) × (InWord ma sl t a) ⌝ }
     ensures { λ r. ⌜ r ≡ slaveLanes ma sl t a ⌝ }
@@ -145,14 +145,14 @@ pub fn slave_lanes(ma: Master, sl: Slave, t: Transfer, a: u32) -> u32
     fabric_lanes::all_lanes(sl.width)
 }
 
-// The wait of the transfer's direction.
+// The slave's wait for the transfer's direction (rule 4.8).
 pub fn wait_of(sl: Slave, t: Transfer) -> u32
     ensures { λ r. ⌜ r ≡ waitOf sl t ⌝ }
 {
     if t.write { sl.write_wait } else { sl.read_wait }
 }
 
-// The clocks that a transfer takes once it has its first cycle: every access has the wait.
+// The clocks that a transfer takes once it has its first cycle (rule 5.4): every access has the wait.
 pub fn own_length(ma: Master, sl: Slave, t: Transfer) -> u64
     requires { ⌜ (Widths ma sl) × (waitOf sl t ≤ 255) ⌝ }
     ensures { λ r. ⌜ r ≡ ownLength ma sl t ⌝ }
@@ -162,14 +162,14 @@ pub fn own_length(ma: Master, sl: Slave, t: Transfer) -> u64
     count * (1 + wait as u64)
 }
 
-// The most accesses of one run.
+// The most accesses of one run (rule 4.12).
 pub fn run_limit(ma: Master, sl: Slave) -> u32
     ensures { λ r. ⌜ r ≡ runLimit ma sl ⌝ }
 {
     if ma.width < sl.width { 1 } else { sl.burst }
 }
 
-// The place of access a in its run.
+// The place of access a in its run (rule 4.13).
 pub fn place_of(ma: Master, sl: Slave, a: u32) -> u32
     requires { ⌜ member (sl .burst) bursts ≡ true ⌝ }
     ensures { λ r. ⌜ r ≡ placeOf ma sl a ⌝ }
@@ -178,7 +178,7 @@ pub fn place_of(ma: Master, sl: Slave, a: u32) -> u32
     a & (limit - 1)
 }
 
-// The length of the run that access a is in: the last one has what is left.
+// The length of the run that access a is in (rules 4.12, 4.13): the last one has what is left.
 pub fn run_of(ma: Master, sl: Slave, t: Transfer, a: u32) -> u32
     requires { ⌜ LegalPair ma sl ⌝ }
     ensures { λ r. ⌜ r ≡ runOf ma sl t a ⌝ }

@@ -1,4 +1,4 @@
-// Arbitration by shares at one slave.
+// Arbitration by shares at one slave: rule 1, the grant (rules 4.3 to 4.6).
 ghost use mathlib.Core.Path.{_≡_};
 ghost use Prim.Native.Nat.{_-_};
 ghost use Rattle.common_laws.specs.Bits.{bit};
@@ -6,32 +6,33 @@ ghost use Rattle.fabric_arbiter.specs.Choosing.{nextMaster, firstRequest
 ghost use Rattle.fabric_arbiter.specs.Granting.{kept, arbiterAfter};
 ghost use Rattle.fabric_arbiter.specs.Code.Winning.{winnerOf, grantBy};
 
-// What a slave remembers of its grants: the last owner, and the grants remaining to it.
+// What a slave remembers of its grants (rule 4.1): the last owner, and the grants that remain to it.
 pub struct Arbiter {
     pub owner: u32,
     pub remaining: u32,
 }
 
-// The first requester, or that none requests.
+// The first requester, or that none requests (rules 4.3, 4.5).
 pub enum Choice {
     Requester(u32),
     Nobody,
 }
 
-// Who is granted, before shares and beats are read: the last owner by a grant remaining to it, another by its shares, nobody.
+// Who is granted, before shares and beats are read: the last owner by a grant that remains to it (rule 4.4), the first requester
+// by its shares (rule 4.5), nobody (rule 4.3).
 pub enum Winner {
     Again,
     First(u32),
     NoOne,
 }
 
-// The master granted with the grants that then remain to it, or no grant.
+// The master granted with the grants that then remain to it, or no grant (rules 4.3 to 4.6).
 pub enum Grant {
     Granted(u32, u32),
     Silent,
 }
 
-// Whether bit m of the mask of requests is 1.
+// Whether bit m of the mask of requests is 1 (rule 4.3).
 fn is_requesting(requests: u32, m: u32) -> bool
     ensures { λ r. ⌜ r ≡ bit requests m ⌝ }
 {
@@ -41,7 +42,7 @@ fn is_requesting(requests: u32, m: u32) -> bool
     (requests >> m) % 2 == 1
 }
 
-// The master nextMaster m, round past the highest of n.
+// The master that is tried behind m, of n: the next above it, or 0 (rule 4.5).
 fn next_master(n: u32, m: u32) -> u32
     ensures { λ r. ⌜ r ≡ nextMaster n m ⌝ }
 {
@@ -52,7 +53,7 @@ fn next_master(n: u32, m: u32) -> u32
     if up < n { up } else { 0 }
 }
 
-// Masters are tried upward from the last owner, round past the highest, the last owner last.
+// The first requester (rule 4.5): masters above the last owner first, then from 0, the owner at the end.
 fn first_requester(requests: u32, n: u32, owner: u32) -> Choice
     ensures { λ r. ⌜ r ≡ firstRequester (bit requests) n owner ⌝ }
 {
@@ -71,7 +72,8 @@ fn first_requester(requests: u32, n: u32, owner: u32) -> Choice
     first
 }
 
-// Who is granted a slave that is not serving. Most slaves of a large board are idle: an empty mask is not searched.
+// Who is granted a slave that does not serve (rules 4.3 to 4.5). Most slaves of a large board are idle: no empty mask is
+// searched.
 pub fn winner_of(n: u32, requests: u32, a: Arbiter) -> Winner
     ensures { λ r. ⌜ r ≡ winnerOf n (bit requests) a ⌝ }
 {
@@ -90,21 +92,21 @@ pub fn winner_of(n: u32, requests: u32, a: Arbiter) -> Winner
     }
 }
 
-// A granted burst of two or more beats leaves no grants.
+// With two or more beats no grant remains (rule 4.6).
 fn kept(beats: u32, remaining: u32) -> u32
     ensures { λ r. ⌜ r ≡ kept beats remaining ⌝ }
 {
     if 1 < beats { 0 } else { remaining }
 }
 
-// One less, from 1 on.
+// One less, and 0 of 0.
 fn less_one(n: u32) -> u32
     ensures { λ r. ⌜ r ≡ n - 1 ⌝ }
 {
     if n == 0 { 0 } else { n - 1 }
 }
 
-// The grant of the winnerOf, by its shares at this slave and the beats of its transfer.
+// The winner's grant, by its shares at this slave and the beats of its transfer (rules 4.4 to 4.6).
 fn grant_by(a: Arbiter, w: Winner, shares: u32, beats: u32) -> Grant
     ensures { λ r. ⌜ r ≡ grantBy a w shares beats ⌝ }
 {
@@ -115,7 +117,7 @@ fn grant_by(a: Arbiter, w: Winner, shares: u32, beats: u32) -> Grant
     }
 }
 
-// The slave's record after the grant; with none, no grants remain.
+// The slave's arbiter after the grant (rule 4.6); with none, no grant remains (rule 4.3).
 fn arbiter_after(a: Arbiter, g: Grant) -> Arbiter
     ensures { λ r. ⌜ r ≡ arbiterAfter a g ⌝ }
 {
@@ -131,8 +133,7 @@ fn arbiter_after(a: Arbiter, g: Grant) -> Arbiter
     }
 }
 
-// Rule 1 on the slave's own record: "One clock changes a slave's last owner and remaining grants by these rules."
-// The record is lent; the record after the winner's grant is stored in the place of the old one.
+// Rule 1 on the slave's own arbiter (rules 4.3 to 4.6): it is lent, and the arbiter after the winner's grant is stored in it.
 pub fn arbitrate_record(a: &mut Arbiter, w: Winner, shares: u32, beats: u32) -> Grant
     ensures answer { λ r. ⌜ r ≡ grantBy (now (a .entry)) w shares beats ⌝ }
     ensures record { λ _. ⌜ now (a .exit) ≡ arbiterAfter (now (a .entry)) (grantBy (now (a .entry)) w shares beats) ⌝ }

@@ -1,4 +1,4 @@
--- Memory and words: the bytes that a post and an access move.
+-- Memory and buffer: the bytes that a post and an access move (rules 2.1 to 2.3, 3.2, 4.11).
 -- Assumes nothing.
 use mathlib.Core.Bool.{Bool, cond}
 use mathlib.Core.List.{List}
@@ -11,32 +11,32 @@ use Rattle.fabric_accesses.specs.declared.Transfer.{Transfer}
 use Rattle.fabric_accesses.specs.Accesses.{accessBytes, firstByte}
 use Rattle.fabric_bytes.specs.Moving.{all, move}
 
--- the lent memory and the lent buffer
+-- rules 2.1, 2.2: the lent memory and the lent buffer
 pub record Store : Type 0 where
   pub memory : List ℕ
   pub buffer : List ℕ
 
--- "The buffer has exactly 4,096 bytes"
+-- rule 2.2: the bytes of the buffer
 abbrev pub bufferLength : ℕ
 bufferLength = 4096
 
--- "each master's words live in its own 512 bytes of it, master i from 512 × i"
+-- rule 2.2: where the part of master m begins in the buffer
 abbrev pub partOf : ℕ → ℕ
 partOf m = 512 * m
 
--- "the words, which post copies to the front of the master's part"
+-- rule 3.2: the buffer with the words of a post at the front of the part of master m
 unfoldable pub postedWords : ℕ → List ℕ → List ℕ → List ℕ
 postedWords m words buffer = move all words 0 (partOf m) 0 (length words) buffer
 
--- "lanes (bit k for byte k)": byte i of the transfer t is enabled by lane i modulo the master's width
+-- rules 2.3, 3.1: byte i of the transfer t is enabled by lane i modulo the master's width
 unfoldable pub enabled : Master → Transfer → ℕ → Bool
 enabled ma t i = bit (t .lanes) (i % ma .width)
 
--- where the transfer's first byte lies in memory, for a slave whose span starts at `start`
+-- rules 2.1, 6.8: the index in the memory of the transfer's first byte, for a slave whose span starts at `start`
 unfoldable pub memoryIndex : Slave → Transfer → ℕ → ℕ
 memoryIndex sl t start = start + (t .address - sl .base)
 
--- access a of a write: "Only enabled lanes are written."
+-- rule 4.11: access a of a write
 unfoldable pub written : Master → Slave → Transfer → ℕ → ℕ → ℕ → Store → Store
 written ma sl t m start a d = record {
   memory =
@@ -44,13 +44,13 @@ written ma sl t m start a d = record {
   buffer = d .buffer;
 }
 
--- access a of a read: "A read's accesses put their bytes there too, beat k from k × master width."
+-- rules 3.2, 3.5: access a of a read, with all its bytes
 unfoldable pub fetched : Master → Slave → Transfer → ℕ → ℕ → ℕ → Store → Store
 fetched ma sl t m start a d = record {
   memory = d .memory;
   buffer = move all (d .memory) (memoryIndex sl t start) (partOf m) (firstByte ma sl a) (accessBytes ma sl) (d .buffer);
 }
 
--- access a of the transfer t that master number m holds
+-- rule 4.8: access a, carried out, of the transfer t that master number m holds
 unfoldable pub carriedAccess : Master → Slave → Transfer → ℕ → ℕ → ℕ → Store → Store
 carriedAccess ma sl t m start a d = cond (t .write) (written ma sl t m start a d) (fetched ma sl t m start a d)

@@ -1,4 +1,4 @@
--- Bytes moved from one list to another.
+-- Bytes moved from one list to another (rules 3.2, 4.11, 6.8).
 -- Assumes nothing.
 use mathlib.Core.Bool.{Bool, true, cond}
 use mathlib.Core.List.{List}
@@ -9,8 +9,8 @@ use lib.ListN.{getD, set}
 abbrev pub all : ℕ → Bool
 all t = true
 
--- bytes first .. first + n − 1 of a transfer: byte t goes from place from + t of source to place at + t of target, where it
--- is enabled. A place past the source gives 0, and one past the target takes nothing: `set` changes no list there.
+-- bytes first .. first + n − 1 of a transfer: byte t goes from index from + t of source to index at + t of target, where it is
+-- enabled. An index past the source gives 0, and one past the target takes nothing: `set` changes no list there.
 unfoldable pub move : (ℕ → Bool) → List ℕ → ℕ → ℕ → ℕ → ℕ → List ℕ → List ℕ
 move enabled source from at first zero target = target
 move enabled source from at first (suc n) target =

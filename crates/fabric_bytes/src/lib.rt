@@ -1,5 +1,5 @@
-// Bytes of a post and of an access. Each master's words live in its own 512 bytes of the buffer: the functions that move bytes
-// are lent that part alone.
+// The bytes of a post and of an access (rules 3.2, 4.11).
+// The functions that move bytes are lent their master's part of the buffer alone (rule 2.2).
 use common_numbers::PART_BYTES;
 use description_board::Master;
 use description_board::Slave;
@@ -15,7 +15,7 @@ ghost use Rattle.fabric_bytes.specs.Moving.{all, move};
 ghost use Rattle.fabric_bytes.specs.Bytes.{bufferLength, partOf, postedWords, carriedAccess};
 ghost use Rattle.fabric_bytes.specs.Code.Reaching.{Reached};
 
-// The words of a post, to the front of the part.
+// The words of a post, to the front of the part (rule 3.2).
 fn take_words(part: &mut [u8], words: &[u8])
     requires { ⌜ length (now words) ≤ length (now part) ⌝ }
     ensures { λ r. ⌜ now (part .exit) ≡ move all (now (words .entry)) 0 0 0 (length (now (words .entry))) (now (part .entry)) ⌝ }
@@ -28,7 +28,7 @@ fn take_words(part: &mut [u8], words: &[u8])
     }
 }
 
-// The words of a post, to the part of master m.
+// The words of a post, to the part of master m (rules 2.2, 3.2).
 pub fn post_words(buffer: &mut [u8], m: usize, words: &[u8])
     requires { ⌜ (length (now buffer) ≡ bufferLength) × (m < 8) × (length (now words) ≤ 512) ⌝ }
     ensures { λ r. ⌜ now (buffer .exit) ≡ postedWords m (now (words .entry)) (now (buffer .entry)) ⌝ }
@@ -38,7 +38,7 @@ pub fn post_words(buffer: &mut [u8], m: usize, words: &[u8])
     take_words(&mut buffer[start..end], words);
 }
 
-// A read access: bytes first up to first + count of the transfer, whose place in memory is `from`.
+// A read access (rule 3.2): bytes first up to first + count of the transfer, whose byte 0 has index `from` in the memory.
 fn store_words(memory: &[u8], from: usize, part: &mut [u8], first: usize, count: usize)
     requires { ⌜ (from + (first + count) ≤ length (now memory)) × (first + count ≤ length (now part)) ⌝ }
     ensures { λ r. ⌜ now (part .exit) ≡ move all (now (memory .entry)) from 0 first count (now (part .entry)) ⌝ }
@@ -51,7 +51,7 @@ fn store_words(memory: &[u8], from: usize, part: &mut [u8], first: usize, count:
     }
 }
 
-// A read access of master m.
+// A read access of master m (rules 2.2, 3.2, 3.5).
 fn read_access(memory: &[u8], from: usize, buffer: &mut [u8], m: usize, first: usize, count: usize)
     requires { ⌜ (length (now buffer) ≡ bufferLength) × (m < 8) × (first + count ≤ 512)
         × (from + (first + count) ≤ length (now memory)) ⌝ }
@@ -62,7 +62,7 @@ fn read_access(memory: &[u8], from: usize, buffer: &mut [u8], m: usize, first: u
     store_words(memory, from, &mut buffer[start..end], first, count);
 }
 
-// Whether lane k is enabled.
+// Whether lane k is enabled (rule 3.1).
 fn lane_on(lanes: u32, k: usize) -> bool
     requires { ⌜ k < 8 ⌝ }
     ensures { λ r. ⌜ r ≡ bit lanes k ⌝ }
@@ -70,7 +70,7 @@ fn lane_on(lanes: u32, k: usize) -> bool
     (lanes >> k) % 2 == 1
 }
 
-// A write access. Its bytes lie in one word of the master, so that their lanes count on from that of the first one.
+// A write access (rule 4.11). Its bytes lie in one word of the master: their lanes count on from that of the first (rule 2.3).
 fn write_words(
     memory: &mut [u8],
     at: usize,
@@ -96,7 +96,7 @@ fn write_words(
     }
 }
 
-// A write access of master m.
+// A write access of master m (rules 2.2, 4.11).
 fn write_access(
     memory: &mut [u8],
     at: usize,
@@ -118,7 +118,7 @@ fn write_access(
     write_words(memory, at, &buffer[start..end], first, count, lanes, width);
 }
 
-// Access a of the transfer that master m holds, at a slave whose span starts at `start`.
+// Access a of the transfer that master m holds, carried out at a slave whose span starts at `start` (rules 2.1, 4.8).
 pub fn carry_access(
     ma: Master,
     sl: Slave,

@@ -1,5 +1,5 @@
-// The calls for C, as include/fabric.h declares them: each is the library's call of that name, on the same arrays. What a call
-// answers beside its number goes to numbers that C lends for it.
+// The calls for C, as include/fabric.h declares them: each is the library's call of that name, on the same arrays.
+// What a call answers beside its number goes to numbers that C lends for it.
 use common_numbers::BOARD_NUMBERS;
 use common_numbers::LINES_NUMBERS;
 use common_numbers::STATE_NUMBERS;
@@ -13,6 +13,7 @@ ghost use Rattle.wait.specs.Answers.{waitRefusal, waitOutput};
 ghost use Rattle.fabric.specs.Code.Requests.{request};
 ghost use Rattle.fabric.specs.Lent.{Resets, Posts, Clocks, Runs};
 
+// Wait and serve of a pair, on a description's bytes (rule 5.8): wait::wait_call.
 #[no_mangle]
 pub extern "C" fn fabric_wait(text: &[u8], master: u32, slave: u32, out: &mut [u8]) -> u32
     ensures answer { λ r. ⌜ r ≡ waitRefusal (now (text .entry)) master slave (now (out .entry)) ⌝ }
@@ -21,6 +22,7 @@ pub extern "C" fn fabric_wait(text: &[u8], master: u32, slave: u32, out: &mut [u
     wait::wait_call(text, master, slave, out)
 }
 
+// The board that a text describes (rules 1.10, 8.2).
 #[no_mangle]
 pub extern "C" fn fabric_read(text: &[u8], board: &mut [u32; BOARD_NUMBERS]) -> u32
     ensures { λ r. ⌜ Read (now (text .entry)) (now (board .entry)) (now (board .exit)) r ⌝ }
@@ -35,6 +37,7 @@ fn count(l: &[usize]) -> usize
     l.len()
 }
 
+// The line that a text's refusal is charged to (rule 8.3).
 #[no_mangle]
 pub extern "C" fn fabric_refused_at(text: &[u8], line: &mut [usize; 1]) -> u32
     ensures answer { λ r. ⌜ r ≡ refusedAt (now (text .entry)) .number ⌝ }
@@ -46,6 +49,7 @@ pub extern "C" fn fabric_refused_at(text: &[u8], line: &mut [usize; 1]) -> u32
     r.number
 }
 
+// A reset (rule 4.2).
 #[no_mangle]
 pub extern "C" fn fabric_reset(
     board: &[u32; BOARD_NUMBERS],
@@ -56,6 +60,7 @@ pub extern "C" fn fabric_reset(
     fabric::reset(board, state)
 }
 
+// A post (rules 3.1 to 3.3). As in a state, `write` is a mark (rule 2.4).
 #[no_mangle]
 pub extern "C" fn fabric_post(
     board: &[u32; BOARD_NUMBERS],
@@ -85,6 +90,7 @@ pub extern "C" fn fabric_post(
     )
 }
 
+// One clock (rules 4.1, 4.3 to 4.14).
 #[no_mangle]
 pub extern "C" fn fabric_clock(
     board: &[u32; BOARD_NUMBERS],
@@ -105,6 +111,7 @@ pub extern "C" fn fabric_clock(
     a.number
 }
 
+// A run of clocks (rule 4.15).
 #[no_mangle]
 pub extern "C" fn fabric_run(
     board: &[u32; BOARD_NUMBERS],

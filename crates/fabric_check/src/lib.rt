@@ -1,5 +1,5 @@
-// Whether a state breaks a rule (refusal 9), and what a call knows of a board and a state before it acts. Tests are joined by &
-// and |, not by && and ||: each part is safe by itself, and a proof meets the whole as one test.
+// Whether a state breaks a rule (rule 7.9), and what a call finds of a board and a state before it acts.
+// Tests are joined by & and |, not by && and ||: each part is safe by itself, and a proof meets the whole as one test.
 mod transfers;
 
 use common_numbers::BOARD_NUMBERS;
@@ -22,8 +22,8 @@ pub use transfers::request_masks;
 pub use transfers::transfer_refusal;
 pub use transfers::weight_of;
 
-// Whether the transfer t of master m breaks no rule; where it breaks none, the slave that it is for is left in `targets`. The
-// rules ask for that slave and so does the call that follows: an address is decoded once.
+// Whether the transfer t of master m breaks no rule (rule 7.9); where it breaks none, the slave that it is for is left in
+// `targets`. The rules ask for that slave and so does the call that follows: an address is decoded once.
 fn held_at(
     board: &[u32; BOARD_NUMBERS],
     m: usize,
@@ -49,7 +49,8 @@ fn held_at(
     true
 }
 
-// Whether no transfer breaks a rule; where none does, the slave of each is left in `targets`. One pass decodes and checks.
+// Whether no transfer breaks a rule (rule 7.9); where none does, each one's slave is left in `targets`. One pass decodes and
+// checks.
 fn sound_transfers(
     board: &[u32; BOARD_NUMBERS],
     st: &[u32; STATE_NUMBERS],
@@ -71,8 +72,8 @@ fn sound_transfers(
     true
 }
 
-// Whether a slot whose owner is a master of the board breaks no rule: of its owner's shares, whether its owner's transfer is
-// for this slave, and the two and that transfer.
+// Whether a slot whose owner is a master of the board breaks no rule (rule 7.9): of its owner's shares, whether its owner's
+// transfer is for this slave, and the two and that transfer.
 fn sound_slot_by(slot: Slot, share: u32, here: bool, ma: Master, sl: Slave, t: Transfer) -> bool
     requires { ⌜ Widths ma sl ⌝ }
     ensures { λ r. ⌜ r ≡ soundSlotBy share here ma sl t slot ⌝ }
@@ -87,7 +88,7 @@ fn sound_slot_by(slot: Slot, share: u32, here: bool, ma: Master, sl: Slave, t: T
     false
 }
 
-// Whether no slot breaks a rule. Each slot is read once.
+// Whether no slot breaks a rule (rule 7.9). Each slot is read once.
 fn sound_slots(
     board: &[u32; BOARD_NUMBERS],
     st: &[u32; STATE_NUMBERS],
@@ -119,7 +120,7 @@ fn sound_slots(
     true
 }
 
-// Whether the state breaks no rule; where it breaks none, the slave of each transfer is left in `targets`.
+// Whether the state breaks no rule (rule 7.9); where it breaks none, the slave of each transfer is left in `targets`.
 fn sound(
     board: &[u32; BOARD_NUMBERS],
     st: &[u32; STATE_NUMBERS],
@@ -135,15 +136,16 @@ fn sound(
     false
 }
 
-// What a call knows of a board and a state before it acts: the board's refusal, or 0; where it is 0, whether the state breaks
-// no rule. Where the board is refused, false.
+// What a call finds of a board and a state before it acts: the board's refusal, or 0 (rule 8.5); where it is 0, whether the state
+// breaks no rule (rule 7.9). Where the board is refused, false.
 pub struct Checked {
     pub number: u32,
     pub sound: bool,
 }
 
-// The board and the state checked once a call: the board's refusal first, then the state. Where neither is refused, the slave
-// of each master's transfer is left in `targets`: the array is the caller's, so that no copy of it is made.
+// The board and the state checked once a call: the board's refusal first (rules 8.4, 8.5), then the state (rule 7.9). Where
+// neither is refused, the slave of each master's transfer is left in `targets`: the array is the caller's, so that none is
+// copied.
 pub fn ready(
     board: &[u32; BOARD_NUMBERS],
     st: &[u32; STATE_NUMBERS],

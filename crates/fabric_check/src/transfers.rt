@@ -1,4 +1,4 @@
-// Transfers: which slave each is for, who requests a slave, and what a transfer is refused for.
+// Transfers: which slave each is for, who requests a slave, and what a transfer is refused for (rules 3.6, 4.3, 7.13 to 7.17).
 // Tests are joined by & and |, not by && and ||: each part is safe by itself, and a proof meets the whole as one test.
 use common_numbers::BAD_ADDRESS;
 use common_numbers::BAD_BEATS;
@@ -24,8 +24,8 @@ ghost use Rattle.description_layout.specs.Layout.{boardIn};
 ghost use Rattle.fabric_check.specs.Code.Targets.{requestMask};
 ghost use Rattle.fabric_check.specs.Code.Decoded.{Decodes};
 
-// The first slave that an address selects for master m, or the count of slaves. Most slaves are ruled out by their address, so
-// that shares are read only where it agrees.
+// The slave that an address selects for master m, or the count of slaves (rule 3.6). Most slaves are ruled out by their address,
+// so that shares are read only where it agrees.
 pub fn target_of(board: &[u32; BOARD_NUMBERS], m: usize, address: u32) -> u32
     requires { ⌜ Decodes (boardIn (now board)) × m < 8 ⌝ }
     ensures { λ r. ⌜ r ≡ targetOf (boardIn (now (board .entry))) m address ⌝ }
@@ -45,7 +45,7 @@ pub fn target_of(board: &[u32; BOARD_NUMBERS], m: usize, address: u32) -> u32
     count
 }
 
-// The bit of master m in a mask, where it is on.
+// The bit of master m in a mask, where it is on (rules 4.3, 4.13).
 pub fn weight_of(on: bool, m: u32) -> u32
     requires { ⌜ m < 8 ⌝ }
     ensures { λ r. ⌜ r ≡ cond on (2 ^ m) 0 ⌝ }
@@ -53,8 +53,8 @@ pub fn weight_of(on: bool, m: u32) -> u32
     if on { 1 << m } else { 0 }
 }
 
-// The requests for each slave: bit m is 1 where the transfer of master m is for it. One pass over the masters adds them all to an
-// array of zeros; a target that is no slave adds 0, so that the pass has no branch.
+// The requests for each slave (rule 4.3): bit m is 1 where the transfer of master m is for it. One pass over the masters adds
+// them all to an array of zeros; a target that is no slave adds 0, so that the pass has no branch.
 pub fn request_masks(targets: &[u32; MASTERS], out: &mut [u32; SLAVES])
     requires { ⌜ now out ≡ replicate 16 0 ⌝ }
     ensures { λ _. ⌜ now (out .exit) ≡ table (requestMask (now (targets .entry))) 16 ⌝ }
@@ -69,8 +69,8 @@ pub fn request_masks(targets: &[u32; MASTERS], out: &mut [u32; SLAVES])
     }
 }
 
-// What a transfer is refused for (13 to 17), or 0: of the master, the slave that it is for, that slave's number, or the count
-// of slaves where it is for none. A width is a power of two, so that a mask leaves what is over a multiple of it.
+// What a transfer is refused for (rules 7.13 to 7.17), or 0: of the master, the slave that it is for, that slave's number, or the
+// count of slaves where it is for none. A width is a power of two, so that a mask leaves what is over a multiple of it.
 pub fn transfer_refusal_by(ma: Master, sl: Slave, t: Transfer, target: u32, count: u32) -> u32
     requires { ⌜ member (ma .width) widths ≡ true ⌝ }
     ensures { λ r. ⌜ r ≡ transferRefusalBy ma sl t target count ⌝ }
@@ -95,7 +95,7 @@ pub fn transfer_refusal_by(ma: Master, sl: Slave, t: Transfer, target: u32, coun
     0
 }
 
-// What the transfer t of master m is refused for, or 0.
+// What the transfer t of master m is refused for, or 0 (rules 7.13 to 7.17).
 pub fn transfer_refusal(board: &[u32; BOARD_NUMBERS], m: usize, t: Transfer) -> u32
     requires { ⌜ (boardRefusal (boardIn (now board)) ≡ 0) × (m < boardIn (now board) .«master_count») ⌝ }
     ensures { λ r. ⌜ r ≡ transferRefusal (boardIn (now (board .entry))) m t ⌝ }

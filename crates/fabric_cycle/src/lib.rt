@@ -1,5 +1,5 @@
-// One clock of an accepted board in a state that breaks no rule, slave by slave: the three rules and the bytes. The state is
-// changed in place.
+// One clock of an accepted board in a state that breaks no rule, slave by slave (rules 4.3 to 4.9, 4.11).
+// The state is changed where it stands.
 mod slave;
 
 use common_numbers::BOARD_NUMBERS;
@@ -23,7 +23,7 @@ ghost use Rattle.fabric_check.specs.Code.Targets.{targetsIn, requestMask};
 ghost use Rattle.fabric_cycle.specs.Code.Cycles.{Passes, Clocks};
 ghost use Rattle.fabric_cycle.specs.Code.Turns.{slotAsked, endedTransfer, Ready, Serving, Turned};
 
-// Rule 1 at slave s, by a mask of who requests it: shares and beats are read once it is known whose.
+// Rule 1 at slave s (rules 4.3 to 4.7), by a mask of who requests it: shares and beats are read once it is known whose.
 fn slot_asked(board: &[u32; BOARD_NUMBERS], st: &[u32; STATE_NUMBERS], s: usize, mask: u32) -> Slot
     requires { ⌜ (s < 16) × (mask < 256) ⌝ }
     ensures { λ r. ⌜ r ≡ slotAsked (boardIn (now (board .entry))) (stateIn (now (st .entry))) s mask ⌝ }
@@ -51,7 +51,7 @@ fn slot_asked(board: &[u32; BOARD_NUMBERS], st: &[u32; STATE_NUMBERS], s: usize,
     }
 }
 
-// The transfer of a finished master ends.
+// The transfer of a finished master ends (rule 4.9).
 fn end_transfer(st: &mut [u32; STATE_NUMBERS], m: usize, finished: bool)
     requires { ⌜ m < 8 ⌝ }
     ensures { λ _. ⌜ stateIn (now (st .exit)) ≡ endedTransfer (stateIn (now (st .entry))) m finished ⌝ }
@@ -68,7 +68,8 @@ fn end_transfer(st: &mut [u32; STATE_NUMBERS], m: usize, finished: bool)
     }
 }
 
-// Rules 2 and 3 at slave s, which serves: `slot` is its slot after rule 1. Answers the bit of its owner, where it is finished.
+// Rules 2 and 3 (rules 4.8, 4.9) at slave s, which serves: `slot` is its slot after rule 1. Answers the bit of its owner, where
+// it is finished (rule 4.13).
 fn serve_at(
     board: &[u32; BOARD_NUMBERS],
     st: &mut [u32; STATE_NUMBERS],
@@ -99,8 +100,8 @@ fn serve_at(
     fabric_check::weight_of(step.finished, slot.owner)
 }
 
-// Slave s in one clock; its span starts at `start`. Answers the bit of the master that it finishes. A slave that does not
-// serve shows nothing.
+// Slave s in one clock (rules 4.3 to 4.9); its span starts at `start`. Answers the bit of the master that it finishes. A slave
+// that does not serve shows nothing (rule 4.13).
 fn turn(
     board: &[u32; BOARD_NUMBERS],
     st: &mut [u32; STATE_NUMBERS],
@@ -136,9 +137,10 @@ fn turn(
     0
 }
 
-// A clock that is not refused, in one pass over the slaves; `requests` are the masks of who requests each of them before the
-// clock. A slave's slot is read at its own turn only, and a transfer that a slave is to serve is for that slave alone: so what
-// a slave reads in the state that is being changed stood there before the clock. Answers the mask of masters finished.
+// A clock that is not refused (rules 4.1, 4.3 to 4.14), in one pass over the slaves; `requests` are the masks of who requests
+// each of them before the clock. A slave's slot is read in its own clock only, and a transfer that a slave is to serve is for
+// that slave alone: so what a slave reads in the state that is being changed stood there before the clock. Answers the mask of
+// masters finished.
 pub fn cycle(
     board: &[u32; BOARD_NUMBERS],
     st: &mut [u32; STATE_NUMBERS],

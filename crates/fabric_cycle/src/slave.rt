@@ -1,4 +1,4 @@
-// One slave's clock: the grant, the wait or the access, and the line that it shows.
+// One slave's clock: the grant, the wait or the access, and the line that it shows (rules 4.3 to 4.9, 4.13).
 use description_board::Master;
 use description_board::Slave;
 use fabric_accesses::Transfer;
@@ -16,7 +16,7 @@ ghost use Rattle.fabric_state.specs.Records.{arbiterOf};
 ghost use Rattle.fabric_state.specs.Control.{slotBy, slotGranted, lineOf, waits, served};
 ghost use Rattle.fabric_cycle.specs.Code.Serving.{Placed, Serves, Served, carriedFrom};
 
-// The slave's arbiter record.
+// The slave's arbiter (rule 4.1).
 pub fn arbiter_of(slot: Slot) -> Arbiter
     ensures { λ r. ⌜ r ≡ arbiterOf slot ⌝ }
 {
@@ -26,7 +26,7 @@ pub fn arbiter_of(slot: Slot) -> Arbiter
     }
 }
 
-// The slot by its record after a grant, or after none.
+// The slot by its arbiter after a grant, or after none (rule 4.7).
 fn slot_by(slot: Slot, a: Arbiter, g: Grant) -> Slot
     ensures { λ r. ⌜ r ≡ slotBy slot a g ⌝ }
 {
@@ -50,8 +50,8 @@ fn slot_by(slot: Slot, a: Arbiter, g: Grant) -> Slot
     }
 }
 
-// Rule 1 at a slave that is not serving, by the winner's shares at it and the beats of the winner's transfer: the slave's
-// record is lent to the rule, and stands in the slot after it.
+// Rule 1 at a slave that does not serve (rules 4.3 to 4.7), by the winner's shares at it and the beats of the winner's transfer:
+// the slave's arbiter is lent to the rule, and stands in the slot after it.
 pub fn slot_granted(slot: Slot, w: Winner, shares: u32, beats: u32) -> Slot
     ensures { λ r. ⌜ r ≡ slotGranted slot (grantBy (arbiterOf slot) w shares beats) ⌝ }
 {
@@ -60,7 +60,7 @@ pub fn slot_granted(slot: Slot, w: Winner, shares: u32, beats: u32) -> Slot
     slot_by(slot, a, g)
 }
 
-// What the slave shows of the access in hand.
+// What the slave shows of the access in hand (rule 4.13).
 fn line_of(ma: Master, sl: Slave, t: Transfer, slot: Slot, phase: u32) -> Line
     requires { ⌜ Placed ma sl t (slot .done) ⌝ }
     ensures { λ r. ⌜ r ≡ lineOf ma sl t slot phase ⌝ }
@@ -80,7 +80,7 @@ fn line_of(ma: Master, sl: Slave, t: Transfer, slot: Slot, phase: u32) -> Line
     }
 }
 
-// Rule 2: whether the access in hand has still to wait. Each access waits anew: waits passed return to 0 with it.
+// Rule 2 (rule 4.8): whether the access in hand has still to wait. Each access waits anew: waits passed are 0 again behind it.
 fn waits(sl: Slave, t: Transfer, slot: Slot) -> bool
     ensures { λ r. ⌜ r ≡ waits sl t slot ⌝ }
 {
@@ -88,7 +88,7 @@ fn waits(sl: Slave, t: Transfer, slot: Slot) -> bool
     waited < fabric_accesses::wait_of(sl, t)
 }
 
-// Rules 2 and 3 at a slave that serves.
+// Rules 2 and 3 (rules 4.8, 4.9) at a slave that serves.
 fn served(ma: Master, sl: Slave, t: Transfer, slot: Slot, waiting: bool) -> Step
     requires { ⌜ (Placed ma sl t (slot .done)) × (waiting ≡ waits sl t slot) ⌝ }
     ensures { λ r. ⌜ r ≡ served ma sl t slot ⌝ }
@@ -125,7 +125,7 @@ fn served(ma: Master, sl: Slave, t: Transfer, slot: Slot, waiting: bool) -> Step
     }
 }
 
-// The bytes of the access that the slave carries out in this clock, if it does; its span starts at `start`.
+// The bytes of the access that the slave carries out in this clock (rule 4.8), if it does; its span starts at `start`.
 fn carry_from(
     ma: Master,
     sl: Slave,
@@ -148,7 +148,7 @@ fn carry_from(
     fabric_bytes::carry_access(ma, sl, t, m, start, slot.done, memory, buffer);
 }
 
-// One clock of a slave that serves. Whether it still waits is asked once, for its step and for its bytes.
+// One clock of a slave that serves (rules 4.8, 4.9). Whether it waits is asked once, for its step and for its bytes.
 pub fn serve(
     ma: Master,
     sl: Slave,

@@ -1,4 +1,4 @@
--- Which lane masks a post may have.
+-- Which lanes a post may have (rules 3.4, 3.5).
 -- Assumes nothing.
 use mathlib.Core.Bool.{Bool, _&&_, _||_}
 use mathlib.Core.List.{[], _∷_}
@@ -7,25 +7,24 @@ use lib.Dec.{eqb, leb}
 use lib.Count.{ones, trailingZeros}
 use Rattle.common_laws.specs.Lists.{member}
 
--- the number of the lowest lane of a mask of 8 lanes; 8 of the mask 0, which `legalLanes` refuses for its count
+-- rule 3.4: the number of the lowest lane of a mask of 8 lanes; 8 of the mask 0, which `legalLanes` refuses for its count
 unfoldable pub lowest : ℕ → ℕ
 lowest lanes = trailingZeros 8 lanes
 
--- all ones over a width. A difference stops at 0, but a power of two is at least 1.
+-- rule 3.5: all lanes of a width. A difference stops at 0, but a power of two is at least 1.
 abbrev pub allLanes : ℕ → ℕ
 allLanes width = 2 ^ width - 1
 
--- "the ones are adjacent": as many ones as the mask has, from its lowest lane upward
+-- rule 3.4: the lanes stand side by side: as many as the mask has, from its lowest lane upward
 unfoldable pub adjacent : ℕ → Bool
 adjacent lanes = eqb lanes (allLanes (ones lanes) * 2 ^ lowest lanes)
 
--- "the count of ones is 1, 2, 4 or 8, the ones are adjacent, the lowest lane's number is a multiple of the count, and none
--- lies at or above the width"
+-- rule 3.4: how many lanes, that they stand side by side, which is the lowest, and all below the width
 unfoldable pub legalLanes : ℕ → ℕ → Bool
 legalLanes width lanes =
     member (ones lanes) (1 ∷ 2 ∷ 4 ∷ 8 ∷ [])
     && (adjacent lanes && (eqb (lowest lanes % ones lanes) 0 && leb (lowest lanes + ones lanes) width))
 
--- "More than one beat needs all lanes."
+-- rules 3.4, 3.5: the lanes are legal, and of a burst all of the width
 unfoldable pub postLanes : ℕ → ℕ → ℕ → Bool
 postLanes width lanes beats = legalLanes width lanes && (leb beats 1 || eqb lanes (allLanes width))

@@ -1,9 +1,9 @@
-// The lanes of a word: which masks a post may have.
+// The lanes of a word: which of them a post may have (rules 3.4, 3.5).
 ghost use mathlib.Core.Path.{_≡_};
 ghost use Prim.Native.Nat.{_≤_};
 ghost use Rattle.fabric_lanes.specs.Lanes.{allLanes, legalLanes, postLanes};
 
-// The mask of the lowest lanes.
+// The mask of the lowest lanes, as many as the width (rule 3.5).
 pub fn all_lanes(width: u32) -> u32
     requires { ⌜ width ≤ 8 ⌝ }
     ensures { λ r. ⌜ r ≡ allLanes width ⌝ }
@@ -12,8 +12,8 @@ pub fn all_lanes(width: u32) -> u32
     (lowest << width) - 1
 }
 
-// Whether a master of this width may enable these lanes. The count of ones is a power of two, and the lowest lane a multiple of
-// it, where each has no bit below the count's own.
+// Whether a master of this width may enable these lanes (rule 3.4). Their count is a power of two, and the lowest lane a multiple
+// of it, where each has no bit below the count's own.
 pub fn legal_lanes(width: u32, lanes: u32) -> bool
     requires { ⌜ width ≤ 8 ⌝ }
     ensures { λ r. ⌜ r ≡ legalLanes width lanes ⌝ }
@@ -30,8 +30,8 @@ pub fn legal_lanes(width: u32, lanes: u32) -> bool
     (run == all) & (count & below == 0) & (low & below == 0) & (low + count <= width)
 }
 
-// Whether a master of this width may post these lanes with so many beats. All lanes, which most posts have, are as many as the
-// width, and legal where it is a power of two.
+// Whether a master of this width may post these lanes with so many beats (rules 3.4, 3.5). All lanes, which most posts have, are
+// as many as the width, and legal where it is a power of two.
 pub fn post_lanes(width: u32, lanes: u32, beats: u32) -> bool
     requires { ⌜ width ≤ 8 ⌝ }
     ensures { λ r. ⌜ r ≡ postLanes width lanes beats ⌝ }

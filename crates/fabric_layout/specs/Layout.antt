@@ -1,5 +1,6 @@
--- A state and a clock's lines as arrays of numbers, one u32 for each field. Every array of numbers is a state, or lines: what
--- the numbers mean is said for each of them, and the rules refuse what is out of range.
+-- A state and a clock's lines as arrays of numbers, one u32 for each field (rules 2.4, 4.13).
+-- Every array of numbers is a state, or lines: what the numbers mean is said for each of them, and the rules refuse what is out
+-- of range.
 -- Assumes nothing.
 use mathlib.Core.Bool.{Bool, not}
 use mathlib.Core.List.{List}
@@ -12,11 +13,11 @@ use Rattle.fabric_state.specs.declared.Slot.{Slot}
 use Rattle.fabric_state.specs.declared.State.{State}
 use Rattle.fabric_state.specs.declared.Line.{Line}
 
--- a mark: 0 is no, every other number is yes
+-- rule 2.4: a mark: 0 is no, every other number is yes
 abbrev pub marked : ℕ → Bool
 marked n = not (eqb n 0)
 
--- five numbers from place p on are a transfer, or a slot
+-- rule 2.4: five numbers from index p on are a transfer
 unfoldable pub transferFrom : List ℕ → ℕ → Transfer
 transferFrom l p = record {
   held = marked (getD l p 0);
@@ -26,6 +27,7 @@ transferFrom l p = record {
   beats = getD l (p + 4) 0;
 }
 
+-- rule 2.4: five numbers from index p on are a slot
 unfoldable pub slotFrom : List ℕ → ℕ → Slot
 slotFrom l p = record {
   owner = getD l p 0;
@@ -35,14 +37,14 @@ slotFrom l p = record {
   waited = getD l (p + 4) 0;
 }
 
--- the state in 120 numbers: 8 transfers, then 16 slots
+-- rule 2.4: the state in 120 numbers: 8 transfers, then 16 slots
 unfoldable pub stateIn : List ℕ → State
 stateIn l = record {
   transfers = table (λ m. transferFrom l (5 * m)) 8;
   slots = table (λ s. slotFrom l (40 + 5 * s)) 16;
 }
 
--- six numbers from place p on are a line; the lines in 96 numbers
+-- rule 4.13: six numbers from index p on are a clock's line
 unfoldable pub lineFrom : List ℕ → ℕ → Line
 lineFrom l p = record {
   phase = getD l p 0;
@@ -53,5 +55,6 @@ lineFrom l p = record {
   place = getD l (p + 5) 0;
 }
 
+-- rule 4.13: a clock's lines in 96 numbers
 unfoldable pub linesIn : List ℕ → List Line
 linesIn l = table (λ s. lineFrom l (6 * s)) 16

@@ -1,4 +1,4 @@
-// A state and a clock's lines in lent arrays of numbers: their records read and put by their place.
+// A state and a clock's lines in lent arrays of numbers (rules 2.4, 4.13): each record is read and put at its index.
 use common_numbers::LINE_FIELDS;
 use common_numbers::LINES_NUMBERS;
 use common_numbers::SLOT_NUMBERS;
@@ -19,12 +19,14 @@ ghost use Rattle.fabric_state.specs.Resetting.{resetState};
 ghost use Rattle.fabric_layout.specs.Layout.{stateIn, linesIn};
 ghost use Rattle.fabric_layout.specs.Code.Puts.{withSlot, firstLines, resetSlot};
 
+// The number of a mark (rule 2.4).
 fn mark_of(b: bool) -> u32
     ensures { λ r. ⌜ r ≡ cond b 1 0 ⌝ }
 {
     if b { 1 } else { 0 }
 }
 
+// The transfer of master m (rule 2.4).
 pub fn transfer_at(st: &[u32; STATE_NUMBERS], m: usize) -> Transfer
     requires { ⌜ m < 8 ⌝ }
     ensures { λ r. ⌜ r ≡ transferAt (stateIn (now (st .entry))) m ⌝ }
@@ -39,7 +41,7 @@ pub fn transfer_at(st: &[u32; STATE_NUMBERS], m: usize) -> Transfer
     }
 }
 
-// The beats of master m's transfer.
+// The beats of master m's transfer (rule 2.4).
 pub fn beats_at(st: &[u32; STATE_NUMBERS], m: usize) -> u32
     requires { ⌜ m < 8 ⌝ }
     ensures { λ r. ⌜ r ≡ transferAt (stateIn (now (st .entry))) m .beats ⌝ }
@@ -47,6 +49,7 @@ pub fn beats_at(st: &[u32; STATE_NUMBERS], m: usize) -> u32
     st[TRANSFER_NUMBERS * m + 4]
 }
 
+// The slot of slave s (rules 2.4, 4.1).
 pub fn slot_at(st: &[u32; STATE_NUMBERS], s: usize) -> Slot
     requires { ⌜ s < 16 ⌝ }
     ensures { λ r. ⌜ r ≡ slotAt (stateIn (now (st .entry))) s ⌝ }
@@ -61,6 +64,7 @@ pub fn slot_at(st: &[u32; STATE_NUMBERS], s: usize) -> Slot
     }
 }
 
+// Master m holds t (rules 2.4, 3.3).
 pub fn put_transfer(st: &mut [u32; STATE_NUMBERS], m: usize, t: Transfer)
     requires { ⌜ m < 8 ⌝ }
     ensures { λ _. ⌜ stateIn (now (st .exit)) ≡ withTransfer (stateIn (now (st .entry))) m t ⌝ }
@@ -74,6 +78,7 @@ pub fn put_transfer(st: &mut [u32; STATE_NUMBERS], m: usize, t: Transfer)
     st[p + 4] = t.beats;
 }
 
+// The slot of slave s becomes x (rules 2.4, 4.1).
 pub fn put_slot(st: &mut [u32; STATE_NUMBERS], s: usize, x: Slot)
     requires { ⌜ s < 16 ⌝ }
     ensures { λ _. ⌜ stateIn (now (st .exit)) ≡ withSlot (stateIn (now (st .entry))) s x ⌝ }
@@ -87,6 +92,7 @@ pub fn put_slot(st: &mut [u32; STATE_NUMBERS], s: usize, x: Slot)
     st[p + 4] = x.waited;
 }
 
+// The clock's line of slave s becomes x (rule 4.13).
 pub fn put_line(lines: &mut [u32; LINES_NUMBERS], s: usize, x: Line)
     requires { ⌜ s < 16 ⌝ }
     ensures { λ _. ⌜ linesIn (now (lines .exit)) ≡ set (linesIn (now (lines .entry))) s x ⌝ }
@@ -101,7 +107,7 @@ pub fn put_line(lines: &mut [u32; LINES_NUMBERS], s: usize, x: Line)
     lines[p + 5] = x.place;
 }
 
-// The lines from n on show nothing.
+// The clock's lines from n on show nothing (rule 4.13).
 pub fn first_lines(lines: &mut [u32; LINES_NUMBERS], n: usize)
     ensures { λ _. ⌜ linesIn (now (lines .exit)) ≡ firstLines n (linesIn (now (lines .entry))) ⌝ }
 {
@@ -120,7 +126,7 @@ pub fn first_lines(lines: &mut [u32; LINES_NUMBERS], n: usize)
     }
 }
 
-// The slot of slave s after a reset, where the first n slaves have an owner.
+// The slot of slave s after a reset, where the first n slaves have an owner (rule 4.2).
 fn reset_slot(owner: u32, n: u32, s: usize) -> Slot
     ensures { λ r. ⌜ r ≡ resetSlot owner n s ⌝ }
 {
@@ -137,6 +143,7 @@ fn reset_slot(owner: u32, n: u32, s: usize) -> Slot
     x
 }
 
+// No transfer is held (rule 4.2).
 fn clear_transfers(st: &mut [u32; STATE_NUMBERS])
     ensures { λ _. ⌜ stateIn (now (st .exit)) .transfers ≡ replicate 8 noTransfer ⌝ }
 {
@@ -154,7 +161,7 @@ fn clear_transfers(st: &mut [u32; STATE_NUMBERS])
     }
 }
 
-// The state after a reset where `owner` is the last at the first n slaves. What stood in the array before does not matter.
+// The state after a reset where `owner` is the last owner of the first n slaves (rule 4.2), whatever stood in the array before.
 pub fn reset_state(st: &mut [u32; STATE_NUMBERS], owner: u32, n: u32)
     ensures { λ _. ⌜ stateIn (now (st .exit)) ≡ resetState owner n ⌝ }
 {

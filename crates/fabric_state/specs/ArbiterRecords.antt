@@ -1,4 +1,4 @@
--- How one clock changes a slave's arbiter record.
+-- How one clock changes a slave's arbiter (rules 4.3 to 4.6).
 -- Assumes nothing.
 use mathlib.Core.Bool.{cond}
 use Prim.Native.Nat.{ℕ}
@@ -9,8 +9,7 @@ use Rattle.fabric_state.specs.declared.State.{State}
 use Rattle.fabric_state.specs.Records.{slotAt, arbiterOf}
 use Rattle.fabric_state.specs.Control.{grantAt}
 
--- "One clock changes a slave's last owner and remaining grants by these rules.": rule 1 where slave s does not serve; while
--- it serves, neither changes
+-- rules 4.3 to 4.6 where slave s does not serve; where it serves, its arbiter stays
 unfoldable pub arbiterAfterClock : Board → State → ℕ → Arbiter
 arbiterAfterClock b st s =
     cond (slotAt st s .serving) (arbiterOf (slotAt st s)) (arbiterAfter (arbiterOf (slotAt st s)) (grantAt b st s))

@@ -1,4 +1,4 @@
--- One clock's bytes: the accesses that are carried out, by slave number.
+-- One clock's bytes: the accesses that are carried out, by slave number (rule 4.8).
 -- Assumes nothing.
 use mathlib.Core.Bool.{Bool, cond, not, _&&_}
 use Prim.Native.Nat.{ℕ, zero, suc}
@@ -10,11 +10,11 @@ use Rattle.fabric_state.specs.declared.State.{State}
 use Rattle.fabric_state.specs.Records.{transferAt}
 use Rattle.fabric_state.specs.Control.{slotAfterGrant, waits}
 
--- slave s, after rule 1, carries out an access in this clock
+-- rule 4.8: slave s, with its slot after rule 1, carries out an access in this clock
 unfoldable pub carriesOut : Board → State → ℕ → Slot → Bool
 carriesOut b st s slot = slot .serving && not (waits (slaveAt b s) (transferAt st (slot .owner)) slot)
 
--- the bytes of slave s in this clock
+-- rule 4.8: the lent bytes after the clock of slave s
 unfoldable pub carried : Board → State → ℕ → Store → Store
 carried b st s d =
     let slot = slotAfterGrant b st s in
@@ -22,11 +22,11 @@ carried b st s d =
     (carriedAccess (masterAt b (slot .owner)) (slaveAt b s) (transferAt st (slot .owner)) (slot .owner) (startOf b s) (slot .done) d)
     d
 
--- the bytes of the first n slaves
+-- rule 4.1: the lent bytes after the clock of the first n slaves, one after another
 unfoldable pub carriedBy : Board → State → ℕ → Store → Store
 carriedBy b st zero d = d
 carriedBy b st (suc n) d = carried b st n (carriedBy b st n d)
 
--- the lent bytes after the clock
+-- rules 4.8, 4.11: the lent bytes after the clock
 unfoldable pub storeAfter : Board → State → Store → Store
 storeAfter b st d = carriedBy b st (b .«slave_count») d

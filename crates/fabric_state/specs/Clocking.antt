@@ -1,4 +1,4 @@
--- What a clock answers.
+-- What a clock answers (rules 4.13, 8.1).
 -- Assumes nothing.
 use Prim.Native.Nat.{ℕ}
 use lib.ListN.{replicate}
@@ -8,10 +8,10 @@ use Rattle.fabric_state.specs.declared.Clocked.{Clocked}
 use Rattle.fabric_state.specs.Records.{noLine}
 use Rattle.fabric_state.specs.Control.{maskOf, stateAfter, linesOf}
 
--- "Clock answers a mask of masters finished and, per slave": its line; and the state after it
+-- rule 4.13: the mask and the lines of a clock that is not refused; and the state after it
 abbrev pub clockedOf : Board → State → Clocked
 clockedOf b st = record { number = 0; state = stateAfter b st; mask = maskOf b st; lines = linesOf b st }
 
--- a refusal: "the state stay[s] unchanged, and all other values handed back are 0, clock's mask and slave lines included"
+-- rule 8.1: a refused clock: its number, the state as it was, no mask and lines of zeros
 abbrev pub refusedClock : ℕ → State → Clocked
 refusedClock n st = record { number = n; state = st; mask = 0; lines = replicate 16 noLine }

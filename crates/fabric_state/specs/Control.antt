@@ -1,4 +1,4 @@
--- One clock without the bytes: slots, lines, the mask of masters finished.
+-- One clock without the bytes: slots, lines, the mask of masters finished (rules 4.3 to 4.9, 4.13).
 -- Assumes nothing.
 use mathlib.Core.Bool.{Bool, true, false, cond, _&&_}
 use mathlib.Core.List.{List}
@@ -23,28 +23,27 @@ use Rattle.fabric_state.specs.declared.Step.{Step}
 use Rattle.fabric_state.specs.Records.{noLine, transferAt, slotAt, arbiterOf}
 use Rattle.fabric_state.specs.Soundness.{requests}
 
--- Rule 1. The grant of slave s, which is not serving
+-- rule 1 (rules 4.3 to 4.6): the grant of slave s, which does not serve
 unfoldable pub grantAt : Board → State → ℕ → Grant
 grantAt b st s =
     granted (b .«master_count») (requests b st s) (λ m. sharesAt b m s) (λ m. transferAt st m .beats)
     (arbiterOf (slotAt st s))
 
--- the slot by its arbiter record a after the grant g: a grant begins a service, with none the slave does not serve
+-- rule 4.7: the slot by its arbiter a after the grant g: a grant begins a service, with none the slave does not serve
 unfoldable pub slotBy : Slot → Arbiter → Grant → Slot
 slotBy slot a (Granted m r) = record { owner = a .owner; remaining = a .remaining; serving = true; done = 0; waited = 0 }
 slotBy slot a Silent =
     record { owner = a .owner; remaining = a .remaining; serving = false; done = slot .done; waited = slot .waited }
 
--- "One clock changes a slave's last owner and remaining grants by these rules."
+-- rules 4.3 to 4.7: the slot after the grant g
 unfoldable pub slotGranted : Slot → Grant → Slot
 slotGranted slot g = slotBy slot (arbiterAfter (arbiterOf slot) g) g
 
--- "The grant and the first cycle fall in the same clock.": slave s after rule 1, before rules 2 and 3
+-- rule 4.7: slave s after rule 1, before rules 2 and 3: it serves in the clock of its grant
 unfoldable pub slotAfterGrant : Board → State → ℕ → Slot
 slotAfterGrant b st s = cond (slotAt st s .serving) (slotAt st s) (slotGranted (slotAt st s) (grantAt b st s))
 
--- "phase (0 idle, 1 waiting, 2 access), owner, byte offset of the access within the slave, .., slave lanes, run length, place
--- in the run": of the access in hand
+-- rule 4.13: a clock's line of the access in hand
 unfoldable pub lineOf : Master → Slave → Transfer → Slot → ℕ → Line
 lineOf ma sl t slot phase = record {
   phase = phase;
@@ -55,24 +54,25 @@ lineOf ma sl t slot phase = record {
   place = placeOf ma sl (slot .done);
 }
 
--- Rule 2. "while waits passed is below the read or write wait, it rises by 1"
+-- rule 2 (rule 4.8): the slave waits
 unfoldable pub waits : Slave → Transfer → Slot → Bool
 waits sl t slot = ltb (slot .waited) (waitOf sl t)
 
+-- rule 4.8: one more wait has passed
 unfoldable pub slotWaiting : Slot → Slot
 slotWaiting slot =
     record { owner = slot .owner; remaining = slot .remaining; serving = true; done = slot .done; waited = slot .waited + 1 }
 
--- "Otherwise one access is carried out and waits passed returns to 0."
+-- rule 4.8: one more access is done, and others are left
 unfoldable pub slotAccessed : Slot → Slot
 slotAccessed slot =
     record { owner = slot .owner; remaining = slot .remaining; serving = true; done = slot .done + 1; waited = 0 }
 
--- Rule 3. "After the last access the slave no longer serves, its accesses done return to 0"
+-- rule 3 (rule 4.9): the last access is done
 unfoldable pub slotFinished : Slot → Slot
 slotFinished slot = record { owner = slot .owner; remaining = slot .remaining; serving = false; done = 0; waited = 0 }
 
--- rules 2 and 3 at a slave that serves
+-- rules 4.8, 4.9: rules 2 and 3 at a slave that serves
 unfoldable pub served : Master → Slave → Transfer → Slot → Step
 served ma sl t slot =
     cond (waits sl t slot)
@@ -81,7 +81,7 @@ served ma sl t slot =
     (record { slot = slotAccessed slot; line = lineOf ma sl t slot 2; finished = false })
     (record { slot = slotFinished slot; line = lineOf ma sl t slot 2; finished = true }))
 
--- one clock of slave s
+-- rules 4.3 to 4.9: one clock of slave s
 unfoldable pub stepOf : Board → State → ℕ → Step
 stepOf b st s =
     let slot = slotAfterGrant b st s in
@@ -89,33 +89,34 @@ stepOf b st s =
     (served (masterAt b (slot .owner)) (slaveAt b s) (transferAt st (slot .owner)) slot)
     (record { slot = slot; line = noLine; finished = false })
 
--- the line of slave s; 0 for what is no slave of the board
+-- rule 4.13: a clock's line of slave s; zeros for what is no slave of the board
 unfoldable pub lineAfter : Board → State → ℕ → Line
 lineAfter b st s = cond (ltb s (b .«slave_count»)) (stepOf b st s .line) noLine
 
--- the slot of slave s after the clock
+-- rule 4.1: the slot of slave s after the clock; that of no slave of the board stays
 unfoldable pub slotAfter : Board → State → ℕ → Slot
 slotAfter b st s = cond (ltb s (b .«slave_count»)) (stepOf b st s .slot) (slotAt st s)
 
--- slave s finishes master m in this clock
+-- rule 4.9: slave s finishes master m in this clock
 unfoldable pub finishes : Board → State → ℕ → ℕ → Bool
 finishes b st m s = stepOf b st s .finished && eqb (stepOf b st s .line .owner) m
 
--- "a mask of masters finished"
+-- rules 4.9, 4.13: master m is finished in this clock
 unfoldable pub finished : Board → State → ℕ → Bool
 finished b st m = some (finishes b st m) (b .«slave_count»)
 
+-- rule 4.13: bit m for master m
 unfoldable pub maskOf : Board → State → ℕ
 maskOf b st = sum (λ m. cond (finished b st m) (2 ^ m) 0) 8
 
--- "the master is idle and may post before the next clock"
+-- rules 3.3, 4.9: a finished master holds nothing, any other what it held
 unfoldable pub transferAfter : Board → State → ℕ → Transfer
 transferAfter b st m = cond (finished b st m) noTransfer (transferAt st m)
 
--- the state after the clock
+-- rule 4.1: the state after the clock
 unfoldable pub stateAfter : Board → State → State
 stateAfter b st = record { transfers = table (transferAfter b st) 8; slots = table (slotAfter b st) 16 }
 
--- what the slaves show in the clock
+-- rule 4.13: a clock's lines
 unfoldable pub linesOf : Board → State → List Line
 linesOf b st = table (lineAfter b st) 16

@@ -1,4 +1,4 @@
--- The state's records, and its elements by number.
+-- The state's records, and its elements by number (rules 3.3, 4.1).
 -- Assumes nothing.
 use mathlib.Core.Bool.{false}
 use Prim.Native.Nat.{ℕ}
@@ -10,22 +10,26 @@ use Rattle.fabric_state.specs.declared.Slot.{Slot}
 use Rattle.fabric_state.specs.declared.State.{State}
 use Rattle.fabric_state.specs.declared.Line.{Line}
 
+-- a slot of zeros
 abbrev pub noSlot : Slot
 noSlot = record { owner = 0; remaining = 0; serving = false; done = 0; waited = 0 }
 
--- "In phase 0 the other fields are 0."
+-- rule 4.13: a clock's line of phase 0
 abbrev pub noLine : Line
 noLine = record { phase = 0; owner = 0; offset = 0; lanes = 0; run = 0; place = 0 }
 
+-- rule 8.1: a state of zeros
 unfoldable pub noState : State
 noState = record { transfers = replicate 8 noTransfer; slots = replicate 16 noSlot }
 
+-- rule 3.3: the transfer of master m
 abbrev pub transferAt : State → ℕ → Transfer
 transferAt st m = getD (st .transfers) m noTransfer
 
+-- rule 4.1: the slot of slave s
 abbrev pub slotAt : State → ℕ → Slot
 slotAt st s = getD (st .slots) s noSlot
 
--- "Each remembers its last owner, the grants remaining to it": a slave's arbiter record
+-- rule 4.1: a slave's arbiter: its last owner, and the grants that remain to that owner
 abbrev pub arbiterOf : Slot → Arbiter
 arbiterOf slot = record { owner = slot .owner; remaining = slot .remaining }

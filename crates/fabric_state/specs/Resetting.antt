@@ -1,4 +1,4 @@
--- The state that a reset gives.
+-- The state that a reset gives (rule 4.2).
 -- Assumes nothing.
 use mathlib.Core.Bool.{Bool, cond}
 use Prim.Native.Nat.{ℕ, _-_}
@@ -10,7 +10,7 @@ use Rattle.fabric_accesses.specs.Accesses.{noTransfer}
 use Rattle.fabric_state.specs.declared.State.{State}
 use Rattle.fabric_state.specs.Records.{noSlot}
 
--- "no transfers, last owner .., all else in the state 0": the owner is the last at the first count slaves
+-- rule 4.2: no transfer is held, `owner` is the last owner of the first `count` slaves, and all else is 0
 unfoldable pub resetState : ℕ → ℕ → State
 resetState owner count = record {
   transfers = replicate 8 noTransfer;
@@ -20,6 +20,6 @@ resetState owner count = record {
       16;
 }
 
--- "Reset: .. last owner the highest master"
+-- rule 4.2: the state after a reset: the last owner is the board's highest master
 unfoldable pub stateAtReset : Board → State
 stateAtReset b = resetState (b .«master_count» - 1) (b .«slave_count»)

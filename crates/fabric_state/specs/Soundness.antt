@@ -1,4 +1,4 @@
--- 9: "the state breaks a rule".
+-- Who requests a slave (rule 4.3), and which states break a rule (rule 7.9).
 -- Assumes nothing.
 use mathlib.Core.Bool.{Bool, true, cond, _&&_}
 use Prim.Native.Nat.{ℕ}
@@ -16,43 +16,44 @@ use Rattle.fabric_state.specs.declared.State.{State}
 use Rattle.fabric_state.specs.Records.{transferAt, slotAt}
 use Rattle.fabric_state.specs.Posting.{transferRefusal}
 
--- "a requester is a master whose transfer is for this slave"
+-- rule 4.3: master m is a requester of slave s
 unfoldable pub requests : Board → State → ℕ → ℕ → Bool
 requests b st s m = transferAt st m .held && selects b m (transferAt st m .address) s
 
--- no "transfer is held by no master of the board, or would not pass 13 to 17"
+-- rule 7.9: a transfer that is held is of a master of the board, and none of 7.13 to 7.17 holds of it
 unfoldable pub soundTransfer : Board → State → ℕ → Bool
 soundTransfer b st m =
     cond (transferAt st m .held) (ltb m (b .«master_count») && eqb (transferRefusal b m (transferAt st m)) 0) true
 
--- no "last owner is no master"
+-- rule 7.9: the last owner is a master of the board
 unfoldable pub soundOwner : Board → Slot → Bool
 soundOwner b slot = ltb (slot .owner) (b .«master_count»)
 
--- no "remaining is not below that owner's shares (not 0 if unconnected)"
+-- rule 7.9: the grants that remain are fewer than the owner's shares, and 0 where it has none
 unfoldable pub soundRemaining : ℕ → Slot → Bool
 soundRemaining shares slot = cond (eqb shares 0) (eqb (slot .remaining) 0) (ltb (slot .remaining) shares)
 
--- no "serving slave whose owner holds no transfer for it, whose accesses done reach the total or whose waits passed exceed
--- the wait"; `asks`: its owner, ma, holds the transfer t for it
+-- rule 7.9: a slave that serves has accesses left, and has not passed more waits than its wait; `asks`: its owner, ma, holds the
+-- transfer t for it
 unfoldable pub soundService : Bool → Master → Slave → Transfer → Slot → Bool
 soundService asks ma sl t slot = asks && (ltb (slot .done) (accesses ma sl t) && leb (slot .waited) (waitOf sl t))
 
--- no "slave not serving with either above 0"
+-- rule 7.9: a slave that does not serve has no accesses done and no waits passed
 unfoldable pub soundRest : Slot → Bool
 soundRest slot = eqb (slot .done) 0 && eqb (slot .waited) 0
 
--- a slot whose last owner is a master, by that owner's shares here and its transfer
+-- rule 7.9: a slot whose last owner is a master, by that owner's shares here and its transfer
 unfoldable pub soundSlotBy : ℕ → Bool → Master → Slave → Transfer → Slot → Bool
 soundSlotBy shares asks ma sl t slot =
     soundRemaining shares slot && cond (slot .serving) (soundService asks ma sl t slot) (soundRest slot)
 
+-- rule 7.9: the slot of slave s
 unfoldable pub soundSlot : Board → State → ℕ → Bool
 soundSlot b st s =
     let slot = slotAt st s in
     let m = slot .owner in
     soundOwner b slot && soundSlotBy (sharesAt b m s) (requests b st s m) (masterAt b m) (slaveAt b s) (transferAt st m) slot
 
--- the state breaks no rule
+-- rule 7.9: the state breaks no rule
 unfoldable pub sound : Board → State → Bool
 sound b st = every (soundTransfer b st) 8 && every (soundSlot b st) (b .«slave_count»)

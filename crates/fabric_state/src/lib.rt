@@ -1,7 +1,7 @@
-// The state of a board's fabric, and how a post and a clock change it.
+// The state of a board's fabric, and what a clock shows of it (rules 4.1, 4.13).
 use fabric_accesses::Transfer;
 
-// One slave: last owner, grants remaining to it, whether it is serving, accesses done, waits passed.
+// One slave (rule 4.1): last owner, grants that remain to it, whether it serves, accesses done, waits passed.
 pub struct Slot {
     pub owner: u32,
     pub remaining: u32,
@@ -10,12 +10,13 @@ pub struct Slot {
     pub waited: u32,
 }
 
+// The transfer of each master (rule 3.3), and the slot of each slave (rule 4.1).
 pub struct State {
     pub transfers: [Transfer; 8],
     pub slots: [Slot; 16],
 }
 
-// What one slave shows in one clock: phase (0 idle, 1 waiting, 2 access), owner, byte offset, lanes, run length, place in the run.
+// What one slave shows in one clock (rule 4.13): phase, owner, byte offset, lanes, length of the run, place in the run.
 pub struct Line {
     pub phase: u32,
     pub owner: u32,
@@ -25,14 +26,14 @@ pub struct Line {
     pub place: u32,
 }
 
-// One slave's clock: the slot after it, its line, whether its owner is finished.
+// One slave's clock: the slot after it, its line, whether its owner is finished (rules 4.3 to 4.9, 4.13).
 pub struct Step {
     pub slot: Slot,
     pub line: Line,
     pub finished: bool,
 }
 
-// The answer of clock: bit m of the mask is 1 where master m is finished.
+// The answer of clock (rule 4.13): bit m of the mask is 1 where master m is finished.
 pub struct Clocked {
     pub number: u32,
     pub state: State,

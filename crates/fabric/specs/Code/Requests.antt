@@ -1,4 +1,4 @@
--- A post's arguments as one request, and a clock's refusal by what was found of board, state and bytes.
+-- Gives the code of fabric and fabric_c its shape: a post's arguments as one request, and a clock's refusal by its parts.
 -- Assumes nothing.
 use mathlib.Core.Bool.{Bool, cond, not, _||_}
 use mathlib.Core.List.{List}
@@ -7,6 +7,7 @@ use lib.Dec.{eqb}
 use Rattle.fabric_bytes.specs.Bytes.{bufferLength}
 use Rattle.fabric_state.specs.Posting.{Request}
 
+-- the arguments of a post (rule 3.1)
 abbrev pub request : ℕ → Bool → ℕ → ℕ → ℕ → List ℕ → Request
 request m w a l n bytes = record { master = m; write = w; address = a; lanes = l; beats = n; words = bytes }
 

@@ -1,4 +1,4 @@
--- What the functions of a pair ask of its numbers: they are powers of two, from the lists of the rules.
+-- Gives the code of fabric_accesses, fabric_check and fabric_cycle its shape: a pair's numbers are powers of two (rule 1.6).
 -- Assumes nothing.
 use mathlib.Core.Path.{_≡_}
 use mathlib.Core.Bool.{true}
@@ -15,12 +15,12 @@ pub record Widths (ma : Master) (sl : Slave) : Type 0 where
   pub master : member (ma .width) widths ≡ true
   pub slave : member (sl .width) widths ≡ true
 
--- and the burst that cuts the accesses into runs
+-- and the burst that cuts the accesses into runs (rule 4.12)
 pub record LegalPair (ma : Master) (sl : Slave) : Type 0 where
   pub wide : Widths ma sl
   pub burst : member (sl .burst) bursts ≡ true
 
--- a span is a power of two from 8 to 65,536
+-- a span is one of the powers of two of rule 1.6
 pub record Span (n : ℕ) : Type 0 where
   pub log : ℕ
   pub power : n ≡ 2 ^ log

@@ -1,5 +1,5 @@
--- Rule 1 in two steps: who is granted, then the grant by that master's shares and beats. The laws that both together are
--- `granted` end `GrantLaws`.
+-- Gives the code of fabric_arbiter and fabric_cycle its shape: rule 1 in two steps, who is granted, then the grant.
+-- The grant is by that master's shares and beats. The laws that both steps together are `granted` end `GrantLaws`.
 -- Assumes nothing.
 use mathlib.Core.Bool.{Bool, cond, _&&_}
 use Prim.Native.Nat.{ℕ, _-_}
@@ -14,17 +14,17 @@ use Rattle.fabric_arbiter.specs.declared.Grant.the-variants.{Granted, Si
 use Rattle.fabric_arbiter.specs.Choosing.{firstRequester}
 use Rattle.fabric_arbiter.specs.Granting.{kept}
 
--- the first requester, where there is one
+-- rules 4.3, 4.5: the first requester, where there is one
 unfoldable pub firstOf : Choice → Winner
 firstOf (Requester m) = First m
 firstOf Nobody = NoOne
 
--- "If the last owner requests and remaining is above 0, it is granted .. Otherwise masters are tried .."
+-- rules 4.3 to 4.5: who is granted: the last owner again, by a grant that remains to it, or the first requester
 unfoldable pub winnerOf : ℕ → (ℕ → Bool) → Arbiter → Winner
 winnerOf n requests a =
     cond (requests (a .owner) && ltb 0 (a .remaining)) Again (firstOf (firstRequester requests n (a .owner)))
 
--- the winner's grant: shares are the winner's at this slave, beats those of its transfer
+-- rules 4.4 to 4.6: the winner's grant: shares are the winner's at this slave, beats those of its transfer
 unfoldable pub grantBy : Arbiter → Winner → ℕ → ℕ → Grant
 grantBy a Again shares beats = Granted (a .owner) (kept beats (a .remaining - 1))
 grantBy a (First m) shares beats = Granted m (kept beats (shares - 1))

@@ -1,4 +1,4 @@
--- What an access asks of the lent bytes and of its master's word.
+-- Gives the code of fabric_bytes and fabric_cycle its shape: what an access asks of the lent bytes and its master's word.
 -- Assumes nothing.
 use mathlib.Core.Path.{_≡_}
 use mathlib.Core.Bool.{true}

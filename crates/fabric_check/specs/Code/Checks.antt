@@ -1,4 +1,5 @@
--- What the check of a state answers, by its parts: a transfer, all of them, the state, the board and the state.
+-- Gives the code of fabric_check its shape: what the check of a state answers, by its parts (rule 7.9).
+-- The parts: a transfer, all of them, the state, the board and the state.
 -- Assumes nothing.
 use mathlib.Core.Path.{_≡_}
 use mathlib.Core.Bool.{Bool, true, cond, _&&_}
@@ -19,7 +20,7 @@ use Rattle.fabric_check.specs.Code.Targets.{heldTarget, targetsIn}
 unfoldable pub soundHeld : Board → ℕ → Transfer → Bool
 soundHeld b m t = cond (t .held) (ltb m (b .«master_count») && eqb (transferRefusal b m t) 0) true
 
--- whether t breaks no rule; where it breaks none, its slave is put at place m
+-- whether t breaks no rule; where it breaks none, its slave is put at index m
 pub record Held (b : Board) (m : ℕ) (t : Transfer) (r : Bool) (before after : List ℕ) : Type 0 where
   pub sound : r ≡ soundHeld b m t
   pub target : r ≡ true → after ≡ set before m (heldTarget b m t)

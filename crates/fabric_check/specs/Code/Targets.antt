@@ -1,4 +1,5 @@
--- Which slave each held transfer is for, worked out once a call; requests as a mask. The code's form of `requests`.
+-- Gives the code of fabric_check and fabric_cycle its shape: the slave of each held transfer, and requests as a mask.
+-- Both are worked out once a call. The code's form of `requests` (rule 4.3).
 -- Assumes nothing.
 use mathlib.Core.Bool.{cond}
 use mathlib.Core.List.{List}

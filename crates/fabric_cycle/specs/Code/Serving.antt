@@ -1,4 +1,5 @@
--- Rules 2 and 3 at one slave from its own parts: the code's form of `stepOf` and `carried`.
+-- Gives the code of fabric_cycle its shape: rules 2 and 3 (rules 4.8, 4.9) at one slave from its own parts.
+-- The code's form of `stepOf` and `carried`.
 -- Assumes nothing.
 use mathlib.Core.Path.{_≡_}
 use mathlib.Core.Bool.{true, false, cond, not, _&&_}
@@ -24,7 +25,7 @@ pub record Placed (ma : Master) (sl : Slave) (t : Transfer) (a : ℕ) : Type 0 w
   pub word : InWord ma sl t a
   pub offset : wordOffset ma sl t a < 65536
 
--- rules 2 and 3 after rule 1: of the owner, the slave and the owner's transfer
+-- rules 2 and 3 (rules 4.8, 4.9) after rule 1: of the owner, the slave and the owner's transfer
 unfoldable pub stepFrom : Master → Slave → Transfer → Slot → Step
 stepFrom ma sl t slot =
     cond (slot .serving) (served ma sl t slot) (record { slot = slot; line = noLine; finished = false })

@@ -1,4 +1,5 @@
--- One slave's turn in a state that is being changed, from what stands in it: what the turn is handed, and what it leaves.
+-- Gives the code of fabric_cycle its shape: the clock of one slave in a state that is being changed.
+-- What it is handed, and what it leaves, from what stands in that state.
 -- Assumes nothing.
 use mathlib.Core.Path.{_≡_}
 use mathlib.Core.Bool.{Bool, true, cond}
@@ -21,7 +22,7 @@ use Rattle.fabric_state.specs.Control.{slotGranted}
 use Rattle.fabric_layout.specs.Code.Puts.{withSlot}
 use Rattle.fabric_cycle.specs.Code.Serving.{stepFrom, carriedFrom, Serves}
 
--- slave s after rule 1, by a mask of who requests it
+-- slave s after rule 1 (rules 4.3 to 4.7), by a mask of who requests it
 unfoldable pub slotAsked : Board → State → ℕ → ℕ → Slot
 slotAsked b st s mask =
     cond (slotAt st s .serving) (slotAt st s)
@@ -36,7 +37,7 @@ stepAt b st s x = stepFrom (masterAt b (x .owner)) (slaveAt b s) (transferAt st 
 unfoldable pub carriedAt : Board → State → ℕ → Slot → ℕ → Store → Store
 carriedAt b st s x start d = carriedFrom (masterAt b (x .owner)) (slaveAt b s) (transferAt st (x .owner)) x start d
 
--- the state with the transfer of master m endedTransfer where it is finished
+-- the state with the transfer of master m ended where it is finished (rule 4.9)
 unfoldable pub endedTransfer : State → ℕ → Bool → State
 endedTransfer st m finished = cond finished (withTransfer st m noTransfer) st
 
@@ -50,13 +51,13 @@ pub record Serving (b : Board) (st : State) (s : ℕ) (x : Slot) (start : ℕ) (
   pub owner : x .owner < 8
   pub serves : Serves (masterAt b (x .owner)) (slaveAt b s) (transferAt st (x .owner)) x start d
 
--- slave s can have its turn: it rests after rule 1, or serves
+-- slave s can have its clock: it rests after rule 1, or serves
 pub record Ready (b : Board) (st : State) (s mask start : ℕ) (d : Store) : Type 0 where
   pub slave : s < 16
   pub small : mask < 256
   pub serves : slotAsked b st s mask .serving ≡ true → Serving b st s (slotAsked b st s mask) start d
 
--- slave s has had its turn from the slot x: the state, the lines, the bit answered and the bytes e left of d
+-- slave s has had its clock from the slot x: the state, the lines, the bit answered and the bytes e left of d
 pub record Turned (b : Board) (before after : State) (s : ℕ) (x : Slot) (start : ℕ) (lines shown : List Line) (r : ℕ)
     (d e : Store) : Type 0 where
   pub state : after ≡ stateTurned b before s x

@@ -1,4 +1,4 @@
--- What is put into the arrays of a state and of a clock's lines.
+-- Gives the code of fabric_layout and fabric_cycle its shape: what is put into the arrays of a state and of a clock's lines.
 -- Assumes nothing.
 use mathlib.Core.Bool.{Bool, cond}
 use mathlib.Core.List.{List}
@@ -15,11 +15,11 @@ use Rattle.fabric_state.specs.Records.{noLine, noSlot}
 unfoldable pub withSlot : State → ℕ → Slot → State
 withSlot st s x = record { transfers = st .transfers; slots = set (st .slots) s x }
 
--- of 16 lines, those from n on show nothing
+-- of a clock's 16 lines, those from n on show nothing
 unfoldable pub firstLines : ℕ → List Line → List Line
 firstLines n lines = table (λ s. cond (ltb s n) (getD lines s noLine) noLine) 16
 
--- the slot of slave s after a reset: the owner is the last at the first n slaves
+-- rule 4.2: the slot of slave s after a reset: `owner` is the last owner of the first n slaves
 unfoldable pub resetSlot : ℕ → ℕ → ℕ → Slot
 resetSlot owner n s =
     cond (ltb s n) (record { owner = owner; remaining = 0; serving = Bool.false; done = 0; waited = 0 }) noSlot
