@@ -1,4 +1,4 @@
--- What `quote_of` answers.
+-- What `quote_of`, the wait call on a board, answers (rules 5.5, 5.7).
 -- Assumes nothing.
 use mathlib.Core.Bool.{cond, not}
 use Prim.Native.Nat.{ℕ}
@@ -9,12 +9,11 @@ use Rattle.wait.specs.declared.Quoted.{Quoted}
 use Rattle.wait_turns.specs.Waits.{quotedWait, serveOf}
 use Rattle.wait.specs.Answers.{pairRefusal}
 
--- the refusal of a wait that is looked up on a board, or 0: "a description that did not come through the reader is checked for
--- 2 to 7", then the pair
+-- rules 8.4, 8.5: what a wait that is looked up on a board is refused for, or 0: the board for 2 to 7, then the pair
 unfoldable pub quoteRefusal : Board → ℕ → ℕ → ℕ
 quoteRefusal b m s = cond (not (eqb (boardRefusal b) 0)) (boardRefusal b) (pairRefusal b m s)
 
--- wait and serve of a pair; at a refusal "all other values handed back are 0"
+-- rules 5.5, 5.7, 8.1: wait and serve of a pair, or a refusal's number and zeros
 unfoldable pub quoteOf : Board → ℕ → ℕ → Quoted
 quoteOf b m s =
     cond (eqb (quoteRefusal b m s) 0) (record { number = 0; wait = quotedWait b m s; serve = serveOf b m s })

@@ -1,4 +1,4 @@
-// The calls that look up the quoted wait of a pair: one on a board, one on a text.
+// The calls that look up wait and serve of a pair: one on a board, one on a text (rules 5.5, 5.7, 5.8).
 use common_numbers::BOARD_NUMBERS;
 use common_numbers::NO_MASTER;
 use common_numbers::NOT_CONNECTED;
@@ -14,14 +14,14 @@ ghost use Rattle.description_layout.specs.Layout.{boardIn};
 ghost use Rattle.wait.specs.Answers.{bytes64, pairRefusal, waitRefusal, waitOutput};
 ghost use Rattle.wait.specs.Calls.{quoteOf};
 
-// A refusal's number and zeros, or 0 with wait and serve of a pair, in clocks.
+// A refusal's number and zeros, or 0 with wait and serve of a pair, in clocks (rules 5.5, 5.7, 8.1).
 pub struct Quoted {
     pub number: u32,
     pub wait: u64,
     pub serve: u64,
 }
 
-// A number's bytes, the lowest first.
+// A number's bytes, the lowest first (rule 5.8).
 fn bytes64(n: u64) -> [u8; 8]
     ensures { λ r. ⌜ r ≡ bytes64 n ⌝ }
 {
@@ -37,7 +37,7 @@ fn bytes64(n: u64) -> [u8; 8]
     ]
 }
 
-// Writes wait and serve, 8 bytes each.
+// Writes wait and serve, 8 bytes each (rule 5.8).
 fn put_figures(out: &mut [u8], q: Quote) -> usize
     requires { ⌜ 16 ≤ length (now out) ⌝ }
     ensures { λ r. ⌜ Put (now (out .entry)) 0 (bytes64 (q .wait) ++ bytes64 (q .serve)) (now (out .exit)) r ⌝ }
@@ -48,7 +48,7 @@ fn put_figures(out: &mut [u8], q: Quote) -> usize
     common_text::put_bytes(&mut *out, behind, &serve)
 }
 
-// What a pair of a legal board that a wait is looked up for is refused for, or 0.
+// What a pair of a legal board that a wait is looked up for is refused for, or 0 (rules 7.11, 7.16).
 fn pair_refusal(board: &[u32; BOARD_NUMBERS], m: u32, s: u32) -> u32
     requires { ⌜ Legal (boardIn (now board)) ⌝ }
     ensures { λ r. ⌜ r ≡ pairRefusal (boardIn (now (board .entry))) m s ⌝ }
@@ -65,7 +65,7 @@ fn pair_refusal(board: &[u32; BOARD_NUMBERS], m: u32, s: u32) -> u32
     0
 }
 
-// Wait and serve of a pair of a board. The board need not come through the reader: its own lines are checked first.
+// Wait and serve of a pair of a board (rules 5.5, 5.7). The board need not come from the reader: it is judged first (rule 8.5).
 pub fn quote_of(board: &[u32; BOARD_NUMBERS], master: u32, slave: u32) -> Quoted
     ensures { λ q. ⌜ q ≡ quoteOf (boardIn (now (board .entry))) master slave ⌝ }
 {
@@ -93,8 +93,8 @@ pub fn quote_of(board: &[u32; BOARD_NUMBERS], master: u32, slave: u32) -> Quoted
     }
 }
 
-// Wait and serve of master m at slave s of the board that a text describes, as 16 bytes at the front of out. The answer is 0,
-// or a refusal's number; then out is as it was.
+// Wait and serve of master m at slave s of the board that a text describes, as 16 bytes at the front of out (rules 5.8, 8.6). The
+// answer is 0, or a refusal's number (rules 7.10, 8.4); then out is as it was (rule 8.1).
 pub fn wait_call(text: &[u8], master: u32, slave: u32, out: &mut [u8]) -> u32
     ensures { λ r. ⌜ r ≡ waitRefusal (now (text .entry)) master slave (now (out .entry)) ⌝ }
     ensures { λ r. ⌜ now (out .exit) ≡ waitOutput (now (text .entry)) master slave (now (out .entry)) ⌝ }

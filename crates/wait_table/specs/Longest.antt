@@ -1,17 +1,17 @@
--- How long a table can be.
+-- How long a table can be (rule 5.9).
 -- Assumes nothing.
 use Prim.Native.Nat.{ℕ, _+_, _*_}
 use lib.ListN.{replicate}
 use Rattle.common_laws.specs.Lists.{table}
 use Rattle.description_board.specs.declared.Board.{Board}
 
--- no accepted board's table has more bytes: the heading's 24, and for each of 8 masters 10 lines as "7,9,2336768,131072" and 6 as
--- "7,15,2336768,131072", each with its line feed
+-- no accepted board's table has more bytes: the first line's 24, and for each of 8 masters 10 lines as `7,9,2336768,131072` and 6
+-- as `7,15,2336768,131072`, each with its line feed
 unfoldable pub longestTable : ℕ
 longestTable = 24 + 8 * (10 * 19 + 6 * 20)
 
 -- an accepted board whose table has so many: the widest masters with the longest bursts and the most shares, at the narrowest
--- and slowest slaves
+-- slaves with the longest waits
 unfoldable pub largest : Board
 largest = record {
   «master_count» = 8;

@@ -1,4 +1,4 @@
--- A board's table, what `print_table` answers, and what the table program prints.
+-- A board's table, what `print_table` answers, and what the table program prints (rule 5.9).
 -- Assumes nothing.
 use mathlib.Core.Path.{_≡_}
 use mathlib.Core.Bool.{cond, not}
@@ -15,53 +15,55 @@ use Rattle.description.specs.Reader.{readText}
 use Rattle.wait_table.specs.declared.Printed.{Printed}
 use Rattle.wait_turns.specs.Waits.{quotedWait, serveOf}
 
--- the table's first line
+-- rule 5.9: the table's first line
 unfoldable pub heading : List ℕ
 heading = bytesOf "master,slave,wait,serve\n"
 
--- "one line per connected pair": master, slave, wait, serve
+-- rule 5.9: the line of master m at slave s; none where they are not connected
 unfoldable pub pairLine : Board → ℕ → ℕ → List ℕ
 pairLine b m s =
     cond (connected b m s) (lineText (digits m) (s ∷ quotedWait b m s ∷ serveOf b m s ∷ [])) []
 
--- "by master, then slave"
+-- rule 5.9: the lines of all pairs, for each master those of its slaves
 unfoldable pub pairLines : Board → List ℕ
 pairLines b = gather (λ m. gather (pairLine b m) (b .«slave_count»)) (b .«master_count»)
 
+-- rule 5.9: the table of a board
 unfoldable pub tableText : Board → List ℕ
 tableText b = heading ++ pairLines b
 
--- the table of the board that a text describes
+-- rule 5.9: the table of the board that a text describes
 unfoldable pub tableOf : List ℕ → List ℕ
 tableOf text = tableText (readText text .board)
 
--- 1 to 7, then 10: "output shorter than what is to be written"
+-- rules 7.10, 8.4: what `print_table` is refused for, or 0: the text for 1 to 7, then the output for 10
 unfoldable pub printRefusal : List ℕ → List ℕ → ℕ
 printRefusal text out =
     let n = readText text .number in
     cond (not (eqb n 0)) n (cond (ltb (length out) (length (tableOf text))) 10 0)
 
--- what `print_table` answers
+-- rule 8.1: what `print_table` answers: a refusal's number and 0, or 0 and how many bytes are written
 unfoldable pub printAnswer : List ℕ → List ℕ → Printed
 printAnswer text out = record {
   number = printRefusal text out;
   length = cond (eqb (printRefusal text out) 0) (length (tableOf text)) 0;
 }
 
--- the lent output on return: "in a longer one the bytes behind stay unchanged"
+-- rules 8.1, 8.6: the lent output on return
 unfoldable pub printOutput : List ℕ → List ℕ → List ℕ
 printOutput text out =
     cond (eqb (printRefusal text out) 0) (tableOf text ++ drop (length (tableOf text)) out) out
 
--- "For a refused text it prints `refused,`, the number and a line feed."
+-- rule 5.9: what is printed for a refused text
 unfoldable pub refusedText : ℕ → List ℕ
 refusedText n = lineText (bytesOf "refused") (n ∷ [])
 
--- what the table program prints
+-- rule 5.9: what the table program prints
 unfoldable pub printed : List ℕ → List ℕ
 printed text = let n = readText text .number in cond (eqb n 0) (tableOf text) (refusedText n)
 
--- a page whose first n bytes are that. `counted` follows from `within`; with both at hand `&page[..n]` needs no proof file.
+-- rule 5.9: a page whose first n bytes are what is printed. `counted` follows from `within`; with both at hand `&page[..n]` needs
+-- no proof file.
 pub record Page (text page : List ℕ) (n : ℕ) : Type 0 where
   pub within : n ≤ length page
   pub counted : n ≡ length (take n page)

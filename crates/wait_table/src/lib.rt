@@ -1,4 +1,4 @@
-// The table of a board: one line for each connected pair.
+// The table of a board: one line for each connected pair (rule 5.9).
 use common_numbers::BOARD_NUMBERS;
 use wait_turns::Quote;
 ghost use mathlib.Core.Path.{_≡_};
@@ -12,13 +12,13 @@ ghost use Rattle.wait_turns.specs.Code.Pairs.{PairOf};
 ghost use Rattle.wait_table.specs.Tables.{pairLine, pairLines, tableText, printAnswer, printOutput, Page};
 ghost use Rattle.wait_table.specs.Code.QuoteLine.{quoteLine};
 
-// A refusal's number and 0, or 0 and the count of bytes written.
+// A refusal's number and 0, or 0 and the count of bytes written (rule 8.1).
 pub struct Printed {
     pub number: u32,
     pub length: usize,
 }
 
-// Writes the table's line of a pair.
+// Writes the table's line of a pair (rule 5.9).
 fn put_quote(out: &mut [u8], at: usize, m: u32, s: u32, q: Quote) -> usize
     requires { ⌜ at + length (quoteLine m s q) ≤ length (now out) ⌝ }
     ensures { λ r. ⌜ Put (now (out .entry)) at (quoteLine m s q) (now (out .exit)) r ⌝ }
@@ -29,7 +29,7 @@ fn put_quote(out: &mut [u8], at: usize, m: u32, s: u32, q: Quote) -> usize
     common_text::put_end(&mut *out, end)
 }
 
-// Writes the line of master m at slave s, where they are connected.
+// Writes the line of master m at slave s, where they are connected (rule 5.9).
 fn put_pair(out: &mut [u8], at: usize, board: &[u32; BOARD_NUMBERS], m: u32, s: u32) -> usize
     requires { ⌜ PairOf (boardIn (now board)) m s ⌝ }
     requires { ⌜ at + length (pairLine (boardIn (now board)) m s) ≤ length (now out) ⌝ }
@@ -42,7 +42,7 @@ fn put_pair(out: &mut [u8], at: usize, board: &[u32; BOARD_NUMBERS], m: u32, s: 
     put_quote(&mut *out, at, m, s, q)
 }
 
-// Writes the lines of all pairs, by master, then slave: of n slaves, pair i is master i / n at slave i % n.
+// Writes the lines of all pairs (rule 5.9): of n slaves, pair i is master i / n at slave i % n.
 fn put_pairs(out: &mut [u8], at: usize, board: &[u32; BOARD_NUMBERS]) -> usize
     requires { ⌜ Legal (boardIn (now board)) ⌝ }
     requires { ⌜ at + length (pairLines (boardIn (now board))) ≤ length (now out) ⌝ }
@@ -60,11 +60,11 @@ fn put_pairs(out: &mut [u8], at: usize, board: &[u32; BOARD_NUMBERS]) -> usize
     next
 }
 
-// No accepted board's table has more bytes: the heading's 24, and for each of 8 masters 10 lines of 19 (a slave of one digit)
+// No accepted board's table has more bytes: the first line's 24, and for each of 8 masters 10 lines of 19 (a slave of one digit)
 // and 6 of 20.
 pub const LONGEST_TABLE: usize = 24 + 8 * (10 * 19 + 6 * 20);
 
-// Writes a board's table at the front of out.
+// Writes a board's table at the front of out (rule 5.9).
 fn put_table(out: &mut [u8], board: &[u32; BOARD_NUMBERS]) -> usize
     requires { ⌜ Legal (boardIn (now board)) ⌝ }
     requires { ⌜ length (tableText (boardIn (now board))) ≤ length (now out) ⌝ }
@@ -74,8 +74,8 @@ fn put_table(out: &mut [u8], board: &[u32; BOARD_NUMBERS]) -> usize
     put_pairs(&mut *out, at, board)
 }
 
-// The table of the board that a text describes, at the front of out. It is made aside, so that out stays as it was where it is
-// too short. An output of LONGEST_TABLE bytes has room for every table.
+// The table of the board that a text describes, at the front of out (rules 5.9, 8.6). It is made aside, so that out stays as it
+// was where it is too short (rules 7.10, 8.1). An output of LONGEST_TABLE bytes has room for every table.
 pub fn print_table(text: &[u8], out: &mut [u8]) -> Printed
     ensures answer { λ r. ⌜ r ≡ printAnswer (now (text .entry)) (now (out .entry)) ⌝ }
     ensures output { λ r. ⌜ now (out .exit) ≡ printOutput (now (text .entry)) (now (out .entry)) ⌝ }
@@ -106,8 +106,8 @@ pub fn print_table(text: &[u8], out: &mut [u8]) -> Printed
     }
 }
 
-// What the table program prints for a text, at the front of the page: the table, or the line that says what the text is
-// refused with. The answer is the count of bytes.
+// What the table program prints for a text, at the front of the page (rule 5.9): the table, or the line that says what the text
+// is refused with. The answer is the count of bytes.
 pub fn print_page(text: &[u8], page: &mut [u8; LONGEST_TABLE]) -> usize
     ensures { λ r. ⌜ Page (now (text .entry)) (now (page .exit)) r ⌝ }
 {

@@ -1,4 +1,4 @@
-// The quoted wait of a pair: singles, longest transfers, turns and their sum.
+// Wait and serve of a pair: singles, longest transfers, turns and their sum (rules 5.1 to 5.7).
 use common_numbers::BOARD_NUMBERS;
 use description_board::Master;
 use description_board::Slave;
@@ -9,13 +9,13 @@ ghost use Rattle.description_layout.specs.Layout.{boardIn};
 ghost use Rattle.wait_turns.specs.Waits.{longestAccess, mostBeats, single, serve, turn, otherTurn, turnsOf};
 ghost use Rattle.wait_turns.specs.Code.Pairs.{LegalBoth, SlaveOf, PairOf, figuresOf};
 
-// Wait and serve of a pair, in clocks.
+// Wait and serve of a pair, in clocks (rules 5.5, 5.7).
 pub struct Quote {
     pub wait: u64,
     pub serve: u64,
 }
 
-// The clocks of one access at most: 1 and the longer of the slave's two waits.
+// v, the clocks of one access at most (rule 5.1).
 pub fn longest_access(sl: Slave) -> u32
     requires { ⌜ LegalSlave sl ⌝ }
     ensures { λ r. ⌜ r ≡ longestAccess sl ⌝ }
@@ -26,7 +26,7 @@ pub fn longest_access(sl: Slave) -> u32
     1 + sl.read_wait
 }
 
-// The most beats of one transfer.
+// n, the most beats of one transfer (rule 5.3).
 pub fn most_beats(ma: Master, sl: Slave) -> u32
     requires { ⌜ LegalMaster ma ⌝ }
     ensures { λ r. ⌜ r ≡ mostBeats ma sl ⌝ }
@@ -38,7 +38,7 @@ pub fn most_beats(ma: Master, sl: Slave) -> u32
     words
 }
 
-// The clocks of a transfer of one beat. A ratio is at most 8, a burst 64 and v has 32 bits, so that no product here wraps.
+// The clocks of a transfer of one beat (rule 5.5). A ratio is at most 8, a burst 64 and v has 32 bits: no product here wraps.
 pub fn single(ma: Master, sl: Slave, v: u32) -> u64
     requires { ⌜ LegalBoth ma sl ⌝ }
     ensures { λ r. ⌜ r ≡ single ma sl v ⌝ }
@@ -46,7 +46,7 @@ pub fn single(ma: Master, sl: Slave, v: u32) -> u64
     (fabric_accesses::ratio(ma, sl) as u64) * (v as u64)
 }
 
-// The clocks of the longest transfer.
+// The clocks of the longest transfer, the serve (rule 5.5).
 pub fn serve(ma: Master, sl: Slave, v: u32) -> u64
     requires { ⌜ LegalBoth ma sl ⌝ }
     ensures { λ r. ⌜ r ≡ serve ma sl v ⌝ }
@@ -56,7 +56,7 @@ pub fn serve(ma: Master, sl: Slave, v: u32) -> u64
     beats * each * (v as u64)
 }
 
-// The clocks of a turn: a single for every share but one, and the longest transfer.
+// The clocks of a turn (rule 5.6): a single for every share but one, and the longest transfer.
 pub fn turn(ma: Master, sl: Slave, shares: u32, v: u32) -> u64
     requires { ⌜ LegalBoth ma sl × (shares ≤ 100) ⌝ }
     ensures { λ r. ⌜ r ≡ turn ma sl shares v ⌝ }
@@ -69,7 +69,7 @@ pub fn turn(ma: Master, sl: Slave, shares: u32, v: u32) -> u64
     singles + longest
 }
 
-// The turn of master k at slave s, where another master waits for it. The slave's record is handed on: it is read once.
+// The turn of master k at slave s, where another master waits for it (rules 5.6, 5.7). The slave is handed on: it is read once.
 fn other_turn(board: &[u32; BOARD_NUMBERS], sl: Slave, v: u32, m: u32, s: u32, k: u32) -> u64
     requires { ⌜ SlaveOf (boardIn (now board)) sl s × (k < boardIn (now board) .«master_count») ⌝ }
     ensures { λ r. ⌜ r ≡ otherTurn (boardIn (now (board .entry))) v m s k ⌝ }
@@ -89,7 +89,7 @@ fn other_turn(board: &[u32; BOARD_NUMBERS], sl: Slave, v: u32, m: u32, s: u32, k
     )
 }
 
-// The turns of the other masters at slave s, for any v. A turn is below 2 ^ 50, so the sum of 8 fits.
+// The turns of the other masters at slave s, for any v (rule 5.7). A turn is below 2 ^ 50, so the sum of 8 fits.
 fn turns_of(board: &[u32; BOARD_NUMBERS], sl: Slave, v: u32, m: u32, s: u32) -> u64
     requires { ⌜ SlaveOf (boardIn (now board)) sl s ⌝ }
     ensures { λ r. ⌜ r ≡ turnsOf (boardIn (now (board .entry))) v m s ⌝ }
@@ -104,7 +104,7 @@ fn turns_of(board: &[u32; BOARD_NUMBERS], sl: Slave, v: u32, m: u32, s: u32) -> 
     sum
 }
 
-// Wait and serve of master m at slave s. The longer wait is chosen once, for every turn.
+// Wait and serve of master m at slave s (rules 5.5, 5.7). The longer wait is chosen once, for every turn (rule 5.1).
 pub fn figures_of(board: &[u32; BOARD_NUMBERS], m: u32, s: u32) -> Quote
     requires { ⌜ PairOf (boardIn (now board)) m s ⌝ }
     ensures { λ q. ⌜ q ≡ figuresOf (boardIn (now (board .entry))) m s ⌝ }

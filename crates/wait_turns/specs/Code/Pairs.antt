@@ -1,4 +1,4 @@
--- What the code of the quoted wait assumes of an accepted board, and what it answers.
+-- Gives the code of wait_turns and wait_table its shape: what is asked of a legal board, and what is answered.
 -- Assumes nothing.
 use mathlib.Core.Path.{_≡_}
 use Prim.Native.Nat.{ℕ, _<_}
@@ -10,7 +10,7 @@ use Rattle.description_board.specs.Legal.{LegalMaster, LegalSlave, Legal}
 use Rattle.wait_turns.specs.declared.Quote.{Quote}
 use Rattle.wait_turns.specs.Waits.{quotedWait, serveOf}
 
--- a master and a slave whose values are in their lists and ranges
+-- a master and a slave whose values are in their lists and ranges (rules 1.6, 1.7)
 pub record LegalBoth (ma : Master) (sl : Slave) : Type 0 where
   pub master : LegalMaster ma
   pub slave : LegalSlave sl
@@ -27,6 +27,6 @@ pub record PairOf (b : Board) (m s : ℕ) : Type 0 where
   pub master : m < b .«master_count»
   pub slave : s < b .«slave_count»
 
--- wait and serve of a pair of a board
+-- wait and serve of a pair of a board (rules 5.5, 5.7)
 unfoldable pub figuresOf : Board → ℕ → ℕ → Quote
 figuresOf b m s = record { wait = quotedWait b m s; serve = serveOf b m s }
