@@ -1,4 +1,4 @@
--- A literal text as bytes, so that a definition can show a word or a table as the paper prints it.
+-- A literal text as bytes, so that a definition can show a word or a line as it is printed.
 -- Assumes nothing.
 use mathlib.Core.List.{List}
 use Prim.Native.Nat.{ℕ}

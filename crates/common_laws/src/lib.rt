@@ -1,1 +1,1 @@
-// Laws of lists, sums and finite tests; nothing here knows the bus.
+// Laws of lists, sums and finite tests; none is about the bus.

@@ -1,7 +1,7 @@
-// The numbers that the rules (docs/RULES.md) fix, each once: refusals, limits, and the lengths of what is lent. include/fabric.h has
-// those that C needs, under the same names with FABRIC_ in front; tests/names.py compares the two.
+// The numbers that the rules (docs/RULES.md) fix, each once: refusals, limits, and the lengths of what is lent.
+// include/fabric.h has those that C needs, under the same names with FABRIC_ in front; tests/names.py compares the two.
 
-// Refusal k is rule 7.k.
+// Refusal k is rule 7.k; 0: not refused.
 pub const TAKEN: u32 = 0;
 
 pub const BAD_TEXT: u32 = 1;
@@ -40,27 +40,27 @@ pub const PAST_END: u32 = 17;
 
 pub const BAD_WORDS: u32 = 18;
 
-// The last of them.
+// The highest refusal.
 pub const LAST_REFUSAL: u32 = BAD_WORDS;
 
-// Rule 1.1: the most masters and slaves; a share for each pair of them.
+// Rules 1.1, 1.8: the most masters and slaves, and the most pairs, each with a number for its shares.
 pub const MASTERS: usize = 8;
 
 pub const SLAVES: usize = 16;
 
 pub const PAIRS: usize = MASTERS * SLAVES;
 
-// Rule 1.2: the most bytes of a description, and a reader's room, so that it sees a longer one.
+// Rule 1.2: the most bytes of a description, and the room to read one into, with a byte more, so that a longer one is seen.
 pub const TEXT_BYTES: usize = 8192;
 
 pub const TEXT_ROOM: usize = TEXT_BYTES + 1;
 
-// Rule 1.3: the numbers of a slave line, the longest; the most that any line has.
+// Rule 1.3: the numbers of a slave line; no line of a description has more.
 pub const SLAVE_FIELDS: usize = 6;
 
 pub const LINE_NUMBERS: usize = SLAVE_FIELDS;
 
-// Rule 1.6.
+// Rule 1.6: the highest base, wait and shares.
 pub const MOST_BASE: u64 = 4294967295;
 
 pub const MOST_WAIT: u64 = 255;
@@ -70,13 +70,13 @@ pub const MOST_SHARES: u64 = 100;
 // Rule 1.7: the most bytes of all spans, and so of the memory.
 pub const MEMORY_BYTES: u64 = 65536;
 
-// Rule 2.2: the buffer, and one master's part of it.
+// Rule 2.2: the bytes of the buffer, and of one master's part of it.
 pub const BUFFER_BYTES: usize = 4096;
 
 pub const PART_BYTES: usize = 512;
 
-// What a board, a state and a clock's lines are as arrays: how many numbers each record has, where each kind begins, and how many
-// numbers there are.
+// What a board, a state and a clock's lines are as arrays (rules 1.10, 2.4, 4.13): how many numbers each record has, the index
+// where each kind begins, and how many numbers there are.
 pub const MASTER_NUMBERS: usize = 2;
 
 pub const SLAVE_NUMBERS: usize = SLAVE_FIELDS;

@@ -1,4 +1,4 @@
--- A number in decimal, as the writer and the table put it.
+-- A number in decimal, and a line with its fields, as the writer and the table put them (rules 1.2, 1.3, 1.5).
 -- Assumes nothing.
 use mathlib.Core.Bool.{cond}
 use mathlib.Core.List.{List, [], _∷_, _++_}
@@ -11,15 +11,15 @@ unfoldable pub digitsIn : ℕ → ℕ → List ℕ
 digitsIn zero n = []
 digitsIn (suc k) n = cond (ltb n 10) ((48 + n) ∷ []) (digitsIn k (n / 10) ++ ((48 + n % 10) ∷ []))
 
--- n in decimal, for n of at most 20 digits, as every number of 64 bits is
+-- rule 1.5: n in decimal, no 0 in front of other digits, for n of at most 20 digits, as every number of 64 bits is
 unfoldable pub digits : ℕ → List ℕ
 digits n = digitsIn 20 n
 
--- a comma and a number, for each number
+-- rule 1.2: a comma and a number, for each number
 unfoldable pub fieldsText : List ℕ → List ℕ
 fieldsText [] = []
 fieldsText (n ∷ ns) = comma ∷ (digits n ++ fieldsText ns)
 
--- a line: its first field, its numbers, the line feed
+-- rules 1.2, 1.3: a line of a text: its first field, its numbers, the line feed
 unfoldable pub lineText : List ℕ → List ℕ → List ℕ
 lineText word numbers = word ++ (fieldsText numbers ++ (lineFeed ∷ []))

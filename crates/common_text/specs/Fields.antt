@@ -1,4 +1,4 @@
--- Lines, fields and decimal numbers of a text.
+-- Lines, fields and decimal numbers of a text (rules 1.2, 1.3, 1.5).
 -- Assumes nothing.
 use mathlib.Core.Bool.{Bool, cond, not, _&&_}
 use mathlib.Core.List.{List, [], _∷_}
@@ -9,11 +9,11 @@ use Rattle.common_text.specs.declared.Number.{Number}
 use Rattle.common_text.specs.declared.Number.the-variants.{Malformed, Value}
 use Rattle.common_text.specs.declared.Numbers.{Numbers}
 
--- the byte that ends a line
+-- rule 1.2: the byte behind a line
 abbrev pub lineFeed : ℕ
 lineFeed = 10
 
--- the byte that parts fields
+-- rule 1.2: the byte between fields
 abbrev pub comma : ℕ
 comma = 44
 
@@ -22,34 +22,34 @@ unfoldable pub push : ℕ → List (List ℕ) → List (List ℕ)
 push c [] = (c ∷ []) ∷ []
 push c (p ∷ ps) = (c ∷ p) ∷ ps
 
--- the pieces of a text between the bytes `separator`: one more than there are such bytes
+-- rule 1.2: the pieces of a text between the bytes `separator`, one more than there are such bytes
 unfoldable pub split : ℕ → List ℕ → List (List ℕ)
 split separator [] = [] ∷ []
 split separator (c ∷ cs) = cond (eqb c separator) ([] ∷ split separator cs) (push c (split separator cs))
 
--- c is one of the bytes "0" to "9"
+-- rule 1.5: c is the byte of a digit, `0` to `9`
 unfoldable pub isDigit : ℕ → Bool
 isDigit c = leb 48 c && leb c 57
 
--- "Numbers are decimal": the number that the digits spell behind those of n. A difference stops at 0; the test keeps c from 48 on.
+-- rule 1.5: the number that the digits spell behind those of n. A difference stops at 0; the test leaves no c below 48.
 unfoldable pub scan : ℕ → List ℕ → Number
 scan n [] = Value n
 scan n (c ∷ cs) = cond (isDigit c) (scan (n * 10 + (c - 48)) cs) Malformed
 
--- "1 to 10 digits, without a leading zero except 0 itself". Of an empty field `getD` gives 0, which is no digit's byte.
+-- rule 1.5: the count of digits, and no 0 in front of other digits. Of an empty field `getD` gives 0, which is no digit's byte.
 unfoldable pub shaped : List ℕ → Bool
 shaped field = leb 1 (length field) && (leb (length field) 10 && not (eqb (getD field 0 0) 48 && ltb 1 (length field)))
 
--- the number that a field spells
+-- rule 1.5: the number that a field spells
 unfoldable pub numberOf : List ℕ → Number
 numberOf field = cond (shaped field) (scan 0 field) Malformed
 
--- refusal 1 of a field that is no number, else 0
+-- rule 7.1: refusal 1 of a field that is no number, else 0
 unfoldable pub numberRefusal : Number → ℕ
 numberRefusal Malformed = 1
 numberRefusal (Value n) = 0
 
--- the value of a field that is a number, else 0
+-- rule 1.5: the value of a field that is a number, else 0
 unfoldable pub numberValue : Number → ℕ
 numberValue Malformed = 0
 numberValue (Value n) = n
@@ -62,13 +62,13 @@ noNumbers = record { count = 0; values = replicate 6 0 }
 unfoldable pub withNumber : Numbers → ℕ → Numbers
 withNumber ns n = record { count = ns .count + 1; values = set (ns .values) (ns .count) n }
 
--- the numbers ns and then those of the fields; none where a field is malformed, or where they are more than 6 together
+-- rules 1.3, 7.1: the numbers ns, then those of the fields; none where a field is malformed, or together they are more than 6
 unfoldable pub collect : Numbers → List (List ℕ) → Numbers
 collect ns [] = ns
 collect ns (f ∷ fs) =
     cond (eqb (ns .count) 6) noNumbers
     (cond (eqb (numberRefusal (numberOf f)) 0) (collect (withNumber ns (numberValue (numberOf f))) fs) noNumbers)
 
--- the numbers of the fields behind a line's first
+-- rule 1.3: the numbers of the fields behind a line's first
 unfoldable pub numbersOf : List (List ℕ) → Numbers
 numbersOf fields = collect noNumbers fields

@@ -1,4 +1,4 @@
-// Bytes to fields and decimal numbers, and back.
+// Bytes to fields and decimal numbers, and back (rules 1.2, 1.3, 1.5).
 ghost use mathlib.Core.Path.{_≡_};
 ghost use mathlib.Core.List.{[], _∷_};
 ghost use Prim.Native.Nat.{_≤_, _<_, _+_};
@@ -8,19 +8,19 @@ ghost use Rattle.common_text.specs.Fields.{comma, lineFeed, split, scan,
 ghost use Rattle.common_text.specs.Digits.{digits, fieldsText, lineText};
 ghost use Rattle.common_text.specs.Code.Scanning.{behind, Cut, Put};
 
-// What a field spells.
+// What a field spells (rule 1.5).
 pub enum Number {
     Malformed,
     Value(u64),
 }
 
-// The numbers of a line's fields behind the first; none where a field is malformed or there are more than six.
+// The numbers of a line's fields behind the first (rule 1.3); none where one is malformed or there are more than six (rule 7.1).
 pub struct Numbers {
     pub count: u8,
     pub values: [u64; 6],
 }
 
-// The place of the first byte `b` of s, or the length of s where there is none: where the first piece of s ends.
+// The position of the first byte `b` of s, or the length of s where there is none: where the first piece of s ends (rule 1.2).
 pub fn find_byte(s: &[u8], b: u8) -> usize
     ensures { λ r. ⌜ Cut b (now (s .entry)) r ⌝ }
 {
@@ -34,7 +34,8 @@ pub fn find_byte(s: &[u8], b: u8) -> usize
     i
 }
 
-// Whether a and b hold the same bytes. The lengths go first, so that the loop can read both at one index.
+// Whether a and b hold the same bytes, as a line's first field and a word of rule 1.3. The lengths go first, so that the loop can
+// read both at one index.
 pub fn same(a: &[u8], b: &[u8]) -> bool
     ensures { λ r. ⌜ r ≡ same (now (a .entry)) (now (b .entry)) ⌝ }
 {
@@ -58,7 +59,7 @@ fn wide(x: u8) -> u64
     x as u64
 }
 
-// The number that the digits spell. Ten digits are below 2 ^ 64, so the value cannot wrap.
+// The number that the digits spell (rule 1.5). Ten digits are below 2 ^ 64, so the value cannot wrap.
 fn scan(s: &[u8]) -> Number
     requires { ⌜ length (now s) ≤ 10 ⌝ }
     ensures { λ r. ⌜ r ≡ scan 0 (now (s .entry)) ⌝ }
@@ -79,7 +80,7 @@ fn scan(s: &[u8]) -> Number
     Number::Value(value)
 }
 
-// The number that a whole field spells: 1 to 10 digits, with no leading zero except in 0 itself.
+// The number that a whole field spells (rule 1.5).
 pub fn number_of(field: &[u8]) -> Number
     ensures { λ r. ⌜ r ≡ numberOf (now (field .entry)) ⌝ }
 {
@@ -99,7 +100,7 @@ pub fn number_of(field: &[u8]) -> Number
     scan(field)
 }
 
-// No numbers: a line with no further field, and the answer for a malformed one.
+// No numbers: a line with no further field, and the answer for a malformed one (rule 7.1).
 fn no_numbers() -> Numbers
     ensures { λ r. ⌜ r ≡ noNumbers ⌝ }
 {
@@ -109,7 +110,7 @@ fn no_numbers() -> Numbers
     }
 }
 
-// One number more, where there is a place for it.
+// One number more, where there is room for it.
 fn with_number(ns: Numbers, n: u64) -> Numbers
     requires { ⌜ ns .count < 6 ⌝ }
     ensures { λ r. ⌜ r ≡ withNumber ns n ⌝ }
@@ -123,7 +124,7 @@ fn with_number(ns: Numbers, n: u64) -> Numbers
     }
 }
 
-// The numbers that the fields of a text spell. An empty text has one field, which is malformed.
+// The numbers that the fields of a text spell (rules 1.3, 7.1). An empty text has one field, which is malformed.
 pub fn numbers_of(fields: &[u8]) -> Numbers
     ensures { λ r. ⌜ r ≡ numbersOf (split comma (now (fields .entry))) ⌝ }
 {
@@ -151,7 +152,7 @@ pub fn numbers_of(fields: &[u8]) -> Numbers
     }
 }
 
-// The numbers of the fields behind a line's first, which ends at `place`: none where the line ends there.
+// The numbers of the fields behind a line's first, which ends at position `place` (rule 1.3): none where the line ends there.
 pub fn numbers_behind(line: &[u8], place: usize) -> Numbers
     ensures { λ r. ⌜ r ≡ numbersOf (behind comma (now (line .entry)) place) ⌝ }
 {
@@ -162,7 +163,7 @@ pub fn numbers_behind(line: &[u8], place: usize) -> Numbers
     no_numbers()
 }
 
-// Writes s into out from `at` on; the answer is the place behind it.
+// Writes s into out from position `at` on, for instance a word of rule 1.3; the answer is the position behind it.
 pub fn put_bytes(out: &mut [u8], at: usize, s: &[u8]) -> usize
     requires { ⌜ at + length (now s) ≤ length (now out) ⌝ }
     ensures { λ r. ⌜ Put (now (out .entry)) at (now (s .entry)) (now (out .exit)) r ⌝ }
@@ -175,7 +176,7 @@ pub fn put_bytes(out: &mut [u8], at: usize, s: &[u8]) -> usize
     at + i
 }
 
-// Writes n in decimal. The digits before the last go first, so that no length has to be known.
+// Writes n in decimal (rule 1.5). The digits before the last go first, so that no length has to be known.
 pub fn put_number(out: &mut [u8], at: usize, n: u64) -> usize
     requires { ⌜ at + length (digits n) ≤ length (now out) ⌝ }
     ensures { λ r. ⌜ Put (now (out .entry)) at (digits n) (now (out .exit)) r ⌝ }
@@ -189,7 +190,7 @@ pub fn put_number(out: &mut [u8], at: usize, n: u64) -> usize
     p + 1
 }
 
-// Writes a comma and n in decimal.
+// Writes a comma and n in decimal (rule 1.2).
 pub fn put_field(out: &mut [u8], at: usize, n: u64) -> usize
     requires { ⌜ at + (1 + length (digits n)) ≤ length (now out) ⌝ }
     ensures { λ r. ⌜ Put (now (out .entry)) at (comma ∷ digits n) (now (out .exit)) r ⌝ }
@@ -199,7 +200,7 @@ pub fn put_field(out: &mut [u8], at: usize, n: u64) -> usize
     put_number(&mut *out, next, n)
 }
 
-// Writes a comma and a number, for each number.
+// Writes a comma and a number, for each number (rule 1.2).
 pub fn put_fields(out: &mut [u8], at: usize, numbers: &[u64]) -> usize
     requires { ⌜ at + length (fieldsText (now numbers)) ≤ length (now out) ⌝ }
     ensures { λ r. ⌜ Put (now (out .entry)) at (fieldsText (now (numbers .entry))) (now (out .exit)) r ⌝ }
@@ -213,7 +214,7 @@ pub fn put_fields(out: &mut [u8], at: usize, numbers: &[u64]) -> usize
     next
 }
 
-// Writes the line feed that ends a line.
+// Writes the line feed behind a line (rule 1.2).
 pub fn put_end(out: &mut [u8], at: usize) -> usize
     requires { ⌜ at + 1 ≤ length (now out) ⌝ }
     ensures { λ r. ⌜ Put (now (out .entry)) at (lineFeed ∷ []) (now (out .exit)) r ⌝ }
@@ -222,7 +223,7 @@ pub fn put_end(out: &mut [u8], at: usize) -> usize
     at + 1
 }
 
-// Writes a line: its first field, its numbers, the line feed.
+// Writes a line: its first field, its numbers, the line feed (rules 1.2, 1.3).
 pub fn put_line(out: &mut [u8], at: usize, word: &[u8], numbers: &[u64]) -> usize
     requires { ⌜ at + length (lineText (now word) (now numbers)) ≤ length (now out) ⌝ }
     ensures { λ r. ⌜ Put (now (out .entry)) at (lineText (now (word .entry)) (now (numbers .entry))) (now (out .exit)) r ⌝ }
@@ -232,7 +233,7 @@ pub fn put_line(out: &mut [u8], at: usize, word: &[u8], numbers: &[u64]) -> usiz
     put_end(&mut *out, b)
 }
 
-// How many bytes n takes in decimal, so that a writer knows a text's length before it writes.
+// How many bytes n takes in decimal (rule 1.5), so that a writer knows a text's length before it writes.
 pub fn digit_count(n: u64) -> usize
     ensures { λ r. ⌜ r ≡ length (digits n) ⌝ }
 {
@@ -245,7 +246,7 @@ pub fn digit_count(n: u64) -> usize
     count
 }
 
-// How many bytes the fields of a line's numbers take. A line has at most six numbers, so that the sum cannot wrap.
+// How many bytes the fields of a line's numbers take (rule 1.2). A line has six numbers or fewer, so that the sum cannot wrap.
 pub fn fields_length(numbers: &[u64]) -> usize
     requires { ⌜ length (now numbers) ≤ 6 ⌝ }
     ensures { λ r. ⌜ r ≡ length (fieldsText (now (numbers .entry))) ⌝ }

@@ -1,4 +1,4 @@
--- What the functions that scan a text, and those that write one, say of the place they stop at.
+-- Gives the code of common_text, and of what writes text by it, its shape: the position where a scan or a write stops.
 -- Assumes nothing.
 use mathlib.Core.Path.{_≡_}
 use mathlib.Core.Bool.{cond}
@@ -9,18 +9,18 @@ use lib.ListN.{length, take, drop}
 use lib.Seq.{sets}
 use Rattle.common_text.specs.Fields.{split}
 
--- the pieces of s behind the separator at `place`; none where s ends there. `take` and `drop` of more than there is are all
--- of the list and none of it.
+-- the pieces of s behind the separator at position `place`; none where s ends there. `take` and `drop` of more than there is are
+-- all of the list and none of it.
 unfoldable pub behind : ℕ → List ℕ → ℕ → List (List ℕ)
 behind separator s place = cond (ltb place (length s)) (split separator (drop (place + 1) s)) []
 
--- `place` is where the first piece of s ends: at its first separator, or at its end
+-- `place` is the position where the first piece of s ends: at its first separator, or at its end
 pub record Cut (separator : ℕ) (s : List ℕ) (place : ℕ) : Type 0 where
   pub within : place ≤ length s
   pub pieces : split separator s ≡ take place s ∷ behind separator s place
 
--- `before` with the text stored from `at` on is `after`, and `next` is the place behind the text. `sets` stores byte after byte
--- and leaves out those past the end, so that the length stays.
+-- `before` with the text stored from position `at` on is `after`, and `next` is the position behind the text. `sets` stores byte
+-- after byte and leaves out those past the end, so that the length stays.
 pub record Put (before : List ℕ) (at : ℕ) (text : List ℕ) (after : List ℕ) (next : ℕ) : Type 0 where
   pub end : next ≡ at + length text
   pub bytes : after ≡ sets before at text
