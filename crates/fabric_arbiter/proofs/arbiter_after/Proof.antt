@@ -3,19 +3,15 @@ use borrow.Author.Needs.{needs}
 use Rattle.fabric_arbiter.proofs.arbiter_after.Statement.{statement}
 use Rattle.fabric_arbiter.proofs.arbiter_after.Tie as tie
 
--- src/lib.rt:112:24
 enum-known-g : tie.Need-enum-known-g
 enum-known-g c = search needs
 
--- src/lib.rt:116:26
 enum-told : tie.Need-enum-told
 enum-told c = search needs
 
--- src/lib.rt:108:1
 returns : tie.Need-returns
 returns c = after-granted _ _ _ _ (c .before .g .given .1)
 
--- src/lib.rt:108:1
 returns-2 : tie.Need-returns-2
 returns-2 c = after-silent _ _ (c .enum-told .given .1)
 

@@ -12,38 +12,30 @@ Inv-loop requests n owner m₀ left₀ m left = tried (bit requests) n (nextMast
 abbrev μ-loop : tie.MeasureT-loop
 μ-loop requests n owner m₀ left₀ m left = left
 
--- src/lib.rt:54:9
 loop-holds : tie.Need-loop-holds Inv-loop μ-loop
 loop-holds c = refl
 
--- src/lib.rt:58:9
 next-master-requires : tie.Need-next-master-requires Inv-loop μ-loop
 next-master-requires c κs = search needs
 
--- src/lib.rt:59:12
 is-requesting-requires : tie.Need-is-requesting-requires Inv-loop μ-loop
 is-requesting-requires c κs = search needs
 
--- src/lib.rt:62:9
 sub-left : tie.Need-sub-left Inv-loop μ-loop
 sub-left c = search needs
 
--- src/lib.rt:54:9
 loop-less : tie.Need-loop-less Inv-loop μ-loop
 loop-less c = search needs
 
--- src/lib.rt:54:9
 loop-again : tie.Need-loop-again Inv-loop μ-loop
 loop-again c = let a = c .before .before in
     turn-on _ _ _ _ _ _ (a .before .before .loop .inv) (a .before .if1 .left) (a .next-master .ensures)
     (sym (c .before .is-requesting .ensures) ∙ c .if2 .left)
 
--- src/lib.rt:49:1
 returns : tie.Need-returns Inv-loop μ-loop
 unfolding firstRequester
 returns c = sym (c .before .loop .inv ∙ tried-none _ _ _ _ (c .if1 .taken))
 
--- src/lib.rt:49:1
 returns-2 : tie.Need-returns-2 Inv-loop μ-loop
 unfolding firstRequester
 returns-2 c = let a = c .before .before in

@@ -6,21 +6,17 @@ use borrow.Author.Needs.{needs}
 use Rattle.fabric_arbiter.proofs.next_master.Statement.{statement}
 use Rattle.fabric_arbiter.proofs.next_master.Tie as tie
 
--- src/lib.rt:42:9
 returns : tie.Need-returns
 unfolding nextMaster
 returns c = rw (le-ltb (c .before .args .m + 1) (c .before .args .n) (omega arith))
 
--- src/lib.rt:44:14
 add-up : tie.Need-add-up
 add-up c = search needs
 
--- src/lib.rt:38:1
 returns-2 : tie.Need-returns-2
 unfolding nextMaster
 returns-2 c = rw (lt-ltb _ _ (c .if2 .taken))
 
--- src/lib.rt:38:1
 returns-3 : tie.Need-returns-3
 unfolding nextMaster
 returns-3 c = rw (le-ltb _ _ (c .if2 .left))
