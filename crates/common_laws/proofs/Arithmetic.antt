@@ -2,11 +2,11 @@
 -- Assumes nothing.
 use mathlib.Core.Path.{_≡_, sym, ap, _∙_, subst}
 use Prim.Native.Nat.{ℕ, _+_, _-_, _*_, _/_, _%_, _^_, _≤_, _<_}
-use native.Mathlib.Nat.{mul-le-mul, mul-le-mul-right, add-mul, one-mul, lt-of-lt-of-le}
-use native.Mathlib.Nat.{mod-lt, div-eq-of-lt, div-add-mod', div-lt-iff-lt-mul, div-mul-cancel}
+use native.Mathlib.Nat.{mul-le-mul, mul-le-mul-right, add-mul, one-mul}
+use native.Mathlib.Nat.{mod-lt, div-add-mod', div-lt-iff-lt-mul, div-mul-cancel}
 use native.Mathlib.Nat.{dvd-trans, dvd-add, dvd-sub, dvd-mod-iff, le-of-dvd, dvd-of-mod-eq-zero, mod-eq-zero-of-dvd}
 use native.Mathlib.Omega.{arith}
-use lib.Pow.{pow-pos, pow-mono, shl-lt, shl-exact}
+use lib.Pow.{pow-pos, shl-exact}
 use lib.Bits.{bitAnd, and-mask}
 
 -- a product of two bounded numbers
@@ -17,15 +17,7 @@ product-le a b m n p q = mul-le-mul p q
 pub less-remainder : (a b : ℕ) → a - a % b ≡ a / b * b
 less-remainder a b = omega (arith, div-add-mod' a b)
 
--- every digit is shifted out
-pub shifted-out : (n j k : ℕ) → n < 2 ^ j → j ≤ k → n / 2 ^ k ≡ 0
-shifted-out n j k h l = div-eq-of-lt (lt-of-lt-of-le h (pow-mono l))
-
--- the j low digits of n, moved up to digit k, are below 2 ^ w
-pub field-lt : (n j k w : ℕ) → j + k ≤ w → n % 2 ^ j * 2 ^ k < 2 ^ w
-field-lt n j k w h = lt-of-lt-of-le (shl-lt j k (mod-lt n (pow-pos j))) (pow-mono h)
-
--- and a mask and a shift of w digits give them
+-- a mask and a shift in w digits give the j low digits of n, moved up to digit k
 pub field-of : (n j k w : ℕ) → j + k ≤ w → bitAnd n (2 ^ j - 1) * 2 ^ k % 2 ^ w ≡ n % 2 ^ j * 2 ^ k
 field-of n j k w h =
     ap (λ (x : ℕ). x * 2 ^ k % 2 ^ w) (and-mask n j) ∙ shl-exact j k w (mod-lt n (pow-pos j)) h

@@ -1,18 +1,17 @@
 -- A list of f 0, f 1, .. that a loop fills place by place.
 -- Assumes nothing.
 use mathlib.Core.Path.{_≡_, refl, sym, ap, _∙_}
-use mathlib.Core.Bool.{Bool, true, false, cond, _&&_, _||_}
+use mathlib.Core.Bool.{Bool, true, false, cond}
 use mathlib.Core.List.{List}
 use mathlib.Core.Logic.{_⊎_, inl, inr}
 use Prim.Native.Nat.{ℕ, zero, suc, _+_, _≤_, _<_}
 use native.Mathlib.Decide.{ℕ-discrete}
-use native.Mathlib.Numerals.{add-one}
 use native.Mathlib.Omega.{arith}
 use lib.Dec.{ltb, eqb}
 use lib.ListN.{length, getD, set, length-set}
 use lib.Seq.{getD-set-same, getD-set-other, ext-getD}
 use borrow.Author.Tests.{lt-ltb, le-ltb, eq-eqb, ne-eqb, ltb-true, ltb-false}
-use Rattle.common_laws.specs.Lists.{table, sum, some}
+use Rattle.common_laws.specs.Lists.{table, sum}
 use Rattle.common_laws.proofs.TableLaws.{length-table, getD-table}
 use Rattle.common_laws.proofs.FrontLaws.{table-same}
 
@@ -71,30 +70,6 @@ module _ {X : Type 0} (f g : ℕ → X) (n : ℕ) where
   pub filled-all : (i : ℕ) {l : List X} → n ≤ i → l ≡ filled f g n i → l ≡ table f n
   unfolding filled
   filled-all i h e = e ∙ table-same _ _ n (λ k j. rw (lt-ltb k i (omega arith)))
-
-last : (a b : Bool) → (a || b) ≡ (a || (b && true))
-last a true = refl
-last a false = refl
-
-other : (a b : Bool) → a ≡ (a || (b && false))
-other true b = refl
-other false true = refl
-other false false = refl
-
--- whether some number below i passes, for each of n tests: the number i passes at most the test of place o
-module _ (test : ℕ → ℕ → Bool) (n i o : ℕ) {l : List Bool} (on : Bool) where
-  pub some-next : o < n → l ≡ table (λ m. some (test m) i) n → ((m : ℕ) → test m i ≡ (on && eqb o m))
-      → set l o (getD l o false || on) ≡ table (λ m. some (test m) (i + 1)) n
-  unfolding some
-  some-next h e f =
-      rw (e, add-one i)
-      (set-table (λ m. some (test m) i) n o _ ∙ table-same _ _ n (λ m k. go m (ℕ-discrete m o)))
-    where
-      go : (m : ℕ) → Dec (m ≡ o)
-          → cond (eqb m o) (getD (table (λ j. some (test j) i) n) o false || on) (some (test m) i) ≡ (some (test m) i || test m i)
-      go m (yes p) =
-          rw (p, f o, eq-eqb o o refl, getD-table (λ j. some (test j) i) n false o h) (last (some (test o) i) on)
-      go m (no p) = rw (f m, ne-eqb m o p, ne-eqb o m (λ e. p (sym e))) (other (some (test m) i) on)
 
 -- a table in which only place s is another
 pub table-put : {X : Type 0} (f g : ℕ → X) (n s : ℕ) (x : X) → g s ≡ x → ((i : ℕ) → (i ≡ s → ⊥) → g i ≡ f i)

@@ -18,11 +18,6 @@ use Rattle.description.specs.Blame.{firstRefused, chargedLine, refusedAt
 use Rattle.description.proofs.BlameLaws.{first-taken, first-refused}
 use Rattle.description.proofs.ReadLaws.{reading-short}
 
--- the number is the reader's
-pub number-read : (s : List ℕ) → refusedAt s .number ≡ readText s .number
-unfolding refusedAt
-number-read s = refl
-
 -- a list whose lines are all taken, up to its end, has no line refused
 first-none : (n : ℕ) (r : Reading) (xs : List Item) → finish (stepAll r xs) .number ≡ 0 → firstRefused n r xs ≡ 0
 unfolding firstRefused stepAll

@@ -2,18 +2,12 @@
 -- describe comes back as it is.
 -- Assumes nothing.
 use mathlib.Core.Path.{_≡_, refl, ap, _∙_}
-use mathlib.Core.Bool.{Bool, true, false, cond}
-use mathlib.Core.List.{List, [], _∷_}
-use Prim.Native.Nat.{ℕ, _+_, _/_, _%_, _≤_}
+use mathlib.Core.List.{List}
 use native.Mathlib.Omega.{arith}
-use lib.Dec.{eqb}
-use lib.ListN.{length, getD, length-append}
-use Rattle.common_laws.proofs.FrontLaws.{gather-same, table-same, length-gather, front, front-is, front-all}
-use Rattle.common_laws.proofs.TableLaws.{length-table}
+use lib.ListN.{getD}
+use Rattle.common_laws.proofs.FrontLaws.{gather-same, table-same, front, front-is, front-all}
 use Rattle.description_board.specs.declared.Board.{Board}
 use Rattle.description_board.specs.declared.Item.{Item}
-use Rattle.description_board.specs.declared.Item.the-variants.{ShareLine}
-use Rattle.description_board.specs.declared.Reading.{Reading}
 use Rattle.description_board.specs.Records.{noMaster, noSlave, masterAt, slaveAt}
 use Rattle.description_board.specs.Rules.{described}
 use Rattle.description_board.specs.Items.{masterItem, slaveItem, shareItem, items, boardRefusal}
@@ -60,22 +54,3 @@ module _ (xs : List Item) (e : described xs .number ≡ 0) where
 
   pub described-trimmed : trimmed (described xs .board) ≡ described xs .board
   described-trimmed = trimmed-sound _ (described-sound xs e)
-
-  pub described-again : described (items (described xs .board)) .board ≡ described xs .board
-  described-again = ap (λ (r : Reading). r .board) (rebuilt _ described-accepted) ∙ described-trimmed
-
--- the number of the writer's lines
-share-one : (shares : List ℕ) (i : ℕ) → length (shareItem shares i) ≤ 1
-unfolding shareItem
-share-one shares i = go (eqb (getD shares i 0) 0)
-  where
-    go : (c : Bool) → length (cond c [] (ShareLine (i / 16) (i % 16) (getD shares i 0) ∷ [])) ≤ 1
-    go true = omega arith
-    go false = omega arith
-
-pub length-items : (b : Board) → boardRefusal b ≡ 0 → length (items b) ≤ 8 + 16 + 128
-unfolding items
-length-items b e =
-    let k = accepted-legal b e in
-    simp (length-append, length-table)
-    (omega (arith, length-gather (shareItem (b .shares)) 128 (share-one (b .shares)), k .fewMasters, k .fewSlaves))

@@ -1,4 +1,4 @@
--- "the order among share lines is free": the share lines of an accepted description, in another order, give the same reading.
+-- Share lines may stand in any order (rule 1.4): those of an accepted description, in another order, give the same reading.
 -- Assumes nothing.
 use mathlib.Core.Path.{_≡_, refl, sym, ap, _∙_}
 use mathlib.Core.List.{List, [], _∷_, _++_, map}
@@ -81,19 +81,6 @@ steps-exchanged r x y e =
     (record { low = t .low; high = t .high; master-there = t .master-there; slave-there = t .slave-there; unset = c .1 }) in
     rw (first, second, q .2, p .2, c .2)
 
--- at any place among accepted lines
-pub lines-exchanged : (r : Reading) (xs ys : List Item) (x y : Share) → stepAll r (xs ++ (line x ∷ line y ∷ ys)) .number ≡ 0
-    → stepAll r (xs ++ (line y ∷ line x ∷ ys)) ≡ stepAll r (xs ++ (line x ∷ line y ∷ ys))
-unfolding stepAll
-lines-exchanged r xs ys x y e =
-    let t = stepAll r xs in
-    let a : stepAll (step (step t (line x)) (line y)) ys .number ≡ 0 = rw (run-append r xs (line x ∷ line y ∷ ys)) at e in
-    rw (
-      run-append r xs (line y ∷ line x ∷ ys),
-      run-append r xs (line x ∷ line y ∷ ys),
-      steps-exchanged t x y (run-accepted (step (step t (line x)) (line y)) ys a),
-    )
-
 -- accepted share lines, and the same in another order
 lines-reordered : (r : Reading) {ss ss′ : List Share} → List·Permᴰ ss ss′ → stepAll r (map line ss) .number ≡ 0
     → stepAll r (map line ss′) ≡ stepAll r (map line ss)
@@ -108,7 +95,7 @@ lines-reordered r (List·Permᴰ·trans c d) e =
     let f = lines-reordered r c e in
     lines-reordered r d (ap (λ (t : Reading). t .number) f ∙ e) ∙ f
 
--- "Masters come first, then slaves, then shares; the order among share lines is free.": an accepted description keeps its board
+-- share lines may stand in any order (rule 1.4): an accepted description keeps its board
 pub share-order : (xs : List Item) {ss ss′ : List Share} → List·Permᴰ ss ss′ → described (xs ++ map line ss) .number ≡ 0
     → described (xs ++ map line ss′) ≡ described (xs ++ map line ss)
 unfolding described

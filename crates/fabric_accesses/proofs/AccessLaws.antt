@@ -9,7 +9,7 @@ use native.Mathlib.Omega.{arith}
 use lib.Dec.{T, eqb, ltb, eqb→eq}
 use borrow.Author.Tests.{ltb-true}
 use Rattle.common_laws.specs.Lists.{member, agree}
-use Rattle.common_laws.proofs.Arithmetic.{field-lt, multiple-trans, multiple-add, multiple-sub, multiple-room, rounded-room}
+use Rattle.common_laws.proofs.Arithmetic.{multiple-trans, multiple-add, multiple-sub, multiple-room, rounded-room}
 use Rattle.common_laws.proofs.Finite.{agree-eq}
 use Rattle.common_laws.proofs.Members.{all, of-member}
 use Rattle.description_board.specs.declared.Master.{Master}
@@ -33,12 +33,6 @@ module _ (ma : Master) (sl : Slave) (t : Transfer) (a : ℕ) where
   pub write-slave-lanes : t .write ≡ true → slaveLanes ma sl t a ≡ writeLanes ma sl t a
   unfolding slaveLanes
   write-slave-lanes e = ap (λ (b : Bool). cond b (writeLanes ma sl t a) (allLanes (sl .width))) e
-
-  -- a write's lanes are among 8
-  pub write-lanes-lt : InWord ma sl t a → writeLanes ma sl t a < 256
-  unfolding writeLanes
-  write-lanes-lt w =
-      field-lt _ (accessBytes ma sl) (accessOffset ma sl t a % sl .width) 8 (omega (arith, w .width, w .inside))
 
 -- the accesses of a beat: some, and no more than the master's width counts
 pub ratio-pos : (ma : Master) (sl : Slave) → 0 < sl .width → 1 ≤ ratio ma sl

@@ -1,4 +1,4 @@
--- One clock after another: the next one may run too, and where nobody is finished the requests are those of before.
+-- One clock after another: where nobody is finished, the requests are those of before.
 -- Assumes nothing.
 use mathlib.Core.Path.{_≡_, sym, ap, _∙_}
 use mathlib.Core.Bool.{false}
@@ -17,10 +17,8 @@ use Rattle.fabric_state.specs.declared.State.{State}
 use Rattle.fabric_state.specs.declared.Line.{Line}
 use Rattle.fabric_state.specs.Control.{finished, maskOf, transferAfter, stateAfter}
 use Rattle.fabric_state.proofs.StateLaws.{mask-bit, transfer-kept}
-use Rattle.fabric_state.proofs.SoundLaws.{sound-test, clock-sound}
 use Rattle.fabric_check.specs.Code.Targets.{targetsIn, requestMask}
-use Rattle.fabric_cycle.specs.Code.Cycles.{Passes, Clocks}
-use Rattle.fabric_cycle.proofs.PassLaws.{runs-legal, runs-sound}
+use Rattle.fabric_cycle.specs.Code.Cycles.{Clocks}
 
 -- for a state of 8 transfers
 module _ (b : Board) (u : State) (l : length (u .transfers) ≡ 8) where
@@ -36,14 +34,6 @@ module _ (b : Board) (u : State) (l : length (u .transfers) ≡ 8) where
 -- the state v, the mask r and the bytes e that a clock leaves of the state u and the bytes d
 module _ (b : Board) (u v : State) (shown : List Line) (r : ℕ) (d e : Store) (l : length (u .transfers) ≡ 8)
     (c : Clocks b u v shown r d e) where
-  pub runs-again : length (u .slots) ≡ 16 → Passes b u → Passes b v
-  runs-again k p = record {
-    board = p .board;
-    state = rw (c .state)
-        (sound-test b (stateAfter b u) (runs-legal b u l k p)
-        (clock-sound b u (runs-legal b u l k p) (runs-sound b u l k p)));
-  }
-
   pub same-transfers : r ≡ 0 → v .transfers ≡ u .transfers
   same-transfers z = ap (λ (x : State). x .transfers) (c .state) ∙ transfers-kept b u l (sym (c .mask) ∙ z)
 

@@ -43,9 +43,6 @@ module _ (l : List ℕ) where
   pub slots-begin : (f : ℕ → Slot) → stateIn l .slots ≡ filled f (slotAt (stateIn l)) 16 0
   slots-begin f = filled-none f (slotAt (stateIn l)) 16 noSlot (stateIn l .slots) slots-length (λ i h. refl)
 
-  pub lines-begin : (f : ℕ → Line) → linesIn l ≡ filled f (λ i. getD (linesIn l) i noLine) 16 0
-  lines-begin f = filled-none f (λ i. getD (linesIn l) i noLine) 16 noLine (linesIn l) lines-length (λ i h. refl)
-
   -- a loop that clears the lines from n on
   pub clear-begin : (n : ℕ)
       → linesIn l ≡ filled (λ i. cond (ltb i n) (getD (linesIn l) i noLine) noLine) (λ i. getD (linesIn l) i noLine) 16 n
@@ -87,10 +84,6 @@ module _ (u v : State) where
   pub transfers-put : (m : ℕ) (t : Transfer) → u ≡ withTransfer v m t → u .transfers ≡ set (v .transfers) m t
   unfolding withTransfer
   transfers-put m t e = ap (λ (y : State). y .transfers) e
-
-  pub slots-left : (m : ℕ) (t : Transfer) → u ≡ withTransfer v m t → u .slots ≡ v .slots
-  unfolding withTransfer
-  slots-left m t e = ap (λ (y : State). y .slots) e
 
   pub slots-put : (s : ℕ) (x : Slot) → u ≡ withSlot v s x → u .slots ≡ set (v .slots) s x
   unfolding withSlot

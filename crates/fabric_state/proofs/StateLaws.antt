@@ -83,15 +83,6 @@ module _ (b : Board) (st : State) where
       → stepOf b st s .line .owner ≢ m
   unfinished-at m e s h f q = true≢false (sym (finished-here m s h f q) ∙ e)
 
-  pub unfinished : (m : ℕ)
-      → ((s : ℕ) → s < b .«slave_count» → stepOf b st s .finished ≡ true → stepOf b st s .line .owner ≢ m)
-      → finished b st m ≡ false
-  unfinished m f = go (finished b st m) refl
-    where
-      go : (c : Bool) → finished b st m ≡ c → finished b st m ≡ false
-      go true e = let r = finished-by m e in absurd (f (r .0) (r .1) (r .2) (r .3))
-      go false e = e
-
   pub transfer-finished : (m : ℕ) → finished b st m ≡ true → transferAfter b st m ≡ noTransfer
   unfolding transferAfter
   transfer-finished m e = rw e

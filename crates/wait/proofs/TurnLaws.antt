@@ -1,57 +1,20 @@
--- What the quoted figures say to a planner: turns, singles, the longest transfer; how large they get; their 16 bytes.
+-- The quoted figures of a legal board fit 64 bits, and the 16 bytes of a wait call spell them.
 -- Assumes nothing.
-use mathlib.Core.Path.{_≡_, refl, sym, ap, _∙_}
-use mathlib.Core.Bool.{cond, not, _&&_}
+use mathlib.Core.Path.{_≡_, sym, ap, _∙_}
 use mathlib.Core.List.{List, _++_, append-assoc}
-use Prim.Native.Nat.{ℕ, zero, suc, _+_, _-_, _*_, _/_, _%_, _^_, _<_}
-use native.Mathlib.Nat.{mul-assoc, mul-comm, add-mul, pow-suc, suc-mul, div-add-mod', div-div-eq-div-mul, mod-eq-of-lt}
+use Prim.Native.Nat.{ℕ, zero, suc, _+_, _*_, _/_, _%_, _^_, _<_}
+use native.Mathlib.Nat.{mul-assoc, mul-comm, add-mul, pow-suc, div-add-mod', div-div-eq-div-mul, mod-eq-of-lt}
 use native.Mathlib.Omega.{arith}
-use lib.Dec.{eqb}
 use lib.ListN.{length, drop, List·getD-append}
 use lib.Seq.{drop-at}
 use Rattle.common_laws.specs.Lists.{sum}
 use Rattle.common_laws.proofs.FillLaws.{sum-same}
 use Rattle.common_laws.proofs.TableLaws.{length-table, getD-table}
-use Rattle.description_board.specs.declared.Master.{Master}
-use Rattle.description_board.specs.declared.Slave.{Slave}
 use Rattle.description_board.specs.declared.Board.{Board}
-use Rattle.description_board.specs.Records.{masterAt, slaveAt, sharesAt, connected}
 use Rattle.description_board.specs.Legal.{Legal}
-use Rattle.fabric_accesses.specs.Accesses.{ratio}
-use Rattle.wait_turns.specs.Waits.{longestAccess, mostBeats, single, serve, turn, otherTurn, turnsOf, quotedWait, serveOf}
+use Rattle.wait_turns.specs.Waits.{quotedWait, serveOf}
 use Rattle.wait.specs.Answers.{bytes64, spelled, pairBytes}
 use Rattle.wait_turns.proofs.Bounds.{wait-small, serve-small}
-
--- the wait is the sum of the turns of all other masters connected to the slave
-pub wait-turns : (b : Board) (m s : ℕ)
-    → quotedWait b m s
-    ≡ sum
-    (λ k. cond (connected b k s && not (eqb k m)) (turn (masterAt b k) (slaveAt b s) (sharesAt b k s) (longestAccess (slaveAt b s))) 0)
-    (b .«master_count»)
-unfolding quotedWait turnsOf otherTurn
-wait-turns b m s = refl
-
-module _ (ma : Master) (sl : Slave) (v : ℕ) where
-  -- a turn is shares − 1 singles and one longest transfer
-  pub turn-parts : (shares : ℕ) → turn ma sl shares v ≡ (shares - 1) * single ma sl v + serve ma sl v
-  unfolding turn
-  turn-parts shares = refl
-
-  -- one share is the longest transfer alone, and each further share a single more
-  pub turn-one : turn ma sl 1 v ≡ serve ma sl v
-  unfolding turn
-  turn-one = omega arith
-
-  pub turn-more : (shares : ℕ) → 0 < shares → turn ma sl (shares + 1) v ≡ turn ma sl shares v + single ma sl v
-  unfolding turn
-  turn-more shares h =
-      let e : shares + 1 - 1 ≡ suc (shares - 1) = omega arith in
-      rw (e, suc-mul) (omega arith)
-
-  -- the longest transfer is as long as its beats in singles
-  pub serve-singles : serve ma sl v ≡ mostBeats ma sl * single ma sl v
-  unfolding serve single
-  serve-singles = mul-assoc (mostBeats ma sl) (ratio ma sl) v
 
 -- the figures of a legal board fit 64 bits
 module _ (b : Board) (legal : Legal b) (m s : ℕ) (hm : m < b .«master_count») (hs : s < b .«slave_count») where
