@@ -11,7 +11,7 @@ use Rattle.description_board.specs.declared.Item.{Item}
 use Rattle.description_board.specs.declared.Item.the-variants.{Malformed}
 use Rattle.description_board.specs.declared.Reading.{Reading}
 use Rattle.description_board.specs.Rules.{refused, start, step, stepAll, finish, described}
-use Rattle.description_board.proofs.RunLaws.{run-stays, finish-stays}
+use Rattle.description_board.proofs.StepAllLaws.{run-stays, finish-stays}
 use Rattle.description_layout.specs.Layout.{boardIn}
 use Rattle.description_rules.specs.declared.Progress.{Progress}
 use Rattle.description_rules.specs.Code.Readings.{readingOf}
@@ -22,7 +22,7 @@ use Rattle.description.specs.declared.Refusal.{Refusal}
 use Rattle.description.specs.Blame.{firstRefused, chargedLine, refusedAt}
 use Rattle.description.specs.Lent.{Read}
 use Rattle.description.specs.Code.Reading.{Comes}
-use Rattle.description.proofs.ReadLaws.{reading-short, reading-long}
+use Rattle.description.proofs.TextLengths.{reading-short, reading-long}
 
 -- one line more
 module _ (n : ℕ) (r q : Reading) (x : Item) (xs : List Item) (eq : q ≡ step r x) where

@@ -11,12 +11,12 @@ use borrow.Author.Tests.{eqb-true, eqb-false, ltb-false}
 use Rattle.description_board.specs.declared.Item.{Item}
 use Rattle.description_board.specs.declared.Reading.{Reading}
 use Rattle.description_board.specs.Rules.{refused, start, step, stepAll, finish, described}
-use Rattle.description_board.proofs.RunLaws.{run-stays, finish-stays}
+use Rattle.description_board.proofs.StepAllLaws.{run-stays, finish-stays}
 use Rattle.description_lines.specs.Reader.{itemsOf}
 use Rattle.description.specs.Reader.{mostBytes, reading, readText}
 use Rattle.description.specs.Blame.{firstRefused, chargedLine, refusedAt}
 use Rattle.description.proofs.BlameLaws.{first-taken, first-refused}
-use Rattle.description.proofs.ReadLaws.{reading-short}
+use Rattle.description.proofs.TextLengths.{reading-short}
 
 -- a list whose lines are all taken, up to its end, has no line refused
 first-none : (n : ℕ) (r : Reading) (xs : List Item) → finish (stepAll r xs) .number ≡ 0 → firstRefused n r xs ≡ 0

@@ -1,6 +1,6 @@
-pub mod ReadLaws
+pub mod TextLengths
 pub mod BlameLaws
 pub mod Charged
-pub mod WriteLaws
+pub mod BoardText
 pub mod LineTrip
 pub mod Trip

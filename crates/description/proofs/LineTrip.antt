@@ -28,7 +28,7 @@ use Rattle.description_lines.specs.Writer.{slaveFields, itemText, itemsText}
 use Rattle.description_lines.proofs.ReadLaws.{items-more}
 use Rattle.description.specs.Writer.{writeText}
 use Rattle.description.specs.Longest.{longest}
-use Rattle.description.proofs.WriteLaws.{gather-most, lines-most, length-parts, pair-none, pair-some}
+use Rattle.description.proofs.BoardText.{gather-most, lines-most, length-parts, pair-none, pair-some}
 
 -- each number of the line has at most 10 digits, as every number has that a line can hold
 abbrev pub Writable : Item → Type 0

@@ -23,7 +23,7 @@ use Rattle.description.specs.declared.Parsed.{Parsed}
 use Rattle.description.specs.Reader.{mostBytes, reading, readText}
 use Rattle.description.specs.Writer.{writeText, writeRefusal}
 use Rattle.description.specs.Longest.{longest}
-use Rattle.description.proofs.ReadLaws.{reading-short}
+use Rattle.description.proofs.TextLengths.{reading-short}
 use Rattle.description.proofs.LineTrip.{items-read, items-writable, items-short}
 
 -- "Text, at most 8,192 bytes": no accepted board's text is near that

@@ -18,7 +18,7 @@ use Rattle.description_board.specs.Items.{masterItem, slaveItem, items, 
 use Rattle.description_board.specs.Rebuilt.{trimmed, shared}
 use Rattle.description_board.specs.Legal.{Legal}
 use Rattle.description_board.proofs.SpanLaws.{all-apart, total-suc, total-same, total-fewer}
-use Rattle.description_board.proofs.Sound.{step-accepted, run-accepted, finish-accepted, described-legal}
+use Rattle.description_board.proofs.BoardSound.{step-accepted, run-accepted, finish-accepted, described-legal}
 use Rattle.description_board.proofs.OwnLines.{readTo, shareLine, read-items}
 
 -- a trimmed board has the entries of the board

@@ -1,8 +1,8 @@
 pub mod RuleLaws
-pub mod RunLaws
+pub mod StepAllLaws
 pub mod SpanLaws
 pub mod StartLaws
-pub mod Sound
+pub mod BoardSound
 pub mod OwnLines
 pub mod ShareOrder
 pub mod Accepted

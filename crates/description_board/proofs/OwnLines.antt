@@ -23,7 +23,7 @@ use Rattle.description_board.specs.Rules.{refused, start, taken, step, s
 use Rattle.description_board.specs.Items.{masterItem, slaveItem, shareItem, items}
 use Rattle.description_board.specs.Rebuilt.{trimmed, shared}
 use Rattle.description_board.proofs.RuleLaws.{master-taken, slave-taken}
-use Rattle.description_board.proofs.RunLaws.{step-taken, run-append}
+use Rattle.description_board.proofs.StepAllLaws.{step-taken, run-append}
 
 -- what has been read after b's first m masters, its first s slaves and the first k places of its shares
 unfoldable pub readTo : Board → ℕ → ℕ → ℕ → Reading

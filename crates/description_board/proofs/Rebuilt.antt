@@ -12,7 +12,7 @@ use Rattle.description_board.specs.Records.{noMaster, noSlave, masterAt,
 use Rattle.description_board.specs.Rules.{described}
 use Rattle.description_board.specs.Items.{masterItem, slaveItem, shareItem, items, boardRefusal}
 use Rattle.description_board.specs.Rebuilt.{trimmed, shared}
-use Rattle.description_board.proofs.Sound.{Sound, described-sound, described-legal}
+use Rattle.description_board.proofs.BoardSound.{Sound, described-sound, described-legal}
 use Rattle.description_board.proofs.Accepted.{trimmed-master, trimmed-slave, trimmed-share, accepted-legal, legal-described, legal-accepted}
 
 module _ (b : Board) (e : boardRefusal b ≡ 0) where

@@ -15,8 +15,8 @@ use Rattle.description_board.specs.Records.{sharesAt}
 use Rattle.description_board.specs.Rules.{shareRefusal, itemRefusal, withShare, withItem, isShare}
 use Rattle.description_board.specs.Rules.{taken, start, step, stepAll, described}
 use Rattle.description_board.proofs.RuleLaws.{ShareTaken, share-taken}
-use Rattle.description_board.proofs.RunLaws.{step-taken, run-append}
-use Rattle.description_board.proofs.Sound.{step-accepted, run-accepted, finish-accepted}
+use Rattle.description_board.proofs.StepAllLaws.{step-taken, run-append}
+use Rattle.description_board.proofs.BoardSound.{step-accepted, run-accepted, finish-accepted}
 
 -- x put at i and y at j, where each place had a 0: the other way round too, and the list is the same
 exchange : (l : List ℕ) (i j x y : ℕ) → 1 ≤ x → getD l i 0 ≤ 0 → getD (set l i x) j 0 ≤ 0

@@ -24,11 +24,11 @@ use Rattle.description_board.specs.Rules.{widths, bursts, spans, slaveValues, m
 use Rattle.description_board.specs.Items.{boardRefusal}
 use Rattle.description_board.proofs.RuleLaws.{width-bound, burst-bound}
 use Rattle.description_board.proofs.SpanLaws.{apart-at, total-suc}
-use Rattle.description_board.proofs.Sound.{values-legal}
+use Rattle.description_board.proofs.BoardSound.{values-legal}
 use Rattle.description_board.proofs.Accepted.{legal-accepted}
 use Rattle.description_check.specs.Code.Accept.{MastersFit, SlaveFits, Clear, SlavesFit}
 use Rattle.description_check.specs.Code.Accept.{shareLimit, RowFits, RowEmpty, RowPasses, SharesFit}
-use Rattle.description_check.proofs.PowerLaws.{one-bit, listed-is}
+use Rattle.description_check.proofs.LowBitLaws.{one-bit, listed-is}
 
 -- up to the largest of the list, one bit set
 pub width-is : (x low : ℕ) → low ≡ x - 1 → (leb x 8 && (ltb 0 x && eqb (bitAnd x low) 0)) ≡ member x widths

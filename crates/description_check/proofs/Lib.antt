@@ -1,3 +1,3 @@
-pub mod LineLaws
-pub mod PowerLaws
+pub mod EntryLaws
+pub mod LowBitLaws
 pub mod AcceptLaws

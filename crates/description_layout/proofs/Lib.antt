@@ -1,2 +1,2 @@
-pub mod PlaceLaws
+pub mod BoardLaws
 pub mod PutLaws

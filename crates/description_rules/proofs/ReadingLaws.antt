@@ -13,10 +13,10 @@ use Rattle.description_board.specs.declared.SlaveNumbers.{SlaveNumbers}
 use Rattle.description_board.specs.declared.Slave.{Slave}
 use Rattle.description_board.specs.Rules.{masterRefusal, slaveRefusal, shareRefusal, itemRefusal, isShare}
 use Rattle.description_board.specs.Rules.{withMaster, slaveOf, withSlave, withItem, refused, start, taken, step}
-use Rattle.description_board.proofs.RunLaws.{step-refused, step-taken}
+use Rattle.description_board.proofs.StepAllLaws.{step-refused, step-taken}
 use Rattle.description_layout.specs.Layout.{boardIn}
 use Rattle.description_layout.specs.Code.Puts.{withShareAt}
-use Rattle.description_layout.proofs.PlaceLaws.{board-none, share-put-at, shares-length}
+use Rattle.description_layout.proofs.BoardLaws.{board-none, share-put-at, shares-length}
 use Rattle.description_rules.specs.declared.Progress.{Progress}
 use Rattle.description_rules.specs.Code.Readings.{readingOf}
 

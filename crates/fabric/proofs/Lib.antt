@@ -1,5 +1,5 @@
 pub mod ResetLaws
 pub mod PostLaws
 pub mod ClockLaws
-pub mod RunLaws
+pub mod RunOfClocks
 pub mod PassingLaws

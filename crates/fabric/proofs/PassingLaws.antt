@@ -14,7 +14,7 @@ use Rattle.fabric_state.specs.declared.State.{State}
 use Rattle.fabric_state.specs.declared.Line.{Line}
 use Rattle.fabric_state.specs.Records.{noLine}
 use Rattle.fabric_layout.specs.Layout.{stateIn, linesIn}
-use Rattle.fabric_layout.proofs.StateLaws.{transfers-length, slots-length}
+use Rattle.fabric_layout.proofs.StatePutLaws.{transfers-length, slots-length}
 use Rattle.fabric_check.specs.Code.Targets.{targetsIn, requestMask}
 use Rattle.fabric_cycle.specs.Code.Cycles.{Passes, Clocks as Cycled}
 use Rattle.fabric_cycle.proofs.AgainLaws.{same-requests}
@@ -22,7 +22,7 @@ use Rattle.fabric.specs.Calls.{clockRefusal}
 use Rattle.fabric.specs.Running.{Run, standing, clockOn, run}
 use Rattle.fabric.specs.Lent.{Runs}
 use Rattle.fabric.proofs.ClockLaws.{exact-lengths}
-use Rattle.fabric.proofs.RunLaws.{Sized, reached, accepted-board, keeps-rules, refusal-again, on-next, on-spent, on-finished}
+use Rattle.fabric.proofs.RunOfClocks.{Sized, reached, accepted-board, keeps-rules, refusal-again, on-next, on-spent, on-finished}
 
 pub sized : (l : List ℕ) → Sized (stateIn l)
 sized l = record { transfers = transfers-length l; slots = slots-length l }

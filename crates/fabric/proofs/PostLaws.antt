@@ -24,7 +24,7 @@ use Rattle.fabric_state.specs.declared.State.{State}
 use Rattle.fabric_state.specs.Records.{transferAt}
 use Rattle.fabric_state.specs.Posting.{Request, transferOf, wrongBeats, unaligned, wrongLanes, unmapped, passesEnd, transferRefusalBy, transferRefusal, withTransfer}
 use Rattle.fabric_state.specs.Soundness.{sound}
-use Rattle.fabric_state.proofs.DecodeLaws.{accepted}
+use Rattle.fabric_state.proofs.RequestLaws.{accepted}
 use Rattle.fabric_layout.specs.Layout.{stateIn}
 use Rattle.fabric.specs.Lent.{Posts}
 use Rattle.fabric.specs.Calls.{wrongWords, requestRefusal, postRefusalBy, postRefusal, post, bufferAfterPost}

@@ -2,4 +2,4 @@ pub mod MoveLaws
 pub mod Ranges
 pub mod PartLaws
 pub mod StoreLaws
-pub mod AccessLaws
+pub mod CarriedLaws

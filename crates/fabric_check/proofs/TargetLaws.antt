@@ -32,7 +32,7 @@ use Rattle.fabric_state.specs.Soundness.{requests}
 use Rattle.fabric_check.specs.Code.Targets.{heldTarget, targetIn, targetsIn, requestMask}
 use Rattle.fabric_check.specs.Code.Decoded.{Decodes}
 use Rattle.fabric_accesses.proofs.SelectLaws.{target-first, selects-target}
-use Rattle.fabric_state.proofs.DecodeLaws.{requests-not}
+use Rattle.fabric_state.proofs.RequestLaws.{requests-not}
 
 -- the first number from i on that passes, of those below n: i itself, one further on, or none
 module _ (test : ℕ → Bool) (n i : ℕ) where

@@ -1,6 +1,6 @@
-pub mod RuleLaws
+pub mod SlotGrantLaws
 pub mod ServeLaws
-pub mod PlaceLaws
+pub mod ReachLaws
 pub mod TurnLaws
 pub mod PassLaws
 pub mod AgainLaws

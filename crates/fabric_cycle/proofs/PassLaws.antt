@@ -40,14 +40,14 @@ use Rattle.fabric_state.specs.Carrying.{carried, carriedBy, storeAfter}
 use Rattle.fabric_state.proofs.Sound.{Sound}
 use Rattle.fabric_state.proofs.SoundLaws.{sound-facts, requester, grant-sound, finished-asks}
 use Rattle.fabric_state.proofs.StepLaws.{line-owner, finished-serving}
-use Rattle.fabric_state.proofs.DecodeLaws.{requests-one}
+use Rattle.fabric_state.proofs.RequestLaws.{requests-one}
 use Rattle.fabric_layout.specs.Code.Puts.{withSlot, firstLines}
-use Rattle.fabric_layout.proofs.StateLaws.{first-put}
+use Rattle.fabric_layout.proofs.StatePutLaws.{first-put}
 use Rattle.fabric_check.specs.Code.Targets.{targetsIn, requestMask}
 use Rattle.fabric_check.proofs.TargetLaws.{mask-requests}
 use Rattle.fabric_cycle.specs.Code.Serving.{stepFrom, carriedFrom}
 use Rattle.fabric_cycle.proofs.ServeLaws.{from-resting, carried-resting, step-is, carried-is}
-use Rattle.fabric_cycle.proofs.PlaceLaws.{start-next, grant-placed, grant-reached}
+use Rattle.fabric_cycle.proofs.ReachLaws.{start-next, grant-placed, grant-reached}
 use Rattle.fabric_cycle.specs.Code.Cycles.{Passes, Clocks}
 use Rattle.fabric_cycle.specs.Code.Turns.{slotAsked, stepAt, carriedAt, endedTransfer, stateTurned, Serving, Ready, Turned}
 

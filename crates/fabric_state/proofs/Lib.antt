@@ -1,6 +1,6 @@
 pub mod Sound
 pub mod StateLaws
-pub mod DecodeLaws
+pub mod RequestLaws
 pub mod StepLaws
 pub mod SoundLaws
 pub mod CycleLaws

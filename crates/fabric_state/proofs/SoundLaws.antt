@@ -35,7 +35,7 @@ use Rattle.fabric_state.proofs.Sound.{Sound}
 use Rattle.fabric_state.proofs.StateLaws.{transfers-after, slots-after, slot-after, transfer-after, finished-by}
 use Rattle.fabric_state.proofs.StateLaws.{transfer-kept, held-after, transfer-reset, slot-reset}
 use Rattle.fabric_state.proofs.StateLaws.{transfers-with, slots-with, transfer-with, transfer-with-other, slot-with}
-use Rattle.fabric_state.proofs.DecodeLaws.{requests-held, requests-one, Accepted, accepted-at, requests-selects}
+use Rattle.fabric_state.proofs.RequestLaws.{requests-held, requests-one, Accepted, accepted-at, requests-selects}
 use Rattle.fabric_state.proofs.StepLaws.{waitNow, accessesNow, Outcome, rests, waiting, works, ends, outcome}
 use Rattle.fabric_state.proofs.StepLaws.{grant-serving, grant-given, line-owner, finished-serving}
 

@@ -23,7 +23,7 @@ use Rattle.fabric_state.specs.Posting.{withTransfer}
 use Rattle.fabric.specs.Calls.{World}
 use Rattle.fabric_state.proofs.CycleLaws.{leftOf, Cycle}
 use Rattle.fabric_state.proofs.StateLaws.{slot-after, transfer-with-other, slot-with, mask-bit, finished-here}
-use Rattle.fabric_state.proofs.DecodeLaws.{requests-held}
+use Rattle.fabric_state.proofs.RequestLaws.{requests-held}
 use Rattle.fabric_state.proofs.SoundLaws.{requests-same}
 use Rattle.fabric_state.proofs.StepLaws.{grant-serving}
 use Rattle.theorem_bounds.proofs.Potential.{pot}

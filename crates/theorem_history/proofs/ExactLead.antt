@@ -25,7 +25,7 @@ use Rattle.fabric_state.specs.Resetting.{stateAtReset}
 use Rattle.fabric.specs.Calls.{World}
 use Rattle.fabric_state.proofs.CycleLaws.{leftOf, left-resting}
 use Rattle.fabric_state.proofs.StateLaws.{slot-after, transfer-with, transfer-with-other, transfer-reset, slot-reset}
-use Rattle.fabric_state.proofs.DecodeLaws.{requests-not}
+use Rattle.fabric_state.proofs.RequestLaws.{requests-not}
 use Rattle.theorem_bounds.proofs.Order.{chosen-nobody}
 use Rattle.theorem_history.specs.Claim.{Start, Lent}
 use Rattle.fabric_state.proofs.StepLaws.{grant-serving, grant-given, step-rests}

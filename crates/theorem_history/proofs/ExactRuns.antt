@@ -20,7 +20,7 @@ use Rattle.fabric_state.specs.Posting.{withTransfer}
 use Rattle.fabric.specs.Calls.{World}
 use Rattle.fabric_state.proofs.Sound.{Sound}
 use Rattle.fabric_state.proofs.StateLaws.{transfer-with, transfer-with-other}
-use Rattle.fabric_state.proofs.DecodeLaws.{requests-held}
+use Rattle.fabric_state.proofs.RequestLaws.{requests-held}
 use Rattle.theorem_bounds.proofs.Potential.{pot}
 use Rattle.theorem_history.specs.Claim.{shows}
 use Rattle.theorem_history.proofs.Pairs.{sharesOf, singleOf, serveOf}

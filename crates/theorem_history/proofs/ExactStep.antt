@@ -25,7 +25,7 @@ use Rattle.fabric_state.specs.Soundness.{requests}
 use Rattle.fabric_state.specs.Control.{grantAt, slotAfterGrant, stepOf, stateAfter}
 use Rattle.fabric_state.proofs.Sound.{Sound}
 use Rattle.fabric_state.proofs.CycleLaws.{leftOf, left-resting}
-use Rattle.fabric_state.proofs.DecodeLaws.{requests-of}
+use Rattle.fabric_state.proofs.RequestLaws.{requests-of}
 use Rattle.fabric_state.proofs.SoundLaws.{grant-facts, clock-sound}
 use Rattle.theorem_bounds.proofs.Order.{between}
 use Rattle.theorem_bounds.proofs.Credit.{credit, spend-all}

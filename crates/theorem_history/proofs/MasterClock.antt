@@ -24,7 +24,7 @@ use Rattle.fabric_state.proofs.CycleLaws.{Cycle, cycle}
 use Rattle.fabric_state.proofs.StateLaws.{slot-after, line-after, line-after-past, transfer-after, transfer-kept}
 use Rattle.fabric_state.proofs.StateLaws.{transfer-finished, held-after, finished-here}
 use Rattle.fabric_state.proofs.StepLaws.{step-rests, line-owner, finished-serving}
-use Rattle.fabric_state.proofs.DecodeLaws.{requests-one}
+use Rattle.fabric_state.proofs.RequestLaws.{requests-one}
 use Rattle.fabric_state.proofs.SoundLaws.{grant-sound, finished-only}
 use Rattle.theorem_history.specs.Claim.{owns}
 use Rattle.theorem_history.proofs.SlaveClock.{step-serving, acts, owner-after}

@@ -18,7 +18,7 @@ use Rattle.description_board.proofs.RuleLaws.{width-bound, burst-bound, span-bo
 use Rattle.fabric_accesses.specs.declared.Transfer.{Transfer}
 use Rattle.fabric_accesses.specs.Accesses.{ratio, waitOf, ownLength}
 use Rattle.fabric_accesses.proofs.AccessLaws.{accesses-le}
-use Rattle.fabric_state.proofs.DecodeLaws.{Accepted}
+use Rattle.fabric_state.proofs.RequestLaws.{Accepted}
 use Rattle.wait_turns.specs.Waits as waits
 use Rattle.theorem_bounds.proofs.Credit.{credit, credit-zero, credit-suc}
 use Rattle.theorem_bounds.proofs.Potential.{quoted}

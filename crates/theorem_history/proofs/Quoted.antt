@@ -21,7 +21,7 @@ use Rattle.fabric_state.proofs.StateLaws.{transfer-reset}
 use Rattle.wait_turns.specs.Waits.{quotedWait, serveOf}
 use Rattle.wait.specs.declared.Quoted.{Quoted}
 use Rattle.wait.specs.Calls.{quoteOf}
-use Rattle.wait.proofs.AnswerLaws.{quote-connected}
+use Rattle.wait.proofs.LookUpLaws.{quote-connected}
 use Rattle.theorem_history.specs.Claim as claim
 use Rattle.theorem_history.specs.Claim.{Start, Lent, slaveFor, waitFor, lengthOf, Figures, Longest}
 use Rattle.theorem_history.proofs.Pairs.{connected-pair, accepted-long}

@@ -33,7 +33,7 @@ use Rattle.fabric_state.specs.Control.{grantAt, slotBy, slotGranted, slotAfterG
 use Rattle.fabric_state.specs.Control.{slotFinished, stepOf, finished, stateAfter, linesOf}
 use Rattle.fabric_state.specs.Carrying.{carriesOut, carried, carriedBy, storeAfter}
 use Rattle.fabric_state.proofs.Sound.{Sound}
-use Rattle.fabric_state.proofs.DecodeLaws.{Accepted, accepted, requests-held, requests-target}
+use Rattle.fabric_state.proofs.RequestLaws.{Accepted, accepted, requests-held, requests-target}
 use Rattle.fabric_state.proofs.StateLaws.{slot-after, line-after, line-after-past, held-after, unfinished-at, finished-by}
 use Rattle.fabric_state.proofs.StepLaws.{Outcome, rests, waiting, works, ends, outcome, waitNow, accessesNow}
 use Rattle.fabric_state.proofs.StepLaws.{grant-serving, grant-given, line-owner, finished-serving}

@@ -24,7 +24,7 @@ use Rattle.fabric_state.specs.Posting.{withTransfer}
 use Rattle.fabric.specs.Calls.{World, postRefusal, post, clock}
 use Rattle.fabric_state.proofs.CycleLaws.{left-resting}
 use Rattle.fabric_state.proofs.StateLaws.{transfer-with, slot-with}
-use Rattle.fabric_state.proofs.DecodeLaws.{Accepted, accepted, requests-held, requests-of}
+use Rattle.fabric_state.proofs.RequestLaws.{Accepted, accepted, requests-held, requests-of}
 use Rattle.theorem_bounds.proofs.Potential.{pot, pot-quoted}
 use Rattle.theorem_history.specs.Claim as claim
 use Rattle.theorem_history.specs.Claim.{Call, Start, Lent, History, after, answers, shows, names, any, slaveFor, waitFor, lengthOf}

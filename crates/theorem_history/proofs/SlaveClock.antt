@@ -24,7 +24,7 @@ use Rattle.fabric_state.proofs.Sound.{Sound}
 use Rattle.fabric_state.proofs.CycleLaws.{leftOf, left-resting, left-whole, Cycle, cycle}
 use Rattle.fabric_state.proofs.StepLaws.{grant-serving, grant-given, step-rests}
 use Rattle.fabric_state.proofs.StateLaws.{slot-after}
-use Rattle.fabric_state.proofs.DecodeLaws.{Accepted, accepted-at, requests-held, requests-selects}
+use Rattle.fabric_state.proofs.RequestLaws.{Accepted, accepted-at, requests-held, requests-selects}
 use Rattle.theorem_bounds.proofs.Order.{between}
 use Rattle.theorem_bounds.proofs.Credit.{credit, credit-zero}
 use Rattle.theorem_bounds.proofs.Potential.{pot, some-grant, grant-turn, grant-falls, grant-next}

@@ -29,7 +29,7 @@ use Rattle.fabric.proofs.ClockLaws.{not-refused}
 use Rattle.fabric_state.proofs.Sound.{Sound}
 use Rattle.fabric_state.proofs.CycleLaws.{leftOf, left-resting, cycle}
 use Rattle.fabric_state.proofs.StateLaws.{slot-with, transfer-with-other, slot-reset}
-use Rattle.fabric_state.proofs.DecodeLaws.{requests-held}
+use Rattle.fabric_state.proofs.RequestLaws.{requests-held}
 use Rattle.fabric_state.proofs.StoreLengths.{store-length}
 use Rattle.fabric_state.proofs.SoundLaws.{sound-test, reset-sound, post-sound, clock-sound, grant-sound, served-kept}
 use Rattle.theorem_bounds.proofs.Credit.{credit-zero}

@@ -19,7 +19,7 @@ use Rattle.description.specs.Writer.{writeText}
 use Rattle.description.proofs.Trip.{read-accepted, read-written}
 use Rattle.wait_turns.specs.Waits.{quotedWait, serveOf}
 use Rattle.wait.specs.Answers.{spelled, pairBytes, pairRefusal, waitRefusal, waitOutput}
-use Rattle.wait.proofs.TurnLaws.{wait-fits, serve-fits, wait-spelled, serve-spelled}
+use Rattle.wait.proofs.FigureBytes.{wait-fits, serve-fits, wait-spelled, serve-spelled}
 use Rattle.wait.proofs.WrittenLaws.{masters-trimmed, connected-trimmed, wait-trimmed, serve-trimmed, written-board}
 use Rattle.theorem_history.specs.WaitCall.{WaitAnswered}
 use Rattle.theorem_history.proofs.Pairs.{connected-pair}

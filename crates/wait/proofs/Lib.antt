@@ -1,3 +1,3 @@
-pub mod AnswerLaws
-pub mod TurnLaws
+pub mod LookUpLaws
+pub mod FigureBytes
 pub mod WrittenLaws

@@ -22,7 +22,7 @@ use Rattle.wait_turns.specs.Waits.{longestAccess, otherTurn, turnsOf, quotedWai
 use Rattle.wait.specs.declared.Quoted.{Quoted}
 use Rattle.wait.specs.Answers.{pairRefusal}
 use Rattle.wait.specs.Calls.{quoteRefusal, quoteOf}
-use Rattle.wait.proofs.AnswerLaws.{pair-master, pair-known}
+use Rattle.wait.proofs.LookUpLaws.{pair-master, pair-known}
 
 module _ (b : Board) (legal : Legal b) where
   pub masters-trimmed : trimmed b .«master_count» ≡ b .«master_count»

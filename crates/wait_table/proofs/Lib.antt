@@ -1,3 +1,3 @@
-pub mod LineLaws
+pub mod TableLines
 pub mod PrintLaws
 pub mod Attained

@@ -27,7 +27,7 @@ use Rattle.wait_table.specs.Tables.{heading, pairLine, pairLines, tableT
 use Rattle.wait_table.specs.Tables.{refusedText, printed, Page}
 use Rattle.wait_table.specs.Longest.{longestTable}
 use Rattle.wait_turns.proofs.SumLaws.{gather-le}
-use Rattle.wait_turns.proofs.Bounds.{wait-small, serve-small}
+use Rattle.wait_turns.proofs.FigureBounds.{wait-small, serve-small}
 
 -- a line: a master has one digit, a wait at most 7, a serve 6
 line-long : (m s w v : ℕ) → m < 8 → w < 10 ^ 7 → v < 10 ^ 6

@@ -1,3 +1,3 @@
 pub mod SumLaws
-pub mod Bounds
-pub mod PartLaws
+pub mod FigureBounds
+pub mod TurnSums

@@ -7,7 +7,7 @@ use native.Mathlib.Omega.{arith}
 use lib.ListN.{length}
 use borrow.Author.Needs.{needs}
 use Rattle.common_laws.specs.Lists.{gather}
-use Rattle.description.proofs.WriteLaws.{text-all, length-next, lines-fit, few-places}
+use Rattle.description.proofs.BoardText.{text-all, length-next, lines-fit, few-places}
 use Rattle.description_lines.proofs.WriteLaws.{item-fits}
 use Rattle.description_lines.specs.Writer.{itemText, itemsText}
 use Rattle.description_check.specs.Code.Entries.{linesTo}

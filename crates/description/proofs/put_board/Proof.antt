@@ -5,7 +5,7 @@ use Prim.Native.Nat.{_-_, _≤_}
 use native.Mathlib.Omega.{arith}
 use borrow.Author.Needs.{needs}
 use Rattle.common_laws.specs.Lists.{gather}
-use Rattle.description.proofs.WriteLaws.{text-all, room-next, put-next}
+use Rattle.description.proofs.BoardText.{text-all, room-next, put-next}
 use Rattle.description_lines.specs.Writer.{itemsText}
 use Rattle.description_check.specs.Code.Entries.{linesTo}
 use Rattle.description_layout.specs.Layout.{boardIn}

@@ -9,7 +9,7 @@ use borrow.Author.Needs.{needs}
 use Rattle.description_board.specs.Items.{boardRefusal}
 use Rattle.description_board.specs.declared.Board.{Board}
 use Rattle.description.proofs.Trip.{text-room}
-use Rattle.description.proofs.WriteLaws.{Writes, board-refused, room-refused, text-written}
+use Rattle.description.proofs.BoardText.{Writes, board-refused, room-refused, text-written}
 use Rattle.description.specs.Writer.{writeAnswer, writeOutput}
 use Rattle.description.specs.Longest.{longest}
 use Rattle.description.specs.declared.Written.{Written}

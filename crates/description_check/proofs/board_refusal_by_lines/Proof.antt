@@ -7,7 +7,7 @@ use borrow.Author.Needs.{needs}
 use Rattle.common_laws.specs.Lists.{gather}
 use Rattle.description_board.specs.declared.Reading.{Reading}
 use Rattle.description_board.specs.Rules.{start, stepAll}
-use Rattle.description_check.proofs.LineLaws.{run-next, check-stops, check-ends}
+use Rattle.description_check.proofs.EntryLaws.{run-next, check-stops, check-ends}
 use Rattle.description_check.specs.Code.Entries.{linesTo}
 use Rattle.description_layout.specs.Layout.{boardIn}
 use Rattle.description_rules.specs.Code.Readings.{readingOf}

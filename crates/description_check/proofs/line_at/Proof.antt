@@ -3,7 +3,7 @@
 use mathlib.Core.Path.{sym, _∙_}
 use native.Mathlib.Omega.{arith}
 use borrow.Author.Needs.{needs}
-use Rattle.description_check.proofs.LineLaws.{at-master, slave-line, pair-line}
+use Rattle.description_check.proofs.EntryLaws.{at-master, slave-line, pair-line}
 use Rattle.description_layout.specs.Layout.{boardIn}
 use Rattle.description_check.proofs.line_at.Statement.{statement}
 use Rattle.description_check.proofs.line_at.Tie as tie

@@ -5,7 +5,7 @@ use lib.ListN.{List·getD-eq-default}
 use borrow.Author.Needs.{needs}
 use Rattle.description_board.specs.Records.{noMaster}
 use Rattle.description_board.specs.Items.{masterItem}
-use Rattle.description_layout.proofs.PlaceLaws.{masters-length}
+use Rattle.description_layout.proofs.BoardLaws.{masters-length}
 use Rattle.description_layout.specs.Layout.{boardIn}
 use Rattle.description_check.proofs.master_item.Statement.{statement}
 use Rattle.description_check.proofs.master_item.Tie as tie

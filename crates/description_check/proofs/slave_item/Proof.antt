@@ -5,7 +5,7 @@ use lib.ListN.{List·getD-eq-default}
 use borrow.Author.Needs.{needs}
 use Rattle.description_board.specs.Records.{noSlave}
 use Rattle.description_board.specs.Items.{slaveItem}
-use Rattle.description_layout.proofs.PlaceLaws.{slaves-length}
+use Rattle.description_layout.proofs.BoardLaws.{slaves-length}
 use Rattle.description_layout.specs.Layout.{boardIn}
 use Rattle.description_check.proofs.slave_item.Statement.{statement}
 use Rattle.description_check.proofs.slave_item.Tie as tie

@@ -6,7 +6,7 @@ use native.Mathlib.Omega.{arith}
 use lib.ListN.{getD}
 use borrow.Author.Needs.{needs}
 use Rattle.common_laws.proofs.FillLaws.{filled, filled-none, filled-next, filled-all}
-use Rattle.description_layout.proofs.PlaceLaws.{all-zero}
+use Rattle.description_layout.proofs.BoardLaws.{all-zero}
 use Rattle.description_layout.proofs.clear.Statement.{statement}
 use Rattle.description_layout.proofs.clear.Tie as tie
 

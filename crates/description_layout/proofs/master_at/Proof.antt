@@ -2,7 +2,7 @@
 -- Assumes nothing.
 use borrow.Author.Needs.{needs}
 use Rattle.description_layout.specs.Layout.{masterFrom}
-use Rattle.description_layout.proofs.PlaceLaws.{master-read}
+use Rattle.description_layout.proofs.BoardLaws.{master-read}
 use Rattle.description_layout.proofs.master_at.Statement.{statement}
 use Rattle.description_layout.proofs.master_at.Tie as tie
 

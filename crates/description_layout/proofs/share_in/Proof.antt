@@ -2,7 +2,7 @@
 -- Assumes nothing.
 use mathlib.Core.Path.{sym}
 use borrow.Author.Needs.{needs}
-use Rattle.description_layout.proofs.PlaceLaws.{share-found}
+use Rattle.description_layout.proofs.BoardLaws.{share-found}
 use Rattle.description_layout.proofs.share_in.Statement.{statement}
 use Rattle.description_layout.proofs.share_in.Tie as tie
 

@@ -1,7 +1,7 @@
 -- `board_layout::share_at` meets its contract.
 -- Assumes nothing.
 use borrow.Author.Needs.{needs}
-use Rattle.description_layout.proofs.PlaceLaws.{share-read}
+use Rattle.description_layout.proofs.BoardLaws.{share-read}
 use Rattle.description_layout.proofs.shares_at.Statement.{statement}
 use Rattle.description_layout.proofs.shares_at.Tie as tie
 

@@ -2,7 +2,7 @@
 -- Assumes nothing.
 use borrow.Author.Needs.{needs}
 use Rattle.description_layout.specs.Layout.{slaveFrom}
-use Rattle.description_layout.proofs.PlaceLaws.{slave-read}
+use Rattle.description_layout.proofs.BoardLaws.{slave-read}
 use Rattle.description_layout.proofs.slave_at.Statement.{statement}
 use Rattle.description_layout.proofs.slave_at.Tie as tie
 

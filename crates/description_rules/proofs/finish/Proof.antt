@@ -3,7 +3,7 @@
 use mathlib.Core.Path.{sym}
 use borrow.Author.Tests.{eq-eqb}
 use borrow.Author.Needs.{needs}
-use Rattle.description_board.proofs.RunLaws.{finish-stays}
+use Rattle.description_board.proofs.StepAllLaws.{finish-stays}
 use Rattle.description_board.specs.Rules.{finish}
 use Rattle.description_rules.specs.Code.Readings.{readingOf}
 use Rattle.description_rules.proofs.finish.Statement.{statement}

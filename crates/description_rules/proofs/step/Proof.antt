@@ -3,7 +3,7 @@
 use mathlib.Core.Path.{sym, refl}
 use native.Mathlib.Omega.{arith}
 use borrow.Author.Needs.{needs}
-use Rattle.description_board.proofs.RunLaws.{step-stays}
+use Rattle.description_board.proofs.StepAllLaws.{step-stays}
 use Rattle.description_board.specs.declared.Item.the-variants.{Malformed}
 use Rattle.description_board.specs.Rules.{itemRefusal}
 use Rattle.description_rules.proofs.ReadingLaws.{line-refused}

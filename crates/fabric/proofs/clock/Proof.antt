@@ -10,11 +10,11 @@ use Rattle.description_board.proofs.Accepted.{accepted-legal}
 use Rattle.description_layout.specs.Layout.{boardIn}
 use Rattle.fabric_bytes.specs.Bytes.{Store}
 use Rattle.fabric_layout.specs.Layout.{stateIn}
-use Rattle.fabric_layout.proofs.StateLaws.{first-none}
+use Rattle.fabric_layout.proofs.StatePutLaws.{first-none}
 use Rattle.fabric_check.specs.Code.Targets.{requestMask}
 use Rattle.fabric.specs.Calls.{clockRefusal}
 use Rattle.fabric.proofs.ClockLaws.{refusal-found, exact-lengths, clock-refused, clock-taken}
-use Rattle.fabric.proofs.RunLaws.{accepted-board, keeps-rules}
+use Rattle.fabric.proofs.RunOfClocks.{accepted-board, keeps-rules}
 use Rattle.fabric.proofs.clock.Statement.{statement}
 use Rattle.fabric.proofs.clock.Tie as tie
 

@@ -3,7 +3,7 @@
 -- Assumes nothing.
 use mathlib.Core.Path.{refl}
 use native.Mathlib.Omega.{arith}
-use Rattle.fabric_bytes.proofs.AccessLaws.{place-fits, reads, writes, read-done, write-done}
+use Rattle.fabric_bytes.proofs.CarriedLaws.{place-fits, reads, writes, read-done, write-done}
 use borrow.Author.Needs.{needs}
 use Rattle.fabric_bytes.proofs.carry_access.Statement.{statement}
 use Rattle.fabric_bytes.proofs.carry_access.Tie as tie

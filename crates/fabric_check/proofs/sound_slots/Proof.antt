@@ -12,7 +12,7 @@ use Rattle.description_board.specs.declared.Board.{Board}
 use Rattle.description_layout.specs.Layout.{boardIn}
 use Rattle.fabric_state.specs.Soundness.{soundSlot}
 use Rattle.fabric_state.specs.declared.State.{State}
-use Rattle.fabric_layout.proofs.StateLaws.{transfers-length}
+use Rattle.fabric_layout.proofs.StatePutLaws.{transfers-length}
 use Rattle.fabric_layout.specs.Layout.{stateIn}
 use Rattle.fabric_check.proofs.CheckLaws.{every-next, every-not, slot-stranger, slot-parts, legal-widths}
 use Rattle.fabric_check.proofs.sound_slots.Statement.{statement}

@@ -9,7 +9,7 @@ use Rattle.description_board.specs.declared.Board.{Board}
 use Rattle.fabric_state.specs.declared.State.{State}
 use Rattle.description_layout.specs.Layout.{boardIn}
 use Rattle.fabric_layout.specs.Layout.{stateIn, linesIn}
-use Rattle.fabric_layout.proofs.StateLaws.{transfers-length, slots-length, lines-length}
+use Rattle.fabric_layout.proofs.StatePutLaws.{transfers-length, slots-length, lines-length}
 use Rattle.fabric_check.specs.Code.Targets.{targetsIn, requestMask}
 use Rattle.fabric_check.proofs.TargetLaws.{mask-at}
 use Rattle.fabric_cycle.proofs.PassLaws.{Pass, runs-legal, pass-begin, pass-ready, pass-fits, start-fits, pass-next, pass-end}

@@ -1,7 +1,7 @@
 -- `state_layout::beats_at` meets its contract.
 -- Assumes nothing.
 use borrow.Author.Needs.{needs}
-use Rattle.fabric_layout.proofs.PlaceLaws.{beats-read}
+use Rattle.fabric_layout.proofs.RecordLaws.{beats-read}
 use Rattle.fabric_layout.proofs.beats_at.Statement.{statement}
 use Rattle.fabric_layout.proofs.beats_at.Tie as tie
 

@@ -8,7 +8,7 @@ use Rattle.common_laws.proofs.FillLaws.{filled, filled-next, filled-all}
 use Rattle.fabric_accesses.specs.Accesses.{noTransfer}
 use Rattle.fabric_state.specs.Records.{transferAt}
 use Rattle.fabric_layout.specs.Layout.{stateIn}
-use Rattle.fabric_layout.proofs.StateLaws.{transfers-begin, transfers-put, idle-all}
+use Rattle.fabric_layout.proofs.StatePutLaws.{transfers-begin, transfers-put, idle-all}
 use Rattle.fabric_layout.proofs.clear_transfers.Statement.{statement}
 use Rattle.fabric_layout.proofs.clear_transfers.Tie as tie
 

@@ -11,7 +11,7 @@ use borrow.Author.Needs.{needs}
 use Rattle.common_laws.proofs.FillLaws.{filled, filled-next, filled-all}
 use Rattle.fabric_state.specs.Records.{noLine}
 use Rattle.fabric_layout.specs.Layout.{linesIn}
-use Rattle.fabric_layout.proofs.StateLaws.{clear-begin, clear-here, first-is}
+use Rattle.fabric_layout.proofs.StatePutLaws.{clear-begin, clear-here, first-is}
 use Rattle.fabric_layout.proofs.first_lines.Statement.{statement}
 use Rattle.fabric_layout.proofs.first_lines.Tie as tie
 

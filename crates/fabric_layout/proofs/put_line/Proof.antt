@@ -1,7 +1,7 @@
 -- `state_layout::put_line` meets its contract: six stores, and no other line has a number there.
 -- Assumes nothing.
 use borrow.Author.Needs.{needs}
-use Rattle.fabric_layout.proofs.PlaceLaws.{line-put}
+use Rattle.fabric_layout.proofs.RecordLaws.{line-put}
 use Rattle.fabric_layout.proofs.put_line.Statement.{statement}
 use Rattle.fabric_layout.proofs.put_line.Tie as tie
 

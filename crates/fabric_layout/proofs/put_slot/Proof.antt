@@ -1,7 +1,7 @@
 -- `state_layout::put_slot` meets its contract: five stores, and no other record has a number there. `count` tells the length.
 -- Assumes nothing.
 use borrow.Author.Needs.{needs}
-use Rattle.fabric_layout.proofs.PlaceLaws.{slot-put}
+use Rattle.fabric_layout.proofs.RecordLaws.{slot-put}
 use Rattle.fabric_layout.proofs.put_slot.Statement.{statement}
 use Rattle.fabric_layout.proofs.put_slot.Tie as tie
 

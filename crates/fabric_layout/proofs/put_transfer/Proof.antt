@@ -1,7 +1,7 @@
 -- `state_layout::put_transfer` meets its contract: five stores, and no other record has a number there.
 -- Assumes nothing.
 use borrow.Author.Needs.{needs}
-use Rattle.fabric_layout.proofs.PlaceLaws.{transfer-put}
+use Rattle.fabric_layout.proofs.RecordLaws.{transfer-put}
 use Rattle.fabric_layout.proofs.put_transfer.Statement.{statement}
 use Rattle.fabric_layout.proofs.put_transfer.Tie as tie
 

@@ -1,6 +1,6 @@
 -- `state_layout::slot_at_reset` meets its contract.
 -- Assumes nothing.
-use Rattle.fabric_layout.proofs.StateLaws.{fresh-owned, fresh-none}
+use Rattle.fabric_layout.proofs.StatePutLaws.{fresh-owned, fresh-none}
 use Rattle.fabric_layout.proofs.reset_slot.Statement.{statement}
 use Rattle.fabric_layout.proofs.reset_slot.Tie as tie
 

@@ -11,7 +11,7 @@ use Rattle.fabric_accesses.specs.Accesses.{noTransfer}
 use Rattle.fabric_state.specs.Records.{slotAt}
 use Rattle.fabric_layout.specs.Layout.{stateIn}
 use Rattle.fabric_layout.specs.Code.Puts.{resetSlot}
-use Rattle.fabric_layout.proofs.StateLaws.{slots-begin, slots-put, transfers-left, reset-end}
+use Rattle.fabric_layout.proofs.StatePutLaws.{slots-begin, slots-put, transfers-left, reset-end}
 use Rattle.fabric_layout.proofs.reset_state.Statement.{statement}
 use Rattle.fabric_layout.proofs.reset_state.Tie as tie
 

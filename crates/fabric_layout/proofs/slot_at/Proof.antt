@@ -1,7 +1,7 @@
 -- `state_layout::slot_at` meets its contract: the five numbers are read field by field.
 -- Assumes nothing.
 use borrow.Author.Needs.{needs}
-use Rattle.fabric_layout.proofs.PlaceLaws.{slot-read}
+use Rattle.fabric_layout.proofs.RecordLaws.{slot-read}
 use Rattle.fabric_layout.proofs.slot_at.Statement.{statement}
 use Rattle.fabric_layout.proofs.slot_at.Tie as tie
 

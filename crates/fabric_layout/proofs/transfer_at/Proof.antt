@@ -1,7 +1,7 @@
 -- `state_layout::transfer_at` meets its contract: the five numbers are read field by field.
 -- Assumes nothing.
 use borrow.Author.Needs.{needs}
-use Rattle.fabric_layout.proofs.PlaceLaws.{transfer-read}
+use Rattle.fabric_layout.proofs.RecordLaws.{transfer-read}
 use Rattle.fabric_layout.proofs.transfer_at.Statement.{statement}
 use Rattle.fabric_layout.proofs.transfer_at.Tie as tie
 

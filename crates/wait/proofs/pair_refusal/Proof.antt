@@ -1,8 +1,8 @@
--- `quote::pair_refusal` meets its contract: each way out is a law of `AnswerLaws`.
+-- `quote::pair_refusal` meets its contract: each way out is a law of `LookUpLaws`.
 -- Assumes nothing.
 use native.Mathlib.Omega.{arith}
 use borrow.Author.Needs.{needs}
-use Rattle.wait.proofs.AnswerLaws.{pair-past, pair-outside, pair-apart, pair-found}
+use Rattle.wait.proofs.LookUpLaws.{pair-past, pair-outside, pair-apart, pair-found}
 use Rattle.wait.proofs.pair_refusal.Statement.{statement}
 use Rattle.wait.proofs.pair_refusal.Tie as tie
 

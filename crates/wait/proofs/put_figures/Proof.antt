@@ -1,7 +1,7 @@
 -- `quote::put_figures` meets its contract: two numbers, one behind the other.
 -- Assumes nothing.
 use borrow.Author.Needs.{needs}
-use Rattle.wait.proofs.AnswerLaws.{figures-put}
+use Rattle.wait.proofs.LookUpLaws.{figures-put}
 use Rattle.wait.proofs.put_figures.Statement.{statement}
 use Rattle.wait.proofs.put_figures.Tie as tie
 

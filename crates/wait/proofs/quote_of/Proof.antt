@@ -1,9 +1,9 @@
--- `quote::quote_of` meets its contract: each way out is a law of `AnswerLaws`.
+-- `quote::quote_of` meets its contract: each way out is a law of `LookUpLaws`.
 -- Assumes nothing.
 use mathlib.Core.Path.{sym, _∙_}
 use borrow.Author.Needs.{needs}
 use Rattle.description_board.proofs.Accepted.{accepted-legal}
-use Rattle.wait.proofs.AnswerLaws.{pair-of, quote-board, quote-pair, quote-taken}
+use Rattle.wait.proofs.LookUpLaws.{pair-of, quote-board, quote-pair, quote-taken}
 use Rattle.wait.proofs.quote_of.Statement.{statement}
 use Rattle.wait.proofs.quote_of.Tie as tie
 

@@ -1,8 +1,8 @@
--- `quote::wait_call` meets its contract: each way out is a law of `AnswerLaws`.
+-- `quote::wait_call` meets its contract: each way out is a law of `LookUpLaws`.
 -- Assumes nothing.
 use borrow.Author.Needs.{needs}
 use Rattle.description.proofs.Trip.{read-legal}
-use Rattle.wait.proofs.AnswerLaws.{pair-of, wait-text, wait-short, wait-pair, wait-taken}
+use Rattle.wait.proofs.LookUpLaws.{pair-of, wait-text, wait-short, wait-pair, wait-taken}
 use Rattle.wait.proofs.wait_call.Statement.{statement}
 use Rattle.wait.proofs.wait_call.Tie as tie
 

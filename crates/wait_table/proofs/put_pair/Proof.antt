@@ -5,7 +5,7 @@ use native.Mathlib.Omega.{arith}
 use lib.ListN.{length}
 use borrow.Author.Needs.{needs}
 use Rattle.common_text.proofs.Puts.{put-none}
-use Rattle.wait_table.proofs.LineLaws.{line-none, line-some}
+use Rattle.wait_table.proofs.TableLines.{line-none, line-some}
 use Rattle.wait_table.proofs.put_pair.Statement.{statement}
 use Rattle.wait_table.proofs.put_pair.Tie as tie
 

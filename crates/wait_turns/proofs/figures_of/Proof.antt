@@ -1,7 +1,7 @@
 -- `waits::figures` meets its contract: what its calls give.
 -- Assumes nothing.
 use borrow.Author.Needs.{needs}
-use Rattle.wait_turns.proofs.PartLaws.{slave-of, slave-legal, both-legal, figures-at}
+use Rattle.wait_turns.proofs.TurnSums.{slave-of, slave-legal, both-legal, figures-at}
 use Rattle.wait_turns.proofs.figures_of.Statement.{statement}
 use Rattle.wait_turns.proofs.figures_of.Tie as tie
 

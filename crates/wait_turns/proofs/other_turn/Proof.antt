@@ -1,7 +1,7 @@
 -- `waits::other_turn` meets its contract: by its three ways out.
 -- Assumes nothing.
 use borrow.Author.Needs.{needs}
-use Rattle.wait_turns.proofs.PartLaws.{other-own, other-none, other-turn, turn-legal}
+use Rattle.wait_turns.proofs.TurnSums.{other-own, other-none, other-turn, turn-legal}
 use Rattle.wait_turns.proofs.other_turn.Statement.{statement}
 use Rattle.wait_turns.proofs.other_turn.Tie as tie
 

@@ -6,7 +6,7 @@ use native.Mathlib.Omega.{arith}
 use borrow.Author.Needs.{needs}
 use Rattle.common_laws.proofs.Arithmetic.{product-le}
 use Rattle.wait_turns.specs.Waits.{serve}
-use Rattle.wait_turns.proofs.Bounds.{accesses-small}
+use Rattle.wait_turns.proofs.FigureBounds.{accesses-small}
 use Rattle.wait_turns.proofs.serve.Statement.{statement}
 use Rattle.wait_turns.proofs.serve.Tie as tie
 

@@ -6,7 +6,7 @@ use native.Mathlib.Omega.{arith}
 use borrow.Author.Needs.{needs}
 use Rattle.common_laws.proofs.Arithmetic.{product-le}
 use Rattle.wait_turns.specs.Waits.{single}
-use Rattle.wait_turns.proofs.Bounds.{ratio-small}
+use Rattle.wait_turns.proofs.FigureBounds.{ratio-small}
 use Rattle.wait_turns.proofs.single.Statement.{statement}
 use Rattle.wait_turns.proofs.single.Tie as tie
 

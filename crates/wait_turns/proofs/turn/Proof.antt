@@ -8,7 +8,7 @@ use Rattle.common_laws.proofs.Arithmetic.{product-le}
 use Rattle.description_board.specs.declared.Slave.{Slave}
 use Rattle.description_board.specs.declared.Master.{Master}
 use Rattle.wait_turns.specs.Waits.{turn, serve}
-use Rattle.wait_turns.proofs.Bounds.{single-le, serve-le}
+use Rattle.wait_turns.proofs.FigureBounds.{single-le, serve-le}
 use Rattle.wait_turns.proofs.turn.Statement.{statement}
 use Rattle.wait_turns.proofs.turn.Tie as tie
 

@@ -8,8 +8,8 @@ use borrow.Author.Needs.{needs}
 use Rattle.common_laws.specs.Lists.{sum}
 use Rattle.description_layout.specs.Layout.{boardIn}
 use Rattle.wait_turns.specs.Waits.{otherTurn}
-use Rattle.wait_turns.proofs.PartLaws.{turns-none, turns-more, turns-all}
-use Rattle.wait_turns.proofs.Bounds.{turns-le}
+use Rattle.wait_turns.proofs.TurnSums.{turns-none, turns-more, turns-all}
+use Rattle.wait_turns.proofs.FigureBounds.{turns-le}
 use Rattle.wait_turns.proofs.turns_of.Statement.{statement}
 use Rattle.wait_turns.proofs.turns_of.Tie as tie
 

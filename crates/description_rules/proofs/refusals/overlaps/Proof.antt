@@ -7,7 +7,7 @@ use lib.ListN.{drop, take}
 use borrow.Author.Needs.{needs}
 use Rattle.description_board.proofs.RuleLaws.{overlaps-here, overlaps-next, overlaps-end}
 use Rattle.description_board.specs.Rules.{meets, overlaps}
-use Rattle.description_layout.proofs.PlaceLaws.{slaves-length}
+use Rattle.description_layout.proofs.BoardLaws.{slaves-length}
 use Rattle.description_layout.specs.Layout.{boardIn}
 use Rattle.description_rules.proofs.refusals.overlaps.Statement.{statement}
 use Rattle.description_rules.proofs.refusals.overlaps.Tie as tie

@@ -4,7 +4,7 @@ use mathlib.Core.Path.{sym}
 use native.Mathlib.Omega.{arith}
 use lib.ListN.{List·getD-eq-default}
 use borrow.Author.Needs.{needs}
-use Rattle.description_layout.proofs.PlaceLaws.{shares-length}
+use Rattle.description_layout.proofs.BoardLaws.{shares-length}
 use Rattle.description_layout.specs.Layout.{boardIn}
 use Rattle.description_rules.proofs.refusals.share_or_none.Statement.{statement}
 use Rattle.description_rules.proofs.refusals.share_or_none.Tie as tie

@@ -9,7 +9,7 @@ use borrow.Author.Needs.{needs}
 use Rattle.description_board.proofs.RuleLaws.{total-next, total-end}
 use Rattle.description_board.specs.declared.Slave.{Slave}
 use Rattle.description_board.specs.Records.{totalSpan}
-use Rattle.description_layout.proofs.PlaceLaws.{slaves-length}
+use Rattle.description_layout.proofs.BoardLaws.{slaves-length}
 use Rattle.description_layout.specs.Layout.{boardIn}
 use Rattle.description_rules.proofs.refusals.total_span.Statement.{statement}
 use Rattle.description_rules.proofs.refusals.total_span.Tie as tie

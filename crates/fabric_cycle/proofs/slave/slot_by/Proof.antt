@@ -1,7 +1,7 @@
 -- `steps::slot_by` meets its contract: a grant, and none.
 -- Assumes nothing.
 use borrow.Author.Needs.{needs}
-use Rattle.fabric_cycle.proofs.RuleLaws.{by-granted, by-silent}
+use Rattle.fabric_cycle.proofs.SlotGrantLaws.{by-granted, by-silent}
 use Rattle.fabric_cycle.proofs.slave.slot_by.Statement.{statement}
 use Rattle.fabric_cycle.proofs.slave.slot_by.Tie as tie
 

@@ -54,7 +54,7 @@ use Rattle.fabric_arbiter.specs.Code.Winning.{grantBy}
 use Rattle.fabric_state.specs.declared.Slot.{Slot}
 use Rattle.fabric_state.specs.Records.{arbiterOf}
 use Rattle.fabric_state.specs.Control.{slotBy, slotGranted}
-use Rattle.fabric_cycle.proofs.RuleLaws.{ruled}
+use Rattle.fabric_cycle.proofs.SlotGrantLaws.{ruled}
 use Rattle.fabric_arbiter.proofs.Arbiter as R
 use Rattle.fabric_arbiter.proofs.Arbiter.Laws as R′
 use Rattle.fabric_arbiter.proofs.Winner as N

@@ -15,7 +15,7 @@ use Rattle.description_board.specs.Records.{masterAt, slaveAt, sharesAt, connec
 use Rattle.description_board.specs.Legal.{LegalSlave}
 use Rattle.wait_turns.specs.Waits.{longestAccess, serve, turn, otherTurn, turnsOf, quotedWait, serveOf}
 use Rattle.wait_turns.specs.Code.Pairs.{LegalBoth, SlaveOf, PairOf, figuresOf}
-use Rattle.wait_turns.proofs.Bounds.{shares-le}
+use Rattle.wait_turns.proofs.FigureBounds.{shares-le}
 
 -- a legal slave's record, and a pair of records with it
 module _ {b : Board} {sl : Slave} {s : ℕ} (x : SlaveOf b sl s) where

@@ -18,7 +18,7 @@ use Rattle.description_board.specs.declared.Item.the-variants.{Malformed, Share
 use Rattle.description_board.specs.declared.Reading.{Reading}
 use Rattle.description_board.specs.Items.{masterItem, slaveItem, shareItem, items, boardRefusal}
 use Rattle.description_board.specs.Rules.{start, stepAll, finish, described}
-use Rattle.description_board.proofs.RunLaws.{run-append, run-stays, finish-stays}
+use Rattle.description_board.proofs.StepAllLaws.{run-append, run-stays, finish-stays}
 use Rattle.description_check.specs.Code.Entries.{entryCount, pairItem, lineAt, present, linesTo}
 
 -- the numbers below a, and n more

@@ -14,7 +14,7 @@ use Rattle.description_board.specs.declared.Board.{Board}
 use Rattle.description_board.specs.Legal.{Legal}
 use Rattle.wait_turns.specs.Waits.{quotedWait, serveOf}
 use Rattle.wait.specs.Answers.{bytes64, spelled, pairBytes}
-use Rattle.wait_turns.proofs.Bounds.{wait-small, serve-small}
+use Rattle.wait_turns.proofs.FigureBounds.{wait-small, serve-small}
 
 -- the figures of a legal board fit 64 bits
 module _ (b : Board) (legal : Legal b) (m s : ℕ) (hm : m < b .«master_count») (hs : s < b .«slave_count») where

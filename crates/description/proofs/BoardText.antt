@@ -17,7 +17,7 @@ use Rattle.description_board.specs.declared.Item.the-variants.{Malformed, Maste
 use Rattle.description_board.specs.Items.{masterItem, slaveItem, shareItem, items, boardRefusal}
 use Rattle.description_board.proofs.Accepted.{accepted-legal}
 use Rattle.description_check.specs.Code.Entries.{entryCount, lineAt, present, linesTo}
-use Rattle.description_check.proofs.LineLaws.{lines-all, lines-next}
+use Rattle.description_check.proofs.EntryLaws.{lines-all, lines-next}
 use Rattle.description_lines.specs.Writer.{itemText, itemsText}
 use Rattle.description_lines.proofs.WriteLaws.{item-fits, text-append, text-one, length-text}
 use Rattle.description.specs.Writer.{writeText, writeRefusal, writeAnswer, writeOutput}

@@ -25,7 +25,7 @@ use Rattle.fabric_state.specs.Records.{transferAt}
 use Rattle.fabric_state.specs.Control.{slotAfterGrant}
 use Rattle.fabric_cycle.specs.Code.Serving.{Placed}
 use Rattle.fabric_state.proofs.Sound.{Sound}
-use Rattle.fabric_state.proofs.DecodeLaws.{Accepted}
+use Rattle.fabric_state.proofs.RequestLaws.{Accepted}
 use Rattle.fabric_state.proofs.SoundLaws.{requester, grant-sound}
 
 -- the spans one after another, as a loop counts the slaves
