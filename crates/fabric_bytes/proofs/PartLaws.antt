@@ -3,7 +3,7 @@
 use mathlib.Core.Path.{_≡_, refl, ap, _∙_, sym}
 use mathlib.Core.Bool.{Bool, true, false}
 use mathlib.Core.List.{List, _++_}
-use Prim.Native.Nat.{ℕ, zero, suc, _+_, _≤_, _<_}
+use Prim.Native.Nat.{ℕ, zero, suc, _+_, _-_, _≤_, _<_}
 use native.Mathlib.Nat.{zero-add, add-zero, add-suc, add-assoc}
 use native.Mathlib.Omega.{arith}
 use lib.ListN.{getD, take, drop, take-append-drop}
@@ -70,27 +70,31 @@ module _ (on : ℕ → Bool) (source : List ℕ) (from at first : ℕ) where
       (getD source (from + (first + n)) 0)
       ∙ rw (move-drop n k d))
 
--- a part of len bytes from place k is lent, moved into, and put back
-pub move-back : (on : ℕ → Bool) (source : List ℕ) (from first n k len : ℕ) (d : List ℕ) → first + n ≤ len
-    → take k d ++ (move on source from 0 first n (take len (drop k d)) ++ drop len (drop k d))
-    ≡ move on source from k first n d
-move-back on source from first n k len d h =
-    let whole = move on source from k first n d in
-    let inner : drop k whole ≡ move on source from 0 first n (drop k d) =
-    ap (λ (x : ℕ). drop k (move on source from x first n d)) (sym (add-zero k)) ∙ move-drop on source from 0 first n k d in
-    let h′ : 0 + (first + n) ≤ len = omega arith in
-    rw (
-      ← move-take on source from 0 first n len (drop k d) h′,
-      ← move-drop-above on source from 0 first n len (drop k d) h′,
-      take-append-drop,
-      ← inner,
-      ← move-take-below on source from k first n k d (omega arith),
-    )
-    (take-append-drop k whole)
+-- The part of d from index k up to e is lent to a move that stays within it: a move into the part, which is put back, is one
+-- into d, and a move out of the part is one out of d.
+module _ (on : ℕ → Bool) (first n k e : ℕ) (d : List ℕ) where
+  pub into-part : (source : List ℕ) (from : ℕ) {part : List ℕ}
+      → part ≡ move on source from 0 first n (take (e - k) (drop k d)) → first + n ≤ e - k
+      → take k d ++ (part ++ drop (e - k) (drop k d)) ≡ move on source from k first n d
+  into-part source from q fits =
+      let whole = move on source from k first n d in
+      let inner : drop k whole ≡ move on source from 0 first n (drop k d) =
+      ap (λ (x : ℕ). drop k (move on source from x first n d)) (sym (add-zero k)) ∙ move-drop on source from 0 first n k d in
+      let within : 0 + (first + n) ≤ e - k = omega arith in
+      rw (
+        q,
+        ← move-take on source from 0 first n (e - k) (drop k d) within,
+        ← move-drop-above on source from 0 first n (e - k) (drop k d) within,
+        take-append-drop,
+        ← inner,
+        ← move-take-below on source from k first n k d (omega arith),
+      )
+      (take-append-drop k whole)
 
--- what is read lies in a part of len bytes from place k
-pub move-from-part : (on : ℕ → Bool) (source : List ℕ) (at first n k len : ℕ) (d : List ℕ) → first + n ≤ len
-    → move on (take len (drop k source)) 0 at first n d ≡ move on source k at first n d
-move-from-part on source at first n k len d h =
-    move-source on (front len k source) source 0 k at first n d
-    (λ t a b. rw zero-add (front-at len k source t (omega arith)))
+  pub out-of-part : (at : ℕ) (target : List ℕ) {after : List ℕ}
+      → after ≡ move on (take (e - k) (drop k d)) 0 at first n target → first + n ≤ e - k
+      → after ≡ move on d k at first n target
+  out-of-part at target q fits =
+      q
+      ∙ move-source on (front (e - k) k d) d 0 k at first n target
+      (λ t a b. rw zero-add (front-at (e - k) k d t (omega arith)))

@@ -15,15 +15,16 @@ ghost use Rattle.fabric_bytes.specs.Moving.{all, move};
 ghost use Rattle.fabric_bytes.specs.Bytes.{bufferLength, partOf, postedWords, carriedAccess};
 ghost use Rattle.fabric_bytes.specs.Code.Reaching.{Reached};
 
-// The words of a post, to the front of the part (rule 3.2).
-fn take_words(part: &mut [u8], words: &[u8])
-    requires { ⌜ length (now words) ≤ length (now part) ⌝ }
-    ensures { λ r. ⌜ now (part .exit) ≡ move all (now (words .entry)) 0 0 0 (length (now (words .entry))) (now (part .entry)) ⌝ }
+// Bytes first up to first + count of a transfer go to the part (rule 3.2): its words at a post, from 0 on, or the bytes of a read
+// access; the transfer's byte 0 has index `from` in the source.
+fn store_words(source: &[u8], from: usize, part: &mut [u8], first: usize, count: usize)
+    requires { ⌜ (from + (first + count) ≤ length (now source)) × (first + count ≤ length (now part)) ⌝ }
+    ensures { λ r. ⌜ now (part .exit) ≡ move all (now (source .entry)) from 0 first count (now (part .entry)) ⌝ }
 {
-    let n = words.len();
     let mut k = 0;
-    while k < n {
-        part[k] = words[k];
+    while k < count {
+        let i = first + k;
+        part[i] = source[from + i];
         k += 1;
     }
 }
@@ -35,20 +36,8 @@ pub fn post_words(buffer: &mut [u8], m: usize, words: &[u8])
 {
     let start = PART_BYTES * m;
     let end = start + PART_BYTES;
-    take_words(&mut buffer[start..end], words);
-}
-
-// A read access (rule 3.2): bytes first up to first + count of the transfer, whose byte 0 has index `from` in the memory.
-fn store_words(memory: &[u8], from: usize, part: &mut [u8], first: usize, count: usize)
-    requires { ⌜ (from + (first + count) ≤ length (now memory)) × (first + count ≤ length (now part)) ⌝ }
-    ensures { λ r. ⌜ now (part .exit) ≡ move all (now (memory .entry)) from 0 first count (now (part .entry)) ⌝ }
-{
-    let mut k = 0;
-    while k < count {
-        let i = first + k;
-        part[i] = memory[from + i];
-        k += 1;
-    }
+    let count = words.len();
+    store_words(words, 0, &mut buffer[start..end], 0, count);
 }
 
 // A read access of master m (rules 2.2, 3.2, 3.5).

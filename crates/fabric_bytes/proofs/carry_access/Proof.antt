@@ -1,4 +1,4 @@
--- `moves::carry_access` meets its contract. The first byte and the count of the access are those of the definitions, so each
+-- `fabric_bytes::carry_access` meets its contract. The first byte and the count of the access are those of the definitions, so each
 -- branch ends in what its callee ensures.
 -- Assumes nothing.
 use mathlib.Core.Path.{refl}

@@ -1,4 +1,4 @@
--- `moves::lane_on` meets its contract. The test is the bit's definition.
+-- `fabric_bytes::lane_on` meets its contract. The test is the bit's definition.
 -- Assumes nothing.
 use borrow.Author.Needs.{needs}
 use mathlib.Core.Path.{refl}

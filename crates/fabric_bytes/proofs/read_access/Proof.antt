@@ -1,14 +1,9 @@
--- `moves::read_access` meets its contract. The part that was lent comes back with the bytes of the access.
+-- `fabric_bytes::read_access` meets its contract. The part that was lent comes back with the bytes of the access.
 -- Assumes nothing.
 use borrow.Author.Needs.{needs}
-use mathlib.Core.Path.{ap, _∙_}
-use mathlib.Core.List.{List, _++_}
-use denote.Ref.{now}
-use Prim.Native.Nat.{ℕ, _+_, _*_, _-_}
 use native.Mathlib.Omega.{arith}
-use lib.ListN.{take, drop}
 use Rattle.fabric_bytes.specs.Moving.{all}
-use Rattle.fabric_bytes.proofs.PartLaws.{move-back}
+use Rattle.fabric_bytes.proofs.PartLaws.{into-part}
 use Rattle.fabric_bytes.proofs.read_access.Statement.{statement}
 use Rattle.fabric_bytes.proofs.read_access.Tie as tie
 
@@ -35,12 +30,9 @@ same-length c = search needs
 
 returns : tie.Need-returns
 returns c =
-    let s = c .before .before .before .before .before .before in
-    let d = now (s .args .buffer) in
-    let a = 512 * s .args .m in
-    ap (λ (ys : List ℕ). take a d ++ (ys ++ drop (a + 512 - a) (drop a d))) (c .before .before .store-words .ensures)
-    ∙ move-back all (now (s .args .memory)) (s .args .from) (s .args .first) (s .args .count) a (a + 512 - a) d
-    (omega (arith, s .pre))
+    let lent = c .before .before in
+    let start = lent .before .before .before .before in
+    into-part all _ _ _ _ _ _ _ (lent .store-words .ensures) (omega (arith, start .pre))
 
 pub read-access-spec : {M : Type 1} → statement M
 read-access-spec =

@@ -1,4 +1,4 @@
--- `moves::store_words` meets its contract. The loop's invariant: the first k bytes of the access are moved.
+-- `fabric_bytes::store_words` meets its contract. The loop's invariant: the first k bytes of the access are moved.
 -- Assumes nothing.
 use mathlib.Core.Path.{_≡_, refl, ap, _∙_}
 use denote.Ref.{now}
@@ -11,11 +11,11 @@ use Rattle.fabric_bytes.proofs.store_words.Statement.{statement}
 use Rattle.fabric_bytes.proofs.store_words.Tie as tie
 
 abbrev Inv-loop : tie.InvT-loop
-Inv-loop memory from part₀ first count k₀ part k =
-    (k ≤ count) × (length part ≡ length part₀) × (part ≡ move all memory from 0 first k part₀)
+Inv-loop source from part₀ first count k₀ part k =
+    (k ≤ count) × (length part ≡ length part₀) × (part ≡ move all source from 0 first k part₀)
 
 abbrev μ-loop : tie.MeasureT-loop
-μ-loop memory from part₀ first count k₀ part k = count - k
+μ-loop source from part₀ first count k₀ part k = count - k
 
 loop-holds : tie.Need-loop-holds Inv-loop μ-loop
 loop-holds c = (omega arith, refl, move-none all _ _ 0 _ _)
@@ -47,7 +47,7 @@ same-length c = c .before .loop .inv .1
 
 returns : tie.Need-returns Inv-loop μ-loop
 returns c = let a = c .before .before .args in
-    c .before .loop .inv .2 ∙ ap (λ (k : ℕ). move all (now (a .memory)) (a .from) 0 (a .first) k (now (a .part))) (omega arith)
+    c .before .loop .inv .2 ∙ ap (λ (k : ℕ). move all (now (a .source)) (a .from) 0 (a .first) k (now (a .part))) (omega arith)
 
 pub store-words-spec : {M : Type 1} → statement M
 store-words-spec =

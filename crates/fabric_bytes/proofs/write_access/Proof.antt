@@ -1,12 +1,9 @@
--- `moves::write_access` meets its contract. What is read in the lent part lies in the buffer where the part begins.
+-- `fabric_bytes::write_access` meets its contract. What is read in the lent part lies in the buffer where the part begins.
 -- Assumes nothing.
 use borrow.Author.Needs.{needs}
-use mathlib.Core.Path.{_∙_}
-use denote.Ref.{now}
-use Prim.Native.Nat.{_+_, _*_, _-_, _%_}
+use Prim.Native.Nat.{_+_, _*_}
 use native.Mathlib.Omega.{arith}
-use Rattle.common_laws.specs.Bits.{bit}
-use Rattle.fabric_bytes.proofs.PartLaws.{move-from-part}
+use Rattle.fabric_bytes.proofs.PartLaws.{out-of-part}
 use Rattle.fabric_bytes.proofs.write_access.Statement.{statement}
 use Rattle.fabric_bytes.proofs.write_access.Tie as tie
 
@@ -33,12 +30,9 @@ same-length c = search needs
 
 returns : tie.Need-returns
 returns c =
-    let s = c .before .before .before .before .before .before .before in
-    let a = 512 * s .args .m in
-    c .before .before .write-words .ensures
-    ∙ move-from-part (λ i. bit (s .args .lanes) (i % s .args .width)) (now (s .args .buffer)) (s .args .at) (s .args .first)
-    (s .args .count) a (a + 512 - a) (now (s .args .memory))
-    (omega (arith, s .pre))
+    let lent = c .before .before in
+    let start = lent .before .before .before .before .before in
+    out-of-part _ _ _ _ (512 * start .args .m + 512) _ _ _ (lent .write-words .ensures) (omega (arith, start .pre))
 
 pub write-access-spec : {M : Type 1} → statement M
 write-access-spec =

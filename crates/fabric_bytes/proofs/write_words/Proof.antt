@@ -1,4 +1,4 @@
--- `moves::write_words` meets its contract. The loop's invariant: the first k bytes of the access are moved, where they
+-- `fabric_bytes::write_words` meets its contract. The loop's invariant: the first k bytes of the access are moved, where they
 -- are enabled.
 -- Assumes nothing.
 use mathlib.Core.Logic.{⊎-elim}
