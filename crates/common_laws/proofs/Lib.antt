@@ -8,3 +8,4 @@ pub mod Members
 pub mod TableLaws
 pub mod Tests
 pub mod TextLists
+pub mod SetsLaws

@@ -1,17 +1,18 @@
 -- Records at places of an array of numbers: what is read after five or six numbers were put.
 -- Assumes nothing.
-use mathlib.Core.Path.{_≡_, refl, sym, ap, _∙_}
+use mathlib.Core.Path.{_≡_, sym, ap}
 use mathlib.Core.Bool.{Bool, true, false, cond}
 use mathlib.Core.List.{List, [], _∷_}
-use mathlib.Core.Logic.{_⊎_, inl, inr, ⊎-elim}
-use Prim.Native.Nat.{ℕ, zero, suc, _+_, _*_, _≤_, _<_}
-use native.Mathlib.Nat.{add-zero}
+use mathlib.Core.Logic.{inl, inr}
+use Prim.Native.Nat.{ℕ, _+_, _*_, _≤_, _<_}
+use native.Mathlib.Nat.{add-zero, zero-add}
 use native.Mathlib.Omega.{arith}
-use lib.ListN.{length, getD, set, length-set}
-use lib.Seq.{sets, getD-set-same, getD-set-other}
+use lib.ListN.{length, getD, set}
+use lib.Seq.{sets}
 use Rattle.common_laws.proofs.TableLaws.{getD-table}
-use Rattle.common_laws.proofs.FillLaws.{table-put, below-above}
+use Rattle.common_laws.proofs.FillLaws.{table-put}
 use Rattle.common_laws.proofs.FrontLaws.{table-same}
+use Rattle.common_laws.proofs.SetsLaws.{five, five-sets, six-sets, sets-inside, Agree, sets-apart, records-apart}
 use Rattle.fabric_accesses.specs.declared.Transfer.{Transfer}
 use Rattle.fabric_accesses.specs.Accesses.{noTransfer}
 use Rattle.fabric_state.specs.declared.Slot.{Slot}
@@ -25,45 +26,7 @@ mark-back : (b : Bool) {n : ℕ} → n ≡ cond b 1 0 → marked n ≡ b
 mark-back true e = rw e
 mark-back false e = rw e
 
--- ---- numbers put one after another, from place p on
-
-sets-outside : (vs l : List ℕ) (p k : ℕ) → (k < p) ⊎ (p + length vs ≤ k) → getD (sets l p vs) k 0 ≡ getD l k 0
-sets-outside [] l p k h = refl
-sets-outside (v ∷ vs) l p k h =
-    sets-outside vs (set l p v) (suc p) k (⊎-elim (λ w. inl (omega arith)) (λ w. inr (omega arith)) h)
-    ∙ getD-set-other l p k v 0 (λ e. ⊎-elim (λ w. absurd (omega arith)) (λ w. absurd (omega arith)) h)
-
-sets-inside : (vs l : List ℕ) (p j : ℕ) → j < length vs → p + length vs ≤ length l → getD (sets l p vs) (p + j) 0 ≡ getD vs j 0
-sets-inside [] l p j h k = absurd (omega arith)
-sets-inside (v ∷ vs) l p zero h k =
-    rw add-zero (sets-outside vs (set l p v) (suc p) p (inl (omega arith)) ∙ getD-set-same l p v 0 (omega arith))
-sets-inside (v ∷ vs) l p (suc j) h k =
-    let e : p + suc j ≡ suc p + j = omega arith in
-    rw e (sets-inside vs (set l p v) (suc p) j (omega arith) (simp length-set (omega arith)))
-
--- the stores of the code, of five numbers and of six
-abbrev five : List ℕ → ℕ → ℕ → ℕ → ℕ → ℕ → ℕ → List ℕ
-five l p a b c d e = set (set (set (set (set l p a) (p + 1) b) (p + 2) c) (p + 3) d) (p + 4) e
-
-module _ (l : List ℕ) (p a b c d e : ℕ) where
-  five-sets : five l p a b c d e ≡ sets l p (a ∷ b ∷ c ∷ d ∷ e ∷ [])
-  five-sets =
-      let q : p + 1 ≡ suc p = omega arith in
-      let r : p + 2 ≡ suc (suc p) = omega arith in
-      let s : p + 3 ≡ suc (suc (suc p)) = omega arith in
-      let t : p + 4 ≡ suc (suc (suc (suc p))) = omega arith in
-      rw (q, r, s, t)
-
-  six-sets : (f : ℕ) → set (five l p a b c d e) (p + 5) f ≡ sets l p (a ∷ b ∷ c ∷ d ∷ e ∷ f ∷ [])
-  six-sets f =
-      let q : p + 5 ≡ suc (suc (suc (suc (suc p)))) = omega arith in
-      rw (five-sets, q)
-
 -- ---- records in arrays that agree where the record stands
-
--- r has the numbers of l from place q on, n of them
-abbrev Agree : List ℕ → List ℕ → ℕ → ℕ → Type 0
-Agree l r q n = (k : ℕ) → q ≤ k → k < q + n → getD r k 0 ≡ getD l k 0
 
 module _ (l r : List ℕ) (q : ℕ) where
   transfer-same : Agree l r q 5 → transferFrom r q ≡ transferFrom l q
@@ -100,12 +63,7 @@ module _ (l r : List ℕ) (q : ℕ) where
         f (q + 5) (omega arith) (omega arith),
       )
 
--- a run of n numbers put from p on leaves a run of as many from q on, where the two do not meet
-sets-apart : (vs l : List ℕ) (p q : ℕ) → (q + length vs ≤ p) ⊎ (p + length vs ≤ q) → Agree l (sets l p vs) q (length vs)
-sets-apart vs l p q h k low high =
-    sets-outside vs l p k (⊎-elim (λ w. inl (omega arith)) (λ w. inr (omega arith)) h)
-
--- and a record of the run is the one put
+-- a record of the numbers put is the one that was put
 module _ (l : List ℕ) (p : ℕ) where
   transfer-here : (t : Transfer) (held write : ℕ) → p + 5 ≤ length l → held ≡ cond (t .held) 1 0 → write ≡ cond (t .write) 1 0
       → transferFrom (sets l p (held ∷ write ∷ t .address ∷ t .lanes ∷ t .beats ∷ [])) p ≡ t
@@ -201,13 +159,10 @@ module _ (l : List ℕ) where
         let vs = x .owner ∷ x .remaining ∷ on ∷ x .done ∷ x .waited ∷ [] in
         rw (
           five-sets l p (x .owner) (x .remaining) on (x .done) (x .waited),
-          table-same _ _ 8 (λ m g. transfer-same l (sets l p vs) (5 * m) (sets-apart vs l p (5 * m) (inl (omega arith)))),
+          table-same _ _ 8 (λ m g. transfer-same l (sets l p vs) (5 * m) (sets-apart vs l p (5 * m) 5 (inl (omega arith)))),
           table-put (λ i. slotFrom l (40 + 5 * i)) _ 16 s x (slot-here l p x on (rw k (omega arith)) e)
-              (λ i w. slot-same l (sets l p vs) (40 + 5 * i) (sets-apart vs l p (40 + 5 * i) (far i w))),
+              (λ i w. slot-same l (sets l p vs) (40 + 5 * i) (sets-apart vs l p (40 + 5 * i) 5 (records-apart 40 5 i s w))),
         )
-      where
-        far : (i : ℕ) → (i ≡ s → ⊥) → ((40 + 5 * i) + 5 ≤ 40 + 5 * s) ⊎ ((40 + 5 * s) + 5 ≤ 40 + 5 * i)
-        far i w = ⊎-elim (λ g. inl (omega arith)) (λ g. inr (omega arith)) (below-above i s w)
 
     pub transfer-put : (m : ℕ) (t : Transfer) {held write : ℕ} → m < 8 → held ≡ cond (t .held) 1 0 → write ≡ cond (t .write) 1 0
         → stateIn (five l (5 * m) held write (t .address) (t .lanes) (t .beats)) ≡ withTransfer (stateIn l) m t
@@ -218,13 +173,10 @@ module _ (l : List ℕ) where
         rw (
           five-sets l p held write (t .address) (t .lanes) (t .beats),
           table-same _ _ 16
-              (λ s g. slot-same l (sets l p vs) (40 + 5 * s) (sets-apart vs l p (40 + 5 * s) (inr (omega arith)))),
+              (λ s g. slot-same l (sets l p vs) (40 + 5 * s) (sets-apart vs l p (40 + 5 * s) 5 (inr (omega arith)))),
           table-put (λ i. transferFrom l (5 * i)) _ 8 m t (transfer-here l p t held write (rw k (omega arith)) eh ew)
-              (λ i w. transfer-same l (sets l p vs) (5 * i) (sets-apart vs l p (5 * i) (far i w))),
+              (λ i w. transfer-same l (sets l p vs) (5 * i) (sets-apart vs l p (5 * i) 5 (simp zero-add at (records-apart 0 5 i m w)))),
         )
-      where
-        far : (i : ℕ) → (i ≡ m → ⊥) → (5 * i + 5 ≤ 5 * m) ⊎ (5 * m + 5 ≤ 5 * i)
-        far i w = ⊎-elim (λ g. inl (omega arith)) (λ g. inr (omega arith)) (below-above i m w)
 
   pub line-put : length l ≡ 96 → (s : ℕ) (x : Line) → s < 16
       → linesIn (set (five l (6 * s) (x .phase) (x .owner) (x .offset) (x .lanes) (x .run)) (6 * s + 5) (x .place))
@@ -235,7 +187,4 @@ module _ (l : List ℕ) where
       let vs = x .phase ∷ x .owner ∷ x .offset ∷ x .lanes ∷ x .run ∷ x .place ∷ [] in
       rw (six-sets l p (x .phase) (x .owner) (x .offset) (x .lanes) (x .run) (x .place))
       (table-put (λ i. lineFrom l (6 * i)) _ 16 s x (line-here l p x (rw k (omega arith)))
-      (λ i w. line-same l (sets l p vs) (6 * i) (sets-apart vs l p (6 * i) (far i w))))
-    where
-      far : (i : ℕ) → (i ≡ s → ⊥) → (6 * i + 6 ≤ 6 * s) ⊎ (6 * s + 6 ≤ 6 * i)
-      far i w = ⊎-elim (λ g. inl (omega arith)) (λ g. inr (omega arith)) (below-above i s w)
+      (λ i w. line-same l (sets l p vs) (6 * i) (sets-apart vs l p (6 * i) 6 (simp zero-add at (records-apart 0 6 i s w)))))

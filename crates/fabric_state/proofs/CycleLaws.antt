@@ -84,6 +84,21 @@ module _ (ma : Master) (sl : Slave) (t : Transfer) (slot : Slot) (on : slot .ser
   unfolding served waits slotWaiting slotAccessed slotFinished lineOf leftOf
   cycle = go (ltb (slot .waited) (waitOf sl t)) refl (ltb (slot .done + 1) (accesses ma sl t)) refl
     where
+      -- the cycle leaves the slot y, and shows the line of that phase
+      leaves : (y : Slot) (phase : ℕ) (end : Bool) → y .owner ≡ slot .owner → y .remaining ≡ slot .remaining
+          → leftOf ma sl t y ≡ clocksLeft (accesses ma sl t) (waitOf sl t) (slot .done) (slot .waited) - 1
+          → (eqb phase 1 || eqb phase 2) ≡ true → end ≡ not (y .serving)
+          → Cycle ma sl t slot (record { slot = y; line = lineOf ma sl t slot phase; finished = end })
+      leaves y phase end o r l s f = record {
+        owner = o;
+        remaining = r;
+        left = l ∙ ap (λ (z : ℕ). z - 1) (sym was);
+        some = some;
+        shown = s;
+        line = refl;
+        ends = f;
+      }
+
       go : (b : Bool) → ltb (slot .waited) (waitOf sl t) ≡ b → (c : Bool) → ltb (slot .done + 1) (accesses ma sl t) ≡ c
           → Cycle ma sl t slot
           (cond b
@@ -91,40 +106,9 @@ module _ (ma : Master) (sl : Slave) (t : Transfer) (slot : Slot) (on : slot .ser
           (cond c
           (record { slot = slotAccessed slot; line = lineOf ma sl t slot 2; finished = false })
           (record { slot = slotFinished slot; line = lineOf ma sl t slot 2; finished = true })))
-      go true p c q =
-          record {
-            owner = refl;
-            remaining = refl;
-            left = left-wait (accesses ma sl t) (waitOf sl t) (slot .done) (slot .waited) ∙ ap (λ (z : ℕ). z - 1) (sym was);
-            some = some;
-            shown = refl;
-            line = refl;
-            ends = refl;
-          }
+      go true p c q = leaves _ 1 false refl refl (left-wait _ _ _ _) refl refl
       go false p true q =
-          record {
-            owner = refl;
-            remaining = refl;
-            left =
-                left-access (accesses ma sl t) (waitOf sl t) (slot .done) (slot .waited) more
-                (omega (arith, ltb-false (slot .waited) (waitOf sl t) p))
-                ∙ ap (λ (z : ℕ). z - 1) (sym was);
-            some = some;
-            shown = refl;
-            line = refl;
-            ends = refl;
-          }
+          leaves _ 2 false refl refl (left-access _ _ _ _ more (omega (arith, ltb-false (slot .waited) _ p))) refl refl
       go false p false q =
-          record {
-            owner = refl;
-            remaining = refl;
-            left =
-                left-last (accesses ma sl t) (waitOf sl t) (slot .done) (slot .waited) more
-                (ltb-false (slot .done + 1) (accesses ma sl t) q)
-                (omega (arith, ltb-false (slot .waited) (waitOf sl t) p))
-                ∙ ap (λ (z : ℕ). z - 1) (sym was);
-            some = some;
-            shown = refl;
-            line = refl;
-            ends = refl;
-          }
+          leaves _ 2 true refl refl
+          (left-last _ _ _ _ more (ltb-false _ _ q) (omega (arith, ltb-false (slot .waited) _ p))) refl refl
