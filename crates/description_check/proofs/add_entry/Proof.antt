@@ -1,4 +1,4 @@
--- `board_check::add_place` meets its contract. A place that has no line is passed over.
+-- `description_check::add_entry` meets its contract. A place that has no line is passed over.
 -- Assumes nothing.
 use mathlib.Core.Path.{_≡_, _∙_, refl}
 use mathlib.Core.List.{[], _∷_}

@@ -1,4 +1,4 @@
--- `board_check::refusal` meets its contract. The check of an accepted board is 0.
+-- `description_check::board_refusal` meets its contract. The check of an accepted board is 0.
 -- Assumes nothing.
 use mathlib.Core.Path.{sym}
 use borrow.Author.Needs.{needs}

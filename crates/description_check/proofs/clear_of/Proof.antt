@@ -1,4 +1,4 @@
--- `board_check::clear_of` meets its contract. A span from the last end on meets none.
+-- `description_check::clear_of` meets its contract. A span from the last end on meets none.
 -- Assumes nothing.
 use mathlib.Core.Path.{_∙_, sym}
 use borrow.Author.Tests.{not-true}

@@ -1,4 +1,4 @@
--- `board_check::line_at` meets its contract. Part by part of the lines.
+-- `description_check::line_at` meets its contract. Part by part of the lines.
 -- Assumes nothing.
 use mathlib.Core.Path.{sym, _∙_}
 use native.Mathlib.Omega.{arith}

@@ -1,4 +1,4 @@
--- `board_check::masters_fit` meets its contract. The loop's invariant: each master passed is legal.
+-- `description_check::masters_fit` meets its contract. The loop's invariant: each master passed is legal.
 -- Assumes nothing.
 use mathlib.Core.Bool.{false≢true}
 use Prim.Native.Nat.{_≤_, _-_}

@@ -1,4 +1,4 @@
--- `board_check::row_fits` meets its contract. The loop's invariant: where nothing bad was met, each share passed is legal.
+-- `description_check::row_fits` meets its contract. The loop's invariant: where nothing bad was met, each share passed is legal.
 -- Assumes nothing.
 use mathlib.Core.Path.{_≡_}
 use mathlib.Core.Bool.{false}

@@ -1,4 +1,4 @@
--- `board_check::row_passes` meets its contract. By whether there is such a master.
+-- `description_check::row_passes` meets its contract. By whether there is such a master.
 -- Assumes nothing.
 use borrow.Author.Needs.{needs}
 use Rattle.description_check.proofs.AcceptLaws.{row-inside, row-outside}

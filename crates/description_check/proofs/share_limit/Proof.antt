@@ -1,4 +1,4 @@
--- `board_check::limit` meets its contract. By whether there is such a slave.
+-- `description_check::share_limit` meets its contract. By whether there is such a slave.
 -- Assumes nothing.
 use borrow.Author.Tests.{lt-ltb, le-ltb}
 use Rattle.description_check.specs.Code.Accept.{shareLimit}

@@ -1,4 +1,4 @@
--- `board_check::shares_fit` meets its contract. The loop's invariant: the shares of each master passed are legal.
+-- `description_check::shares_fit` meets its contract. The loop's invariant: the shares of each master passed are legal.
 -- Assumes nothing.
 use mathlib.Core.Bool.{false≢true}
 use Prim.Native.Nat.{_≤_, _-_}

@@ -1,4 +1,4 @@
--- `board_check::slave_fits` meets its contract. The base is in its range by its type.
+-- `description_check::slave_fits` meets its contract. The base is in its range by its type.
 -- Assumes nothing.
 use native.Mathlib.Omega.{arith}
 use borrow.Author.Needs.{needs}

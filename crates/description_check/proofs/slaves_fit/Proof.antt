@@ -1,4 +1,4 @@
--- `board_check::slaves_fit` meets its contract. The loop's invariant: the slaves passed fit, and the last end and the
+-- `description_check::slaves_fit` meets its contract. The loop's invariant: the slaves passed fit, and the last end and the
 -- total are theirs.
 -- Assumes nothing.
 use mathlib.Core.Bool.{false≢true}

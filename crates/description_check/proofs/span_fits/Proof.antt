@@ -1,4 +1,4 @@
--- `board_check::span_fits` meets its contract. A span with one bit set is a power of two, and the bits of base below
+-- `description_check::span_fits` meets its contract. A span with one bit set is a power of two, and the bits of base below
 -- it are the remainder.
 -- Assumes nothing.
 use borrow.Author.Needs.{needs}

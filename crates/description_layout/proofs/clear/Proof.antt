@@ -1,4 +1,4 @@
--- `board_layout::clear` meets its contract. The loop's invariant: the first i numbers are 0.
+-- `description_layout::clear` meets its contract. The loop's invariant: the first i numbers are 0.
 -- Assumes nothing.
 use mathlib.Core.Path.{_≡_, refl, _∙_}
 use Prim.Native.Nat.{ℕ, _≤_, _-_}

@@ -1,4 +1,4 @@
--- `board_layout::copy` meets its contract. The loop's invariant: the first i numbers are copied.
+-- `description_layout::copy` meets its contract. The loop's invariant: the first i numbers are copied.
 -- Assumes nothing.
 use mathlib.Core.Path.{_≡_, refl, _∙_}
 use Prim.Native.Nat.{_≤_, _-_}

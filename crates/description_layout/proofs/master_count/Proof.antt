@@ -1,4 +1,4 @@
--- `board_layout::master_count` meets its contract.
+-- `description_layout::master_count` meets its contract.
 -- Assumes nothing.
 use mathlib.Core.Path.{refl}
 use borrow.Author.Needs.{needs}

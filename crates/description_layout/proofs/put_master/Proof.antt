@@ -1,4 +1,4 @@
--- `board_layout::put_master` meets its contract. `count` tells the array's length.
+-- `description_layout::put_master` meets its contract. `count` tells the array's length.
 -- Assumes nothing.
 use borrow.Author.Needs.{needs}
 use Rattle.description_layout.proofs.PutLaws.{master-put}

@@ -1,4 +1,4 @@
--- `board_layout::put_share` meets its contract.
+-- `description_layout::put_share_at` meets its contract.
 -- Assumes nothing.
 use borrow.Author.Needs.{needs}
 use Rattle.description_layout.proofs.PutLaws.{share-put}

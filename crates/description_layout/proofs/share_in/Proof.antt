@@ -1,4 +1,4 @@
--- `board_layout::share_in` meets its contract.
+-- `description_layout::share_in` meets its contract.
 -- Assumes nothing.
 use mathlib.Core.Path.{sym}
 use borrow.Author.Needs.{needs}

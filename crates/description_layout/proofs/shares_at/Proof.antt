@@ -1,4 +1,4 @@
--- `board_layout::share_at` meets its contract.
+-- `description_layout::shares_at` meets its contract.
 -- Assumes nothing.
 use borrow.Author.Needs.{needs}
 use Rattle.description_layout.proofs.BoardLaws.{share-read}

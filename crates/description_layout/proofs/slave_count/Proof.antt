@@ -1,4 +1,4 @@
--- `board_layout::slave_count` meets its contract.
+-- `description_layout::slave_count` meets its contract.
 -- Assumes nothing.
 use mathlib.Core.Path.{refl}
 use borrow.Author.Needs.{needs}

@@ -1,4 +1,4 @@
--- `readings::finished` meets its contract. Each way out answers the definition's tests.
+-- `description_rules::finish` meets its contract. Each way out answers the definition's tests.
 -- Assumes nothing.
 use mathlib.Core.Path.{sym}
 use borrow.Author.Tests.{eq-eqb}

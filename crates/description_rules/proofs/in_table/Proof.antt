@@ -1,4 +1,4 @@
--- `readings::in_table` meets its contract.
+-- `description_rules::in_table` meets its contract.
 -- Assumes nothing.
 use mathlib.Core.Path.{sym}
 use Prim.Native.Nat.{_+_, _*_}

@@ -1,4 +1,4 @@
--- `readings::refuse` meets its contract. An array of zeros is the zero board.
+-- `description_rules::refused` meets its contract. An array of zeros is the zero board.
 -- Assumes nothing.
 use borrow.Author.Needs.{needs}
 use Rattle.description_rules.proofs.ReadingLaws.{of-zeros}

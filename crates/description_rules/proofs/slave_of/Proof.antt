@@ -1,4 +1,4 @@
--- `readings::slave_of` meets its contract. The numbers fit their fields, as the test of the values passed.
+-- `description_rules::slave_of` meets its contract. The numbers fit their fields, as the test of the values passed.
 -- Assumes nothing.
 use native.Mathlib.Omega.{arith}
 use borrow.Author.Needs.{needs}

@@ -1,4 +1,4 @@
--- `readings::first_progress` meets its contract. An array of zeros is the zero board.
+-- `description_rules::start` meets its contract. An array of zeros is the zero board.
 -- Assumes nothing.
 use Rattle.description_rules.proofs.ReadingLaws.{of-start}
 use Rattle.description_rules.proofs.start.Statement.{statement}

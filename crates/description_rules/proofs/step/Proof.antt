@@ -1,4 +1,4 @@
--- `readings::add_item` meets its contract. Each kind of line by its own function.
+-- `description_rules::step` meets its contract. Each kind of line by its own function.
 -- Assumes nothing.
 use mathlib.Core.Path.{sym, refl}
 use native.Mathlib.Omega.{arith}

@@ -1,4 +1,4 @@
--- `readings::add_share` meets its contract. The share fits its field, as the line is not refused; past the 128 places
+-- `description_rules::step_share` meets its contract. The share fits its field, as the line is not refused; past the 128 places
 -- it changes nothing.
 -- Assumes nothing.
 use mathlib.Core.Path.{_∙_, sym}

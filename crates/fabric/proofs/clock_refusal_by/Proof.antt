@@ -1,4 +1,4 @@
--- `fabric::clock_refusal` meets its contract. Each way out answers the refusals in their order.
+-- `fabric::clock_refusal_by` meets its contract. Each way out answers the refusals in their order.
 -- Assumes nothing.
 use mathlib.Core.Path.{_≡_, sym, ap, _∙_}
 use Prim.Native.Nat.{ℕ}

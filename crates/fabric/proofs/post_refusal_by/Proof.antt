@@ -1,4 +1,4 @@
--- `fabric::post_refusal` meets its contract. Each way out answers the definition's tests in their order.
+-- `fabric::post_refusal_by` meets its contract. Each way out answers the definition's tests in their order.
 -- Assumes nothing.
 use mathlib.Core.Path.{_≡_, sym, ap, _∙_}
 use mathlib.Core.Bool.{false, cond}

@@ -1,4 +1,4 @@
--- `geometry::above_span` meets its contract: what the mask takes away is what is over a multiple of the span.
+-- `fabric_accesses::above_span` meets its contract: what the mask takes away is what is over a multiple of the span.
 -- Assumes nothing.
 use native.Mathlib.Nat.{div-add-mod'}
 use native.Mathlib.Omega.{arith}

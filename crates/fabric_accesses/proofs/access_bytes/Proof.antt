@@ -1,4 +1,4 @@
--- `geometry::access_width` meets its contract.
+-- `fabric_accesses::access_bytes` meets its contract.
 -- Assumes nothing.
 use native.Mathlib.Omega.{arith}
 use Rattle.fabric_accesses.specs.Accesses.{accessBytes}

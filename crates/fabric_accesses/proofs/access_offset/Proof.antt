@@ -1,4 +1,4 @@
--- `geometry::access_offset` meets its contract: a product of two numbers of 32 bits leaves room for one more.
+-- `fabric_accesses::access_offset` meets its contract: a product of two numbers of 32 bits leaves room for one more.
 -- Assumes nothing.
 use mathlib.Core.Path.{ap₂}
 use Prim.Native.Nat.{ℕ, _+_, _*_, _≤_}

@@ -1,4 +1,4 @@
--- `geometry::address_agrees` meets its contract.
+-- `fabric_accesses::agrees` meets its contract.
 -- Assumes nothing.
 use borrow.Author.Needs.{needs}
 use Rattle.fabric_accesses.specs.Decoding.{agrees}

@@ -1,4 +1,4 @@
--- `geometry::over_width` meets its contract.
+-- `fabric_accesses::over_width` meets its contract.
 -- Assumes nothing.
 use borrow.Author.Needs.{needs}
 use Rattle.fabric_accesses.proofs.PowerLaws.{over-width}

@@ -1,4 +1,4 @@
--- `geometry::own_length` meets its contract: at most 8 accesses a beat, each of at most 256 clocks.
+-- `fabric_accesses::own_length` meets its contract: at most 8 accesses a beat, each of at most 256 clocks.
 -- Assumes nothing.
 use mathlib.Core.Path.{ap₂}
 use Prim.Native.Nat.{ℕ, _+_, _*_, _≤_}

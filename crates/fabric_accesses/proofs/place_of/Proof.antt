@@ -1,4 +1,4 @@
--- `geometry::place_of` meets its contract.
+-- `fabric_accesses::place_of` meets its contract.
 -- Assumes nothing.
 use Rattle.fabric_accesses.proofs.RunLaws.{limit-pos, place-masked}
 use Rattle.fabric_accesses.proofs.place_of.Statement.{statement}

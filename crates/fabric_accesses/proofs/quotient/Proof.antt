@@ -1,4 +1,4 @@
--- `geometry::quotient` meets its contract.
+-- `fabric_accesses::quotient` meets its contract.
 -- Assumes nothing.
 use native.Mathlib.Omega.{arith}
 use Rattle.fabric_accesses.proofs.PowerLaws.{width-zeros, by-width}

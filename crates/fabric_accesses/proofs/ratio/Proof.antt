@@ -1,4 +1,4 @@
--- `geometry::width_ratio` meets its contract.
+-- `fabric_accesses::ratio` meets its contract.
 -- Assumes nothing.
 use mathlib.Core.Path.{_≡_, subst, sym, _∙_, ap}
 use mathlib.Core.Bool.{true}

@@ -1,4 +1,4 @@
--- `geometry::run_limit` meets its contract.
+-- `fabric_accesses::run_limit` meets its contract.
 -- Assumes nothing.
 use borrow.Author.Tests.{lt-ltb, le-ltb}
 use Rattle.fabric_accesses.specs.Runs.{runLimit}

@@ -1,4 +1,4 @@
--- `geometry::run_of` meets its contract.
+-- `fabric_accesses::run_of` meets its contract.
 -- Assumes nothing.
 use mathlib.Core.Path.{_≡_}
 use Prim.Native.Nat.{min}

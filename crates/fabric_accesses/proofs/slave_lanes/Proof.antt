@@ -1,4 +1,4 @@
--- `geometry::lanes_of` meets its contract.
+-- `fabric_accesses::slave_lanes` meets its contract.
 -- Assumes nothing.
 use mathlib.Core.Path.{sym, _∙_}
 use Rattle.fabric_accesses.proofs.AccessLaws.{width-le, write-slave-lanes, read-slave-lanes}

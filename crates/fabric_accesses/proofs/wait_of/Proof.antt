@@ -1,4 +1,4 @@
--- `geometry::wait_of` meets its contract.
+-- `fabric_accesses::wait_of` meets its contract.
 -- Assumes nothing.
 use Rattle.fabric_accesses.specs.Accesses.{waitOf}
 use Rattle.fabric_accesses.proofs.wait_of.Statement.{statement}

@@ -1,4 +1,4 @@
--- `geometry::word_offset` meets its contract.
+-- `fabric_accesses::word_offset` meets its contract.
 -- Assumes nothing.
 use mathlib.Core.Path.{ap, _∙_}
 use Prim.Native.Nat.{ℕ, _-_, _*_, _/_}

@@ -1,4 +1,4 @@
--- `geometry::write_lanes` meets its contract: the part of the mask stays within 8 lanes, so that no bit is shifted out.
+-- `fabric_accesses::write_lanes` meets its contract: the part of the mask stays within 8 lanes, so that no bit is shifted out.
 -- Assumes nothing.
 use mathlib.Core.Path.{_≡_, ap, _∙_}
 use Prim.Native.Nat.{ℕ, _+_, _-_, _*_, _/_, _%_, _^_, _≤_, _<_}

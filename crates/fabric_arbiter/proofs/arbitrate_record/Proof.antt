@@ -1,4 +1,4 @@
--- `arbiter::arbitrate_record` meets its contract: a walk of its MIR, by hand, since it takes a reference to a struct. The borrow is opened, the record is copied and handed to `grant_by`, the record after that grant is stored, the borrow is closed at it, and the grant is returned.
+-- `fabric_arbiter::arbitrate_record` meets its contract: a walk of its MIR, by hand, since it takes a reference to a struct. The borrow is opened, the record is copied and handed to `grant_by`, the record after that grant is stored, the borrow is closed at it, and the grant is returned.
 -- Of `grant_by` and `record_after` it knows only that each meets its contract.
 -- Assumes nothing.
 use mathlib.Core.Path.{_≡_, refl, ap, _∙_}

@@ -1,4 +1,4 @@
--- `arbiter::grant_by` meets its contract: the three winners.
+-- `fabric_arbiter::grant_by` meets its contract: the three winners.
 -- Assumes nothing.
 use Rattle.fabric_arbiter.proofs.GrantLaws.{by-again, by-first, by-none}
 use borrow.Author.Needs.{needs}

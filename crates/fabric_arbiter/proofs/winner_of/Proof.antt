@@ -1,4 +1,4 @@
--- `arbiter::choose` meets its contract: no request, the last owner again, the first requester, nobody.
+-- `fabric_arbiter::winner_of` meets its contract: no request, the last owner again, the first requester, nobody.
 -- Assumes nothing.
 use mathlib.Core.Path.{sym, _∙_}
 use mathlib.Core.Logic.{⊎-elim}

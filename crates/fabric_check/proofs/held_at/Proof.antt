@@ -1,4 +1,4 @@
--- `state_check::held_at` meets its contract. Each way out is a law of the transfer; what is put is the slave that was found.
+-- `fabric_check::held_at` meets its contract. Each way out is a law of the transfer; what is put is the slave that was found.
 -- Assumes nothing.
 use mathlib.Core.Path.{_∙_}
 use borrow.Author.Needs.{needs}

@@ -1,4 +1,4 @@
--- `state_check::ready` meets its contract. Where the board is refused there is nothing to show of the state.
+-- `fabric_check::ready` meets its contract. Where the board is refused there is nothing to show of the state.
 -- Assumes nothing.
 use mathlib.Core.Path.{_∙_}
 use borrow.Author.Needs.{needs}

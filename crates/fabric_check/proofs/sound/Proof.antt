@@ -1,4 +1,4 @@
--- `state_check::state_sound` meets its contract.
+-- `fabric_check::sound` meets its contract.
 -- Assumes nothing.
 use mathlib.Core.Bool.{true≢false}
 use mathlib.Core.Path.{sym, _∙_}

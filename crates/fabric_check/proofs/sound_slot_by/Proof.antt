@@ -1,4 +1,4 @@
--- `state_check::slot_sound` meets its contract.
+-- `fabric_check::sound_slot_by` meets its contract.
 -- Assumes nothing.
 use mathlib.Core.Path.{sym}
 use borrow.Author.Needs.{needs}

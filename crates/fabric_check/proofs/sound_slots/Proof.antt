@@ -1,4 +1,4 @@
--- `state_check::slots_sound` meets its contract. The loop's invariant: no slot before s breaks a rule.
+-- `fabric_check::sound_slots` meets its contract. The loop's invariant: no slot before s breaks a rule.
 -- Assumes nothing.
 use mathlib.Core.Bool.{true}
 use mathlib.Core.Path.{_≡_, refl, sym, _∙_}

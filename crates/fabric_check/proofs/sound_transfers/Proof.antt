@@ -1,4 +1,4 @@
--- `state_check::transfers_sound` meets its contract. The loop's invariant: no transfer before m breaks a rule, and the slaves of
+-- `fabric_check::sound_transfers` meets its contract. The loop's invariant: no transfer before m breaks a rule, and the slaves of
 -- those are in their places.
 -- Assumes nothing.
 use mathlib.Core.Bool.{true, true≢false}

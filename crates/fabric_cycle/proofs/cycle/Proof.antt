@@ -1,4 +1,4 @@
--- `cycles::cycle` meets its contract: the pass over the slaves, then the lines of no slave.
+-- `fabric_cycle::cycle` meets its contract: the pass over the slaves, then the lines of no slave.
 -- Assumes nothing.
 use mathlib.Core.Path.{_≡_}
 use Prim.Native.Nat.{_-_, _<_}

@@ -1,4 +1,4 @@
--- `cycles::serve_at` meets its contract: the parts are read, the step and its bytes are made, and the parts are put.
+-- `fabric_cycle::serve_at` meets its contract: the parts are read, the step and its bytes are made, and the parts are put.
 -- Assumes nothing.
 use Rattle.fabric_cycle.proofs.TurnLaws.{serves-as, turned-serving}
 use borrow.Author.Needs.{needs}

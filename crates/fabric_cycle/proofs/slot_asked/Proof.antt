@@ -1,4 +1,4 @@
--- `cycles::grant_at` meets its contract: a slave that serves; the last owner again, the first requester, nobody.
+-- `fabric_cycle::slot_asked` meets its contract: a slave that serves; the last owner again, the first requester, nobody.
 -- Assumes nothing.
 use mathlib.Core.Path.{_≡_}
 use mathlib.Core.Bool.{false}

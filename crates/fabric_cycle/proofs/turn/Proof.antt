@@ -1,4 +1,4 @@
--- `cycles::turn` meets its contract: a slave that serves, and one that rests.
+-- `fabric_cycle::turn` meets its contract: a slave that serves, and one that rests.
 -- Assumes nothing.
 use Rattle.fabric_cycle.proofs.TurnLaws.{turned-resting, serving-as, turned-as}
 use borrow.Author.Needs.{needs}

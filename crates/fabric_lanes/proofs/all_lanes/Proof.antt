@@ -1,4 +1,4 @@
--- `lanes::all_lanes` meets its contract: at most 8 lanes, so that no bit is shifted out.
+-- `fabric_lanes::all_lanes` meets its contract: at most 8 lanes, so that no bit is shifted out.
 -- Assumes nothing.
 use mathlib.Core.Path.{_≡_, ap, _∙_}
 use Prim.Native.Nat.{ℕ, _-_, _*_, _%_, _^_, _≤_}

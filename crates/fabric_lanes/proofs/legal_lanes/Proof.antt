@@ -1,4 +1,4 @@
--- `lanes::lanes_legal` meets its contract: its tests are the definition's.
+-- `fabric_lanes::legal_lanes` meets its contract: its tests are the definition's.
 -- Assumes nothing.
 use native.Mathlib.Omega.{arith}
 use lib.Count.{ones-le}

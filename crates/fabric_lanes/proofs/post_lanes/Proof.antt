@@ -1,4 +1,4 @@
--- `lanes::lanes_postable` meets its contract.
+-- `fabric_lanes::post_lanes` meets its contract.
 -- Assumes nothing.
 use mathlib.Core.Path.{_∙_}
 use Rattle.fabric_lanes.proofs.LaneLaws.{full-width, all-posted, part-burst, single}

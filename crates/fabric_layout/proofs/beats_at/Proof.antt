@@ -1,4 +1,4 @@
--- `state_layout::beats_at` meets its contract.
+-- `fabric_layout::beats_at` meets its contract.
 -- Assumes nothing.
 use borrow.Author.Needs.{needs}
 use Rattle.fabric_layout.proofs.RecordLaws.{beats-read}

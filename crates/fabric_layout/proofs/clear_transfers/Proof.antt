@@ -1,4 +1,4 @@
--- `state_layout::clear_transfers` meets its contract. The loop's invariant: the first m transfers are none.
+-- `fabric_layout::clear_transfers` meets its contract. The loop's invariant: the first m transfers are none.
 -- Assumes nothing.
 use mathlib.Core.Path.{_≡_, refl, _∙_}
 use Prim.Native.Nat.{_≤_, _-_}

@@ -1,4 +1,4 @@
--- `state_layout::clear_lines` meets its contract. The loop's invariant: the lines from n to s show nothing, the others are as
+-- `fabric_layout::first_lines` meets its contract. The loop's invariant: the lines from n to s show nothing, the others are as
 -- before.
 -- Assumes nothing.
 use mathlib.Core.Bool.{cond}

@@ -1,4 +1,4 @@
--- `state_layout::put_line` meets its contract: six stores, and no other line has a number there.
+-- `fabric_layout::put_line` meets its contract: six stores, and no other line has a number there.
 -- Assumes nothing.
 use borrow.Author.Needs.{needs}
 use Rattle.fabric_layout.proofs.RecordLaws.{line-put}

@@ -1,4 +1,4 @@
--- `state_layout::put_slot` meets its contract: five stores, and no other record has a number there. `count` tells the length.
+-- `fabric_layout::put_slot` meets its contract: five stores, and no other record has a number there. `count` tells the length.
 -- Assumes nothing.
 use borrow.Author.Needs.{needs}
 use Rattle.fabric_layout.proofs.RecordLaws.{slot-put}

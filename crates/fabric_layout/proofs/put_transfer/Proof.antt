@@ -1,4 +1,4 @@
--- `state_layout::put_transfer` meets its contract: five stores, and no other record has a number there.
+-- `fabric_layout::put_transfer` meets its contract: five stores, and no other record has a number there.
 -- Assumes nothing.
 use borrow.Author.Needs.{needs}
 use Rattle.fabric_layout.proofs.RecordLaws.{transfer-put}

@@ -1,4 +1,4 @@
--- `state_layout::slot_at_reset` meets its contract.
+-- `fabric_layout::reset_slot` meets its contract.
 -- Assumes nothing.
 use Rattle.fabric_layout.proofs.StatePutLaws.{fresh-owned, fresh-none}
 use Rattle.fabric_layout.proofs.reset_slot.Statement.{statement}

@@ -1,4 +1,4 @@
--- `state_layout::reset_state` meets its contract. The loop's invariant: no transfer is held, and the first s slots are those of a
+-- `fabric_layout::reset_state` meets its contract. The loop's invariant: no transfer is held, and the first s slots are those of a
 -- reset.
 -- Assumes nothing.
 use mathlib.Core.Path.{_≡_, _∙_}

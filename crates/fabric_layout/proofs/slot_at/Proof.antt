@@ -1,4 +1,4 @@
--- `state_layout::slot_at` meets its contract: the five numbers are read field by field.
+-- `fabric_layout::slot_at` meets its contract: the five numbers are read field by field.
 -- Assumes nothing.
 use borrow.Author.Needs.{needs}
 use Rattle.fabric_layout.proofs.RecordLaws.{slot-read}

@@ -1,4 +1,4 @@
--- `state_layout::transfer_at` meets its contract: the five numbers are read field by field.
+-- `fabric_layout::transfer_at` meets its contract: the five numbers are read field by field.
 -- Assumes nothing.
 use borrow.Author.Needs.{needs}
 use Rattle.fabric_layout.proofs.RecordLaws.{transfer-read}

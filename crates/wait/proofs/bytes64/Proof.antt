@@ -1,4 +1,4 @@
--- `quote::low_first` meets its contract: byte by byte; a quotient by 1 is the number.
+-- `wait::bytes64` meets its contract: byte by byte; a quotient by 1 is the number.
 -- Assumes nothing.
 use native.Mathlib.Nat.{div-one}
 use borrow.Author.Needs.{needs}

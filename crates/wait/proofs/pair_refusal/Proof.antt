@@ -1,4 +1,4 @@
--- `quote::pair_refusal` meets its contract: each way out is a law of `LookUpLaws`.
+-- `wait::pair_refusal` meets its contract: each way out is a law of `LookUpLaws`.
 -- Assumes nothing.
 use native.Mathlib.Omega.{arith}
 use borrow.Author.Needs.{needs}

@@ -1,4 +1,4 @@
--- `quote::put_figures` meets its contract: two numbers, one behind the other.
+-- `wait::put_figures` meets its contract: two numbers, one behind the other.
 -- Assumes nothing.
 use borrow.Author.Needs.{needs}
 use Rattle.wait.proofs.LookUpLaws.{figures-put}

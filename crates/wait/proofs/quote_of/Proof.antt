@@ -1,4 +1,4 @@
--- `quote::quote_of` meets its contract: each way out is a law of `LookUpLaws`.
+-- `wait::quote_of` meets its contract: each way out is a law of `LookUpLaws`.
 -- Assumes nothing.
 use mathlib.Core.Path.{sym, _∙_}
 use borrow.Author.Needs.{needs}

@@ -1,4 +1,4 @@
--- `quote::wait_call` meets its contract: each way out is a law of `LookUpLaws`.
+-- `wait::wait_call` meets its contract: each way out is a law of `LookUpLaws`.
 -- Assumes nothing.
 use borrow.Author.Needs.{needs}
 use Rattle.description.proofs.Trip.{read-legal}

@@ -1,4 +1,4 @@
--- `tables::print_page` meets its contract: the table, or the refusal's line on the page that was left as it was.
+-- `wait_table::print_page` meets its contract: the table, or the refusal's line on the page that was left as it was.
 -- Assumes nothing.
 use lib.Dec.{lit≤}
 use borrow.Author.Needs.{needs}

@@ -1,4 +1,4 @@
--- `tables::print_table` meets its contract: refused for the text, refused for the room, or the table that was made aside.
+-- `wait_table::print_table` meets its contract: refused for the text, refused for the room, or the table that was made aside.
 -- Assumes nothing.
 use Prim.Native.Nat.{_≤_}
 use native.Mathlib.Omega.{arith}

@@ -1,4 +1,4 @@
--- `tables::put_pair` meets its contract: no line, or the line of the quote.
+-- `wait_table::put_pair` meets its contract: no line, or the line of the quote.
 -- Assumes nothing.
 use mathlib.Core.Path.{ap}
 use native.Mathlib.Omega.{arith}

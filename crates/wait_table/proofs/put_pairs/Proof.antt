@@ -1,4 +1,4 @@
--- `tables::put_pairs` meets its contract. The loop's invariant: the lines of the first i pairs are stored.
+-- `wait_table::put_pairs` meets its contract. The loop's invariant: the lines of the first i pairs are stored.
 -- The measure is how many are left.
 -- Assumes nothing.
 use mathlib.Core.Path.{_≡_}

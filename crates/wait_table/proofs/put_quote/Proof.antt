@@ -1,4 +1,4 @@
--- `tables::put_quote` meets its contract: three texts, one behind another.
+-- `wait_table::put_quote` meets its contract: three texts, one behind another.
 -- Assumes nothing.
 use mathlib.Core.List.{[], _∷_}
 use native.Mathlib.Omega.{arith}

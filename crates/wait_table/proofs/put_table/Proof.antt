@@ -1,4 +1,4 @@
--- `tables::put_table` meets its contract: the heading, and the lines behind it.
+-- `wait_table::put_table` meets its contract: the heading, and the lines behind it.
 -- Assumes nothing.
 use native.Mathlib.Omega.{arith}
 use lib.ListN.{length-append}

@@ -1,4 +1,4 @@
--- `waits::figures` meets its contract: what its calls give.
+-- `wait_turns::figures_of` meets its contract: what its calls give.
 -- Assumes nothing.
 use borrow.Author.Needs.{needs}
 use Rattle.wait_turns.proofs.TurnSums.{slave-of, slave-legal, both-legal, figures-at}

@@ -1,4 +1,4 @@
--- `waits::longest_access` meets its contract: the two waits compared.
+-- `wait_turns::longest_access` meets its contract: the two waits compared.
 -- Assumes nothing.
 use native.Mathlib.Omega.{arith}
 use borrow.Author.Needs.{needs}

@@ -1,4 +1,4 @@
--- `waits::most_beats` meets its contract: the smaller of burst and quotient.
+-- `wait_turns::most_beats` meets its contract: the smaller of burst and quotient.
 -- Assumes nothing.
 use native.Mathlib.Omega.{arith}
 use borrow.Author.Needs.{needs}

@@ -1,4 +1,4 @@
--- `waits::other_turn` meets its contract: by its three ways out.
+-- `wait_turns::other_turn` meets its contract: by its three ways out.
 -- Assumes nothing.
 use borrow.Author.Needs.{needs}
 use Rattle.wait_turns.proofs.TurnSums.{other-own, other-none, other-turn, turn-legal}

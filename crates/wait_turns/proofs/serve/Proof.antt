@@ -1,4 +1,4 @@
--- `waits::serve` meets its contract: 512 accesses at most, of 32 bits, fit 64.
+-- `wait_turns::serve` meets its contract: 512 accesses at most, of 32 bits, fit 64.
 -- Assumes nothing.
 use mathlib.Core.Path.{ap₂}
 use Prim.Native.Nat.{ℕ, _*_, _≤_}

@@ -1,4 +1,4 @@
--- `waits::single` meets its contract: 8 accesses at most, of 32 bits, fit 64.
+-- `wait_turns::single` meets its contract: 8 accesses at most, of 32 bits, fit 64.
 -- Assumes nothing.
 use mathlib.Core.Path.{ap}
 use Prim.Native.Nat.{ℕ, _*_}

@@ -1,4 +1,4 @@
--- `waits::turn` meets its contract: no singles for one share or none.
+-- `wait_turns::turn` meets its contract: no singles for one share or none.
 -- Assumes nothing.
 use mathlib.Core.Path.{_≡_, ap₂}
 use Prim.Native.Nat.{ℕ, _+_, _-_, _*_, _^_, _<_}

@@ -1,4 +1,4 @@
--- `waits::turns_of` meets its contract. The loop's invariant: the sum is that of the first k masters, so at most k × 2 ^ 50.
+-- `wait_turns::turns_of` meets its contract. The loop's invariant: the sum is that of the first k masters, so at most k × 2 ^ 50.
 -- The measure is how many are left.
 -- Assumes nothing.
 use mathlib.Core.Path.{_≡_}

@@ -1,4 +1,4 @@
--- `rules::master_refusal` meets its contract. Each way out answers the definition's tests in their order.
+-- `description_rules::refusals::master_refusal` meets its contract. Each way out answers the definition's tests in their order.
 -- Assumes nothing.
 use borrow.Author.Needs.{needs}
 use Rattle.description_board.specs.Rules.{masterRefusal}

@@ -1,4 +1,4 @@
--- `rules::meets_one` meets its contract. The code's two tests are the definition's.
+-- `description_rules::refusals::meets` meets its contract. The code's two tests are the definition's.
 -- Assumes nothing.
 use mathlib.Core.Path.{refl}
 use borrow.Author.Needs.{needs}

@@ -1,4 +1,4 @@
--- `rules::meets_any` meets its contract. The loop's invariant: an overlap is one with a slave that is left.
+-- `description_rules::refusals::overlaps` meets its contract. The loop's invariant: an overlap is one with a slave that is left.
 -- Assumes nothing.
 use mathlib.Core.Path.{_≡_, _∙_, sym, refl, ap}
 use Prim.Native.Nat.{_≤_, _-_}

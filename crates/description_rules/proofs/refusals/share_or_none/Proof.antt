@@ -1,4 +1,4 @@
--- `rules::share_or_none` meets its contract. Past the end `getD` gives 0 too.
+-- `description_rules::refusals::share_or_none` meets its contract. Past the end `getD` gives 0 too.
 -- Assumes nothing.
 use mathlib.Core.Path.{sym}
 use native.Mathlib.Omega.{arith}

@@ -1,4 +1,4 @@
--- `rules::share_refusal` meets its contract. Each way out answers the definition's tests in their order.
+-- `description_rules::refusals::share_refusal` meets its contract. Each way out answers the definition's tests in their order.
 -- Assumes nothing.
 use mathlib.Core.Path.{_≡_}
 use mathlib.Core.Bool.{cond, _||_}

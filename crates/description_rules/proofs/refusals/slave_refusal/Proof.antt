@@ -1,4 +1,4 @@
--- `rules::slave_refusal` meets its contract. Each way out answers the definition's tests in their order.
+-- `description_rules::refusals::slave_refusal` meets its contract. Each way out answers the definition's tests in their order.
 -- Assumes nothing.
 use mathlib.Core.Path.{_∙_, sym, _≡_}
 use mathlib.Core.Bool.{cond, not}

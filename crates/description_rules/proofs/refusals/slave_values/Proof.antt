@@ -1,4 +1,4 @@
--- `rules::slave_values` meets its contract. The code's tests are the definition's.
+-- `description_rules::refusals::slave_values` meets its contract. The code's tests are the definition's.
 -- Assumes nothing.
 use borrow.Author.Needs.{needs}
 use Rattle.description_board.specs.Rules.{slaveValues}

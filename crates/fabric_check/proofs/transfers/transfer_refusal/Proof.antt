@@ -1,4 +1,4 @@
--- `transfers::refusal_of` meets its contract.
+-- `fabric_check::transfers::transfer_refusal` meets its contract.
 -- Assumes nothing.
 use mathlib.Core.Path.{_∙_}
 use native.Mathlib.Omega.{arith}

@@ -1,4 +1,4 @@
--- `transfers::transfer_refusal` meets its contract. Each way out answers the definition's tests in their order.
+-- `fabric_check::transfers::transfer_refusal_by` meets its contract. Each way out answers the definition's tests in their order.
 -- Assumes nothing.
 use mathlib.Core.Path.{_≡_, sym, _∙_}
 use mathlib.Core.Bool.{cond}

@@ -1,4 +1,4 @@
--- `transfers::weight_of` meets its contract: the bit of a master below 8 fits a mask.
+-- `fabric_check::transfers::weight_of` meets its contract: the bit of a master below 8 fits a mask.
 -- Assumes nothing.
 use lib.Pow.{pow-mono}
 use native.Mathlib.Omega.{arith}

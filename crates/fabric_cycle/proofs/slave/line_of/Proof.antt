@@ -1,4 +1,4 @@
--- `steps::line_of` meets its contract: the line of the access in hand.
+-- `fabric_cycle::slave::line_of` meets its contract: the line of the access in hand.
 -- Assumes nothing.
 use Rattle.fabric_state.specs.Control.{lineOf}
 use borrow.Author.Needs.{needs}

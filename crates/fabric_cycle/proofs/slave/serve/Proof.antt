@@ -1,4 +1,4 @@
--- `steps::serve` meets its contract: the bytes, then the step.
+-- `fabric_cycle::slave::serve` meets its contract: the bytes, then the step.
 -- Assumes nothing.
 use mathlib.Core.Path.{_∙_}
 use Rattle.fabric_cycle.proofs.ServeLaws.{from-serving}

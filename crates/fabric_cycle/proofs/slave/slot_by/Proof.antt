@@ -1,4 +1,4 @@
--- `steps::slot_by` meets its contract: a grant, and none.
+-- `fabric_cycle::slave::slot_by` meets its contract: a grant, and none.
 -- Assumes nothing.
 use borrow.Author.Needs.{needs}
 use Rattle.fabric_cycle.proofs.SlotGrantLaws.{by-granted, by-silent}

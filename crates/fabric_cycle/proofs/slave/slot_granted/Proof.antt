@@ -1,4 +1,4 @@
--- `steps::slot_ruled` meets its contract: a walk of its MIR, by hand, since it makes a reference to a struct. The slave's
+-- `fabric_cycle::slave::slot_granted` meets its contract: a walk of its MIR, by hand, since it makes a reference to a struct. The slave's
 -- record is made and stored in a local, the local is lent for a lifetime that the walk makes, the lifetime is ended after the
 -- call, and the local comes back at the record that `arbiter::arbitrate_record` ensures. Of its callees it knows only that
 -- each meets its contract.
