@@ -14,7 +14,7 @@ use borrow.Author.Tests.{eq-eqb, eqb-true, eqb-false, ltb-true, ltb-false}
 use Rattle.common_laws.proofs.TextLists.{member-append}
 use Rattle.common_laws.specs.Lists.{member}
 use Rattle.common_text.specs.Digits.{digitsIn, digits, fieldsText, lineText}
-use Rattle.common_text.specs.Fields.{comma, lineFeed, push, split, isDigit, scan, numberOf, noNumbers, withNumber, collect, numbersOf}
+use Rattle.common_text.specs.Fields.{comma, lineFeed, push, split, isDigit, scan, numberOf, mostNumbers, noNumbers, withNumber, collect, numbersOf}
 use Rattle.common_text.specs.declared.Number.the-variants.{Malformed, Value}
 use Rattle.common_text.specs.declared.Numbers.{Numbers}
 use Rattle.common_text.proofs.Decimal.{digitsIn-small, digitsIn-large, digits-short, member-digits}
@@ -155,13 +155,13 @@ Short (n ∷ ns) = (n < 10 ^ 10) × Short ns
 
 -- numbers as a line holds them
 abbrev pub numbered : List ℕ → Numbers
-numbered ns = record { count = length ns; values = sets (replicate 6 0) 0 ns }
+numbered ns = record { count = length ns; values = sets (replicate mostNumbers 0) 0 ns }
 
 -- the numbers ms and then ns
 abbrev more : Numbers → List ℕ → Numbers
 more ms ns = record { count = ms .count + length ns; values = sets (ms .values) (ms .count) ns }
 
-collect-digits : (ms : Numbers) (ns : List ℕ) → ms .count + length ns ≤ 6 → Short ns → collect ms (map digits ns) ≡ more ms ns
+collect-digits : (ms : Numbers) (ns : List ℕ) → ms .count + length ns ≤ mostNumbers → Short ns → collect ms (map digits ns) ≡ more ms ns
 unfolding withNumber
 collect-digits ms [] h s =
     collect-end ms ∙ ap (λ (k : ℕ). record { count = k; values = ms .values }) (omega arith)
@@ -171,8 +171,8 @@ collect-digits ms (n ∷ ns) h s =
     ∙ ap₂ (λ (k : ℕ) (l : List ℕ). record { count = k; values = l }) (omega arith) (rw add-one)
 
 -- a line's numbers written and read
-pub numbers-digits : (ns : List ℕ) → length ns ≤ 6 → Short ns → numbersOf (map digits ns) ≡ numbered ns
+pub numbers-digits : (ns : List ℕ) → length ns ≤ mostNumbers → Short ns → numbersOf (map digits ns) ≡ numbered ns
 unfolding numbersOf noNumbers
 numbers-digits ns h s =
     collect-digits noNumbers ns (omega arith) s
-    ∙ ap (λ (k : ℕ). record { count = k; values = sets (replicate 6 0) 0 ns }) (omega arith)
+    ∙ ap (λ (k : ℕ). record { count = k; values = sets (replicate mostNumbers 0) 0 ns }) (omega arith)

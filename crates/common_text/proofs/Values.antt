@@ -11,7 +11,7 @@ use lib.Dec.{leb, eqb, lit<}
 use lib.ListN.{length, getD, take, drop, drop-of-length-le}
 use lib.Seq.{drop-cons}
 use borrow.Author.Tests.{lt-ltb, le-leb, lt-leb, eq-eqb, ne-eqb}
-use Rattle.common_text.specs.Fields.{comma, split, isDigit, scan, shaped, numberOf, numberRefusal, numberValue, noNumbers, withNumber, collect, numbersOf}
+use Rattle.common_text.specs.Fields.{comma, split, isDigit, scan, shaped, numberOf, numberRefusal, numberValue, mostNumbers, noNumbers, withNumber, collect, numbersOf}
 use Rattle.common_text.specs.Code.Scanning.{Cut}
 use Rattle.common_text.specs.declared.Number.the-variants.{Malformed, Value}
 use Rattle.common_text.specs.declared.Numbers.{Numbers}
@@ -92,16 +92,16 @@ module _ (f : List ℕ) where
 
 -- one field more
 module _ (ns : Numbers) (f : List ℕ) (fs : List (List ℕ)) where
-  pub collect-full : ns .count ≡ 6 → collect ns (f ∷ fs) ≡ noNumbers
+  pub collect-full : ns .count ≡ mostNumbers → collect ns (f ∷ fs) ≡ noNumbers
   unfolding collect
   collect-full h = simp (eq-eqb _ _ h)
 
-  pub collect-malformed : (ns .count ≡ 6 → ⊥) → numberOf f ≡ Malformed → collect ns (f ∷ fs) ≡ noNumbers
+  pub collect-malformed : (ns .count ≡ mostNumbers → ⊥) → numberOf f ≡ Malformed → collect ns (f ∷ fs) ≡ noNumbers
   unfolding collect numberRefusal
   collect-malformed h e = simp (ne-eqb _ _ h, e)
 
   pub collect-value :
-      (v : ℕ) → (ns .count ≡ 6 → ⊥) → numberOf f ≡ Value v
+      (v : ℕ) → (ns .count ≡ mostNumbers → ⊥) → numberOf f ≡ Value v
       → collect ns (f ∷ fs) ≡ collect (withNumber ns v) fs
   unfolding collect numberRefusal numberValue
   collect-value v h e = simp (ne-eqb _ _ h, e)
@@ -121,15 +121,15 @@ module _
     (known : numbersOf (split comma s) ≡ collect ns (split comma (drop at s)))
     (cut : Cut comma (take (length s - at) (drop at s)) e)
   where
-    pub numbers-full : ns .count ≡ 6 → numbersOf (split comma s) ≡ noNumbers
+    pub numbers-full : ns .count ≡ mostNumbers → numbersOf (split comma s) ≡ noNumbers
     numbers-full h = known ∙ ap (collect ns) (cut-rest comma s at e cut) ∙ collect-full ns _ _ h
 
     pub numbers-malformed :
-        (ns .count ≡ 6 → ⊥) → numberOf (take e (take (length s - at) (drop at s))) ≡ Malformed
+        (ns .count ≡ mostNumbers → ⊥) → numberOf (take e (take (length s - at) (drop at s))) ≡ Malformed
         → numbersOf (split comma s) ≡ noNumbers
     numbers-malformed h n = known ∙ ap (collect ns) (cut-rest comma s at e cut) ∙ collect-malformed ns _ _ h n
 
-    module _ (v : ℕ) (h : ns .count ≡ 6 → ⊥) (n : numberOf (take e (take (length s - at) (drop at s))) ≡ Value v) where
+    module _ (v : ℕ) (h : ns .count ≡ mostNumbers → ⊥) (n : numberOf (take e (take (length s - at) (drop at s))) ≡ Value v) where
       pub numbers-last : e ≡ length (take (length s - at) (drop at s)) → numbersOf (split comma s) ≡ withNumber ns v
       numbers-last g =
           known ∙ ap (collect ns) (cut-rest comma s at e cut) ∙ collect-value ns _ _ v h n

@@ -54,19 +54,24 @@ unfoldable pub numberValue : Number → ℕ
 numberValue Malformed = 0
 numberValue (Value n) = n
 
+-- the most numbers that a line has behind its word: those of a slave line (rule 1.3)
+abbrev pub mostNumbers : ℕ
+mostNumbers = 6
+
 -- no numbers
 unfoldable pub noNumbers : Numbers
-noNumbers = record { count = 0; values = replicate 6 0 }
+noNumbers = record { count = 0; values = replicate mostNumbers 0 }
 
 -- one number more
 unfoldable pub withNumber : Numbers → ℕ → Numbers
 withNumber ns n = record { count = ns .count + 1; values = set (ns .values) (ns .count) n }
 
--- rules 1.3, 7.1: the numbers ns, then those of the fields; none where a field is malformed, or together they are more than 6
+-- the numbers ns and then those of the fields (rule 7.1); none where a field is malformed, or where they are more than `mostNumbers`
+-- together
 unfoldable pub collect : Numbers → List (List ℕ) → Numbers
 collect ns [] = ns
 collect ns (f ∷ fs) =
-    cond (eqb (ns .count) 6) noNumbers
+    cond (eqb (ns .count) mostNumbers) noNumbers
     (cond (eqb (numberRefusal (numberOf f)) 0) (collect (withNumber ns (numberValue (numberOf f))) fs) noNumbers)
 
 -- rule 1.3: the numbers of the fields behind a line's first

@@ -1,10 +1,11 @@
-// Bytes to fields and decimal numbers, and back (rules 1.2, 1.3, 1.5).
+// Bytes to fields and decimal numbers (rules 1.2, 1.5), and back.
+use common_numbers::LINE_NUMBERS;
 ghost use mathlib.Core.Path.{_≡_};
 ghost use mathlib.Core.List.{[], _∷_};
 ghost use Prim.Native.Nat.{_≤_, _<_, _+_};
 ghost use lib.ListN.{length};
 ghost use Rattle.common_laws.specs.Lists.{same};
-ghost use Rattle.common_text.specs.Fields.{comma, lineFeed, split, scan, numberOf, numbersOf, withNumber, noNumbers};
+ghost use Rattle.common_text.specs.Fields.{comma, lineFeed, split, scan, numberOf, mostNumbers, numbersOf, withNumber, noNumbers};
 ghost use Rattle.common_text.specs.Digits.{digits, fieldsText, lineText};
 ghost use Rattle.common_text.specs.Code.Scanning.{behind, Cut, Put};
 
@@ -14,10 +15,10 @@ pub enum Number {
     Value(u64),
 }
 
-// The numbers of a line's fields behind the first (rule 1.3); none where one is malformed or there are more than six (rule 7.1).
+// The numbers of a line's fields behind the first; none where a field is malformed or there are more than any line has (rules 1.3, 7.1).
 pub struct Numbers {
-    pub count: u8,
-    pub values: [u64; 6],
+    pub count: usize,
+    pub values: [u64; LINE_NUMBERS],
 }
 
 // The position of the first byte `b` of s, or the length of s where there is none: where the first piece of s ends (rule 1.2).
@@ -106,17 +107,17 @@ fn no_numbers() -> Numbers
 {
     Numbers {
         count: 0,
-        values: [0; 6],
+        values: [0; LINE_NUMBERS],
     }
 }
 
 // One number more, where there is room for it.
 fn with_number(ns: Numbers, n: u64) -> Numbers
-    requires { ⌜ ns .count < 6 ⌝ }
+    requires { ⌜ ns .count < mostNumbers ⌝ }
     ensures { λ r. ⌜ r ≡ withNumber ns n ⌝ }
 {
     let mut values = ns.values;
-    let k = ns.count as usize;
+    let k = ns.count;
     values[k] = n;
     Numbers {
         count: ns.count + 1,
@@ -134,7 +135,7 @@ pub fn numbers_of(fields: &[u8]) -> Numbers
         let rest = &fields[at..];
         let e = find_byte(rest, b',');
         let n = number_of(&rest[..e]);
-        if ns.count == 6 {
+        if ns.count == LINE_NUMBERS {
             return no_numbers();
         }
         match n {
@@ -246,9 +247,9 @@ pub fn digit_count(n: u64) -> usize
     count
 }
 
-// How many bytes the fields of a line's numbers take (rule 1.2). A line has six numbers or fewer, so that the sum cannot wrap.
+// How many bytes the fields of a line's numbers take. A line has few numbers, so that the sum cannot wrap.
 pub fn fields_length(numbers: &[u64]) -> usize
-    requires { ⌜ length (now numbers) ≤ 6 ⌝ }
+    requires { ⌜ length (now numbers) ≤ mostNumbers ⌝ }
     ensures { λ r. ⌜ r ≡ length (fieldsText (now (numbers .entry))) ⌝ }
 {
     let mut sum: usize = 0;

@@ -19,7 +19,7 @@ use Rattle.description_board.proofs.Accepted.{accepted-legal}
 use Rattle.description_check.specs.Code.Entries.{entryCount, lineAt, present, linesTo}
 use Rattle.description_check.proofs.EntryLaws.{lines-all, lines-next}
 use Rattle.description_lines.specs.Writer.{itemText, itemsText}
-use Rattle.description_lines.proofs.WriteLaws.{item-fits, text-append, text-one, length-text}
+use Rattle.description_lines.proofs.WriteLaws.{lineRoom, item-fits, text-append, text-one, length-text}
 use Rattle.description.specs.Writer.{writeText, writeRefusal, writeAnswer, writeOutput}
 use Rattle.description.specs.declared.Written.{Written}
 
@@ -94,9 +94,9 @@ module _ (b : Board) where
   unfolding linesTo
   room-next k h = rw (text-present, text-all (entryCount b) refl) at (gather-room (λ j. present (lineAt b j)) (entryCount b) k h)
 
-  pub lines-fit : (k : ℕ) → length (itemsText (linesTo b k)) ≤ 133 * k
+  pub lines-fit : (k : ℕ) → length (itemsText (linesTo b k)) ≤ lineRoom * k
   unfolding linesTo
-  lines-fit k = gather-most (λ j. present (lineAt b j)) 133 k (λ i l. rw text-present (item-fits (lineAt b i)))
+  lines-fit k = gather-most (λ j. present (lineAt b j)) lineRoom k (λ i l. rw text-present (item-fits (lineAt b i)))
 
   pub put-next :
       {o p q : List ℕ} {at r t : ℕ} (k : ℕ) → Put o at (itemsText (linesTo b k)) p r → Put p r (itemText (lineAt b k)) q t

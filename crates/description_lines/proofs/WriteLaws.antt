@@ -2,10 +2,11 @@
 -- Assumes nothing.
 use mathlib.Core.List.{List, [], _∷_, _++_, append-assoc, append-nil}
 use mathlib.Core.Path.{_≡_, refl, ap, sym, _∙_}
-use Prim.Native.Nat.{ℕ, _+_, _≤_}
+use Prim.Native.Nat.{ℕ, _+_, _*_, _≤_}
 use native.Mathlib.Omega.{arith}
 use lib.ListN.{length, length-append}
 use Rattle.common_laws.specs.Bytes.{bytesOf}
+use Rattle.common_text.specs.Fields.{mostNumbers}
 use Rattle.common_text.specs.Digits.{fieldsText, lineText}
 use Rattle.common_text.proofs.Decimal.{fields-long, line-length}
 use Rattle.description_board.specs.declared.Item.{Item}
@@ -22,14 +23,21 @@ pub line-room :
     (at n : ℕ) (v w ns : List ℕ) → length v ≡ length w → at + length (lineText v ns) ≤ n → at + length (lineText w ns) ≤ n
 line-room at n v w ns e h = omega (arith, line-length v ns, line-length w ns)
 
--- a line has at most six numbers, so that its length is small
-pub fields-fit : (ns : List ℕ) (k : ℕ) → k ≡ length (fieldsText ns) → length ns ≤ 6 → k ≤ 126
+-- A line has few numbers, so that its length is small: a comma and at most 20 digits for each number, a word of at most 6 bytes, the
+-- line feed.
+abbrev fieldsRoom : ℕ
+fieldsRoom = 21 * mostNumbers
+
+abbrev pub lineRoom : ℕ
+lineRoom = 7 + fieldsRoom
+
+pub fields-fit : (ns : List ℕ) (k : ℕ) → k ≡ length (fieldsText ns) → length ns ≤ mostNumbers → k ≤ fieldsRoom
 fields-fit ns k e h = omega (arith, fields-long ns)
 
-line-fits : (word ns : List ℕ) → length word ≤ 6 → length ns ≤ 6 → length (lineText word ns) ≤ 133
+line-fits : (word ns : List ℕ) → length word ≤ 6 → length ns ≤ mostNumbers → length (lineText word ns) ≤ lineRoom
 line-fits word ns h g = omega (arith, line-length word ns, fields-long ns)
 
-pub item-fits : (x : Item) → length (itemText x) ≤ 133
+pub item-fits : (x : Item) → length (itemText x) ≤ lineRoom
 unfolding itemText bytesOf
 item-fits Malformed = omega arith
 item-fits (MasterLine w u) = line-fits masterWord (w ∷ u ∷ []) (omega arith) (omega arith)

@@ -1,4 +1,5 @@
-// The lines of a description: the item that a line of a text says, and an item's line (rules 1.2, 1.3).
+// The lines of a description (rules 1.2, 1.3): the item that a line of a text says, and an item's line.
+use common_numbers::SLAVE_FIELDS;
 ghost use mathlib.Core.Path.{_≡_};
 ghost use Prim.Native.Nat.{_+_, _≤_, _<_};
 ghost use lib.ListN.{length};
@@ -30,7 +31,7 @@ fn master_line(ns: Numbers) -> Item
 fn slave_line(ns: Numbers) -> Item
     ensures { λ x. ⌜ x ≡ slaveLine ns ⌝ }
 {
-    if ns.count == 6 {
+    if ns.count == SLAVE_FIELDS {
         let n = SlaveNumbers {
             base: ns.values[0],
             span: ns.values[1],
@@ -94,7 +95,7 @@ pub fn line_from(text: &[u8], at: usize) -> LineRead
 }
 
 // The numbers of a slave line in the order of its fields (rule 1.3).
-fn slave_fields(n: SlaveNumbers) -> [u64; 6]
+fn slave_fields(n: SlaveNumbers) -> [u64; SLAVE_FIELDS]
     ensures { λ r. ⌜ r ≡ slaveFields n ⌝ }
 {
     [n.base, n.span, n.width, n.burst, n.read_wait, n.write_wait]

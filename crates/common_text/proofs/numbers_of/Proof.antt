@@ -8,14 +8,14 @@ use lib.ListN.{length, drop}
 use lib.Seq.{length-take-le}
 use borrow.Author.Needs.{needs}
 use Rattle.common_laws.proofs.TextLists.{part-rest-length}
-use Rattle.common_text.specs.Fields.{comma, split, collect, numbersOf, noNumbers, withNumber}
+use Rattle.common_text.specs.Fields.{comma, split, collect, mostNumbers, numbersOf, noNumbers, withNumber}
 use Rattle.common_text.proofs.Values.{numbers-full, numbers-malformed, numbers-last, numbers-more}
 use Rattle.common_text.proofs.numbers_of.Statement.{statement}
 use Rattle.common_text.proofs.numbers_of.Tie as tie
 
 abbrev Inv-loop : tie.InvT-loop
 Inv-loop fields ns₀ at₀ ns at = (at ≤ length fields) ×
-    (ns .count ≤ 6) ×
+    (ns .count ≤ mostNumbers) ×
     (numbersOf (split comma fields) ≡ collect ns (split comma (drop at fields)))
 
 abbrev μ-loop : tie.MeasureT-loop
