@@ -14,6 +14,16 @@ pub struct Slave {
     pub write_wait: u32,
 }
 
+// What stands for a slave past the array of a board.
+pub const NO_SLAVE: Slave = Slave {
+    base: 0,
+    span: 0,
+    width: 0,
+    burst: 0,
+    read_wait: 0,
+    write_wait: 0,
+};
+
 // The shares of master m at slave s stand at index 16 * m + s; 0: not connected (rule 1.8).
 pub struct Board {
     pub master_count: u32,

@@ -14,6 +14,7 @@ ghost use Rattle.description_check.specs.Code.Entries.{pairItem, entryCo
 ghost use Rattle.description_check.specs.Code.Accept.{MastersFit, SlaveFits, Clear, SlavesFit};
 ghost use Rattle.description_check.specs.Code.Accept.{shareLimit, RowFits, RowEmpty, RowPasses, SharesFit};
 use description_board::Item;
+use description_board::NO_SLAVE;
 use description_board::Slave;
 use description_board::SlaveNumbers;
 use description_rules::Progress;
@@ -52,14 +53,7 @@ fn slave_item(board: &[u32; BOARD_NUMBERS], i: usize) -> Item
         let n = slave_numbers(s);
         return Item::SlaveLine(n);
     }
-    let zeros = SlaveNumbers {
-        base: 0,
-        span: 0,
-        width: 0,
-        burst: 0,
-        read_wait: 0,
-        write_wait: 0,
-    };
+    let zeros = slave_numbers(NO_SLAVE);
     Item::SlaveLine(zeros)
 }
 

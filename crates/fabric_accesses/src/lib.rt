@@ -25,6 +25,15 @@ pub struct Transfer {
     pub beats: u32,
 }
 
+// The zero record.
+pub const NO_TRANSFER: Transfer = Transfer {
+    held: false,
+    write: false,
+    address: 0,
+    lanes: 0,
+    beats: 0,
+};
+
 // The words of this width in so many bytes (rules 4.10, 5.3).
 pub fn quotient(bytes: u32, width: u32) -> u32
     requires { ⌜ member width widths ≡ true ⌝ }

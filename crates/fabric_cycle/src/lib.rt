@@ -6,9 +6,9 @@ use common_numbers::BOARD_NUMBERS;
 use common_numbers::LINES_NUMBERS;
 use common_numbers::SLAVES;
 use common_numbers::STATE_NUMBERS;
-use fabric_accesses::Transfer;
+use fabric_accesses::NO_TRANSFER;
 use fabric_arbiter::Winner;
-use fabric_state::Line;
+use fabric_state::NO_LINE;
 use fabric_state::Slot;
 ghost use mathlib.Core.Path.{_≡_};
 ghost use mathlib.Core.Bool.{false};
@@ -57,14 +57,7 @@ fn end_transfer(st: &mut [u32; STATE_NUMBERS], m: usize, finished: bool)
     ensures { λ _. ⌜ stateIn (now (st .exit)) ≡ endedTransfer (stateIn (now (st .entry))) m finished ⌝ }
 {
     if finished {
-        let idle = Transfer {
-            held: false,
-            write: false,
-            address: 0,
-            lanes: 0,
-            beats: 0,
-        };
-        fabric_layout::put_transfer(st, m, idle);
+        fabric_layout::put_transfer(st, m, NO_TRANSFER);
     }
 }
 
@@ -124,16 +117,8 @@ fn turn(
     if slot.serving {
         return serve_at(board, st, s, slot, start, lines, memory, buffer);
     }
-    let idle = Line {
-        phase: 0,
-        owner: 0,
-        offset: 0,
-        lanes: 0,
-        run: 0,
-        place: 0,
-    };
     fabric_layout::put_slot(st, s, slot);
-    fabric_layout::put_line(lines, s, idle);
+    fabric_layout::put_line(lines, s, NO_LINE);
     0
 }
 

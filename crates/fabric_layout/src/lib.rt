@@ -5,8 +5,11 @@ use common_numbers::SLOT_NUMBERS;
 use common_numbers::SLOTS_FROM;
 use common_numbers::STATE_NUMBERS;
 use common_numbers::TRANSFER_NUMBERS;
+use fabric_accesses::NO_TRANSFER;
 use fabric_accesses::Transfer;
 use fabric_state::Line;
+use fabric_state::NO_LINE;
+use fabric_state::NO_SLOT;
 use fabric_state::Slot;
 ghost use mathlib.Core.Path.{_≡_};
 ghost use mathlib.Core.Bool.{cond};
@@ -111,17 +114,9 @@ pub fn put_line(lines: &mut [u32; LINES_NUMBERS], s: usize, x: Line)
 pub fn first_lines(lines: &mut [u32; LINES_NUMBERS], n: usize)
     ensures { λ _. ⌜ linesIn (now (lines .exit)) ≡ firstLines n (linesIn (now (lines .entry))) ⌝ }
 {
-    let blank = Line {
-        phase: 0,
-        owner: 0,
-        offset: 0,
-        lanes: 0,
-        run: 0,
-        place: 0,
-    };
     let mut s = n;
     while s < 16 {
-        put_line(lines, s, blank);
+        put_line(lines, s, NO_LINE);
         s += 1;
     }
 }
@@ -130,13 +125,7 @@ pub fn first_lines(lines: &mut [u32; LINES_NUMBERS], n: usize)
 fn reset_slot(owner: u32, n: u32, s: usize) -> Slot
     ensures { λ r. ⌜ r ≡ resetSlot owner n s ⌝ }
 {
-    let mut x = Slot {
-        owner: 0,
-        remaining: 0,
-        serving: false,
-        done: 0,
-        waited: 0,
-    };
+    let mut x = NO_SLOT;
     if s < n as usize {
         x.owner = owner;
     }
@@ -147,16 +136,9 @@ fn reset_slot(owner: u32, n: u32, s: usize) -> Slot
 fn clear_transfers(st: &mut [u32; STATE_NUMBERS])
     ensures { λ _. ⌜ stateIn (now (st .exit)) .transfers ≡ replicate 8 noTransfer ⌝ }
 {
-    let idle = Transfer {
-        held: false,
-        write: false,
-        address: 0,
-        lanes: 0,
-        beats: 0,
-    };
     let mut m: usize = 0;
     while m < 8 {
-        put_transfer(st, m, idle);
+        put_transfer(st, m, NO_TRANSFER);
         m += 1;
     }
 }

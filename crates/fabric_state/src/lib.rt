@@ -10,6 +10,14 @@ pub struct Slot {
     pub waited: u32,
 }
 
+// Rule 4.2: of a slave that the board does not have, a reset leaves all 0.
+pub const NO_SLOT: Slot = Slot {
+    owner: 0,
+    remaining: 0,
+    serving: false,
+    done: 0,
+    waited: 0,
+};
 // The transfer of each master (rule 3.3), and the slot of each slave (rule 4.1).
 pub struct State {
     pub transfers: [Transfer; 8],
@@ -25,6 +33,16 @@ pub struct Line {
     pub run: u32,
     pub place: u32,
 }
+
+// Rule 4.13: a line of phase 0 is all 0.
+pub const NO_LINE: Line = Line {
+    phase: 0,
+    owner: 0,
+    offset: 0,
+    lanes: 0,
+    run: 0,
+    place: 0,
+};
 
 // One slave's clock: the slot after it, its line, whether its owner is finished (rules 4.3 to 4.9, 4.13).
 pub struct Step {

@@ -20,11 +20,15 @@ returns : tie.Need-returns
 unfolding slaveItem
 returns c = rw (c .slave-numbers .ensures, c .before .slave-at .ensures)
 
+slave-numbers-requires-2 : tie.Need-slave-numbers-requires-2
+slave-numbers-requires-2 c κs = search needs
+
 returns-2 : tie.Need-returns-2
 unfolding slaveItem
-returns-2 c = let a = c .before .args in
+returns-2 c = let a = c .before .before .args in
     let g = slaves-length (a .board .now) in
-    rw (List·getD-eq-default (boardIn (a .board .now) .slaves) noSlave {n = a .i} (omega arith))
+    rw (c .slave-numbers2 .ensures, List·getD-eq-default (boardIn (a .board .now) .slaves) noSlave {n = a .i} (omega arith))
 
 pub slave-item-spec : {M : Type 1} → statement M
-slave-item-spec = tie.close (tie.spec slave-at-requires slave-numbers-requires returns returns-2)
+slave-item-spec =
+    tie.close (tie.spec slave-at-requires slave-numbers-requires returns slave-numbers-requires-2 returns-2)

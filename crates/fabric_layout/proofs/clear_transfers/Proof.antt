@@ -13,10 +13,10 @@ use Rattle.fabric_layout.proofs.clear_transfers.Statement.{statement}
 use Rattle.fabric_layout.proofs.clear_transfers.Tie as tie
 
 abbrev Inv-loop : tie.InvT-loop
-Inv-loop st₀ idle m₀ st m = (m ≤ 8) × (stateIn st .transfers ≡ filled (λ k. noTransfer) (transferAt (stateIn st₀)) 8 m)
+Inv-loop st₀ m₀ st m = (m ≤ 8) × (stateIn st .transfers ≡ filled (λ k. noTransfer) (transferAt (stateIn st₀)) 8 m)
 
 abbrev μ-loop : tie.MeasureT-loop
-μ-loop st₀ idle m₀ st m = 8 - m
+μ-loop st₀ m₀ st m = 8 - m
 
 loop-holds : tie.Need-loop-holds Inv-loop μ-loop
 loop-holds c = (omega arith, transfers-begin _ _)

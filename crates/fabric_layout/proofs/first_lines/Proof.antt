@@ -16,12 +16,12 @@ use Rattle.fabric_layout.proofs.first_lines.Statement.{statement}
 use Rattle.fabric_layout.proofs.first_lines.Tie as tie
 
 abbrev Inv-loop : tie.InvT-loop
-Inv-loop lines₀ n blank s₀ lines s = (n ≤ s)
+Inv-loop lines₀ n s₀ lines s = (n ≤ s)
     × (linesIn lines
     ≡ filled (λ i. cond (ltb i n) (getD (linesIn lines₀) i noLine) noLine) (λ i. getD (linesIn lines₀) i noLine) 16 s)
 
 abbrev μ-loop : tie.MeasureT-loop
-μ-loop lines₀ n blank s₀ lines s = 16 - s
+μ-loop lines₀ n s₀ lines s = 16 - s
 
 loop-holds : tie.Need-loop-holds Inv-loop μ-loop
 loop-holds c = (omega arith, clear-begin _ _)
