@@ -99,7 +99,7 @@ fn post_idle(
 }
 
 // So many clocks, every master posting again as soon as it is idle; the sum of the masks.
-fn run(
+fn clock_all(
     board: &[u32; BOARD_NUMBERS],
     state: &mut [u32; STATE_NUMBERS],
     memory: &mut [u8],
@@ -126,7 +126,7 @@ fn run(
     sum
 }
 
-// Reads the text, resets and makes the traffic.
+// Reads the text, resets and clocks the traffic.
 #[no_mangle]
 pub extern "C" fn bench_clocks(
     text: &[u8],
@@ -138,5 +138,5 @@ pub extern "C" fn bench_clocks(
     let mut state = [0u32; STATE_NUMBERS];
     description::read(text, &mut board);
     fabric::reset(&board, &mut state);
-    run(&board, &mut state, memory, buffer, clocks)
+    clock_all(&board, &mut state, memory, buffer, clocks)
 }

@@ -4,11 +4,11 @@ ghost use mathlib.Core.Path.{_≡_};
 ghost use Rattle.program_options.specs.Options.{optionOf};
 use libc::STDOUT_FILENO;
 
-// What a program is asked for: its help, its version, or its work on the words from an index on. Wrong: none of these.
+// What a program is asked for: its help, its version, or its work on its operands, the words from an index on. Wrong: none of these.
 pub enum Mode {
     Help,
     Version,
-    Run(usize),
+    Operands(usize),
     Wrong,
 }
 
@@ -21,11 +21,11 @@ enum Word {
 }
 
 // To work on `operands` words, which stand from `first` on; the program's name is word 0.
-fn run_from(first: usize, operands: usize) -> Mode {
+fn operands_from(first: usize, operands: usize) -> Mode {
     let count = os::arg_count();
     if first <= count {
         if count - first == operands {
-            return Mode::Run(first);
+            return Mode::Operands(first);
         }
     }
     Mode::Wrong
@@ -55,19 +55,19 @@ fn option_of(word: &[u8]) -> Word
     Word::Unknown
 }
 
-// What the words ask of a program that works on so many of them. A first word that begins with `-` is an option, and `--` ends the
+// What the words ask of a program that has so many operands. A first word that begins with `-` is an option, and `--` ends the
 // options. Of a word that is too long to be handed out the first byte still tells that it is one.
 pub fn asked(operands: usize) -> Mode {
     let mut word = io::buffer();
     let length = os::arg(1, &mut word);
     if word[0] != b'-' {
-        return run_from(1, operands);
+        return operands_from(1, operands);
     }
     let option = option_of(&word[..length]);
     match option {
         Word::Help => alone(Mode::Help),
         Word::Version => alone(Mode::Version),
-        Word::End => run_from(2, operands),
+        Word::End => operands_from(2, operands),
         Word::Unknown => Mode::Wrong,
     }
 }

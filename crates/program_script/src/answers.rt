@@ -4,20 +4,20 @@ use common_numbers::STATE_NUMBERS;
 ghost use mathlib.Core.Path.{_≡_};
 ghost use Prim.Native.Nat.{_+_, _*_, _≤_, _<_};
 ghost use lib.ListN.{length};
-use crate::Run;
+use crate::Session;
 use crate::explain;
 
 // The length of the buffer.
 pub const ROOM: usize = 65536;
 
-// Writes out what has gathered. Where nothing can be printed any more the run ends.
-pub fn flush(out: &[u8], run: Run) -> Run
+// Writes out what has gathered. Where nothing can be printed any more the session ends.
+pub fn flush(out: &[u8], session: Session) -> Session
     ensures { λ r. ⌜ r .filled ≡ 0 ⌝ }
 {
-    let n = crate::place(run.filled, out);
-    let mut next = run;
+    let n = crate::bounded(session.filled, out);
+    let mut next = session;
     next.filled = 0;
-    if run.broken {
+    if session.broken {
         return next;
     }
     if program_options::print(b"simulate", &out[..n]) {
@@ -29,44 +29,44 @@ pub fn flush(out: &[u8], run: Run) -> Run
 }
 
 // Makes room for n bytes more.
-fn with_room(out: &[u8], run: Run, n: usize) -> Run
+fn with_room(out: &[u8], session: Session, n: usize) -> Session
     requires { ⌜ n ≤ length (now out) ⌝ }
     ensures { λ r. ⌜ r .filled + n ≤ length (now (out .entry)) ⌝ }
 {
-    if run.filled <= out.len() {
-        if n <= out.len() - run.filled {
-            return run;
+    if session.filled <= out.len() {
+        if n <= out.len() - session.filled {
+            return session;
         }
     }
-    flush(out, run)
+    flush(out, session)
 }
 
 // Prints a word and numbers, parted by commas, and a line feed. A number of 64 bits has at most 20 digits.
-pub fn put_line(out: &mut [u8; ROOM], run: Run, word: &[u8], numbers: &[u64]) -> Run
+pub fn put_line(out: &mut [u8; ROOM], session: Session, word: &[u8], numbers: &[u64]) -> Session
     requires { ⌜ length (now word) + 21 * length (now numbers) < 1000 ⌝ }
 {
     let most = word.len() + 21 * numbers.len() + 1;
-    let mut next = with_room(&*out, run, most);
+    let mut next = with_room(&*out, session, most);
     next.filled = common_text::put_line(&mut *out, next.filled, word, numbers);
     next
 }
 
 // Prints what a call answered, and explains a refusal.
-pub fn answer(out: &mut [u8; ROOM], run: Run, word: &[u8], number: u32) -> Run
+pub fn answer(out: &mut [u8; ROOM], session: Session, word: &[u8], number: u32) -> Session
     requires { ⌜ length (now word) < 900 ⌝ }
 {
-    let printed = put_line(&mut *out, run, word, &[number as u64]);
+    let printed = put_line(&mut *out, session, word, &[number as u64]);
     explain::call(&*out, printed, number)
 }
 
 // Prints what is left to print, and names a line with a problem by its number.
-pub fn finish(out: &mut [u8; ROOM], run: Run) {
-    let mut last = run;
-    if run.problem != 0 {
-        last = put_line(&mut *out, run, b"error", &[run.line]);
+pub fn finish(out: &mut [u8; ROOM], session: Session) {
+    let mut last = session;
+    if session.problem != 0 {
+        last = put_line(&mut *out, session, b"error", &[session.line]);
     }
     flush(&*out, last);
-    explain::problem(run.line, run.problem);
+    explain::problem(session.line, session.problem);
 }
 
 // A hex digit.
@@ -77,8 +77,8 @@ fn glyph(d: u8) -> u8
 }
 
 // Prints one byte in hex.
-fn put_byte(out: &mut [u8; ROOM], run: Run, b: u8) -> Run {
-    let mut next = with_room(&*out, run, 2);
+fn put_byte(out: &mut [u8; ROOM], session: Session, b: u8) -> Session {
+    let mut next = with_room(&*out, session, 2);
     let at = next.filled;
     out[at] = glyph(b / 16);
     out[at + 1] = glyph(b % 16);
@@ -86,8 +86,8 @@ fn put_byte(out: &mut [u8; ROOM], run: Run, b: u8) -> Run {
     next
 }
 
-fn put_bytes(out: &mut [u8; ROOM], run: Run, bytes: &[u8]) -> Run {
-    let mut next = run;
+fn put_bytes(out: &mut [u8; ROOM], session: Session, bytes: &[u8]) -> Session {
+    let mut next = session;
     let mut i = 0;
     while i < bytes.len() {
         next = put_byte(&mut *out, next, bytes[i]);
@@ -97,8 +97,8 @@ fn put_bytes(out: &mut [u8; ROOM], run: Run, bytes: &[u8]) -> Run {
 }
 
 // Prints the hex of bytes, lowest address first, and a line feed.
-pub fn put_hex(out: &mut [u8; ROOM], run: Run, bytes: &[u8]) -> Run {
-    let next = put_bytes(&mut *out, run, bytes);
+pub fn put_hex(out: &mut [u8; ROOM], session: Session, bytes: &[u8]) -> Session {
+    let next = put_bytes(&mut *out, session, bytes);
     put_line(out, next, b"", &[])
 }
 
@@ -108,7 +108,12 @@ fn wide(n: u32) -> u64 {
 }
 
 // Prints slave s's line of a clock: its six numbers.
-fn put_slave(out: &mut [u8; ROOM], run: Run, lines: &[u32; LINES_NUMBERS], s: usize) -> Run
+fn put_slave(
+    out: &mut [u8; ROOM],
+    session: Session,
+    lines: &[u32; LINES_NUMBERS],
+    s: usize,
+) -> Session
     requires { ⌜ s < 16 ⌝ }
 {
     let p = 6 * s;
@@ -121,12 +126,17 @@ fn put_slave(out: &mut [u8; ROOM], run: Run, lines: &[u32; LINES_NUMBERS], s: us
         wide(lines[p + 4]),
         wide(lines[p + 5]),
     ];
-    put_line(out, run, b"slave", &numbers)
+    put_line(out, session, b"slave", &numbers)
 }
 
 // Prints the lines of the first n slaves.
-fn put_slaves(out: &mut [u8; ROOM], run: Run, lines: &[u32; LINES_NUMBERS], n: u32) -> Run {
-    let mut next = run;
+fn put_slaves(
+    out: &mut [u8; ROOM],
+    session: Session,
+    lines: &[u32; LINES_NUMBERS],
+    n: u32,
+) -> Session {
+    let mut next = session;
     let mut s: usize = 0;
     while s < 16 {
         if n as usize <= s {
@@ -141,28 +151,28 @@ fn put_slaves(out: &mut [u8; ROOM], run: Run, lines: &[u32; LINES_NUMBERS], n: u
 // Prints what a clock answered: slave lines only where it was not refused.
 pub fn put_clock(
     out: &mut [u8; ROOM],
-    run: Run,
+    session: Session,
     number: u32,
     mask: u32,
     lines: &[u32; LINES_NUMBERS],
     slave_count: u32,
-) -> Run {
-    let next = put_line(&mut *out, run, b"clock", &[number as u64, mask as u64]);
+) -> Session {
+    let next = put_line(&mut *out, session, b"clock", &[number as u64, mask as u64]);
     if number != 0 {
         return next;
     }
     put_slaves(out, next, lines, slave_count)
 }
 
-// Prints one entry of a state: five numbers from place p on.
+// Prints one entry of a state: five numbers from index p on.
 fn put_entry(
     out: &mut [u8; ROOM],
-    run: Run,
+    session: Session,
     word: &[u8],
     i: usize,
     state: &[u32; STATE_NUMBERS],
     p: usize,
-) -> Run
+) -> Session
     requires { ⌜ (length (now word) < 9) × (p < 116) ⌝ }
 {
     let numbers = [
@@ -173,11 +183,11 @@ fn put_entry(
         wide(state[p + 3]),
         wide(state[p + 4]),
     ];
-    put_line(out, run, word, &numbers)
+    put_line(out, session, word, &numbers)
 }
 
-fn put_transfers(out: &mut [u8; ROOM], run: Run, state: &[u32; STATE_NUMBERS]) -> Run {
-    let mut next = run;
+fn put_transfers(out: &mut [u8; ROOM], session: Session, state: &[u32; STATE_NUMBERS]) -> Session {
+    let mut next = session;
     let mut m: usize = 0;
     while m < 8 {
         next = put_entry(&mut *out, next, b"transfer", m, state, 5 * m);
@@ -186,8 +196,8 @@ fn put_transfers(out: &mut [u8; ROOM], run: Run, state: &[u32; STATE_NUMBERS]) -
     next
 }
 
-fn put_slots(out: &mut [u8; ROOM], run: Run, state: &[u32; STATE_NUMBERS]) -> Run {
-    let mut next = run;
+fn put_slots(out: &mut [u8; ROOM], session: Session, state: &[u32; STATE_NUMBERS]) -> Session {
+    let mut next = session;
     let mut s: usize = 0;
     while s < 16 {
         next = put_entry(&mut *out, next, b"slot", s, state, 40 + 5 * s);
@@ -197,7 +207,7 @@ fn put_slots(out: &mut [u8; ROOM], run: Run, state: &[u32; STATE_NUMBERS]) -> Ru
 }
 
 // Prints all of a state. Its marks are 0 or 1: a line of the script and the library write no other.
-pub fn put_state(out: &mut [u8; ROOM], run: Run, state: &[u32; STATE_NUMBERS]) -> Run {
-    let next = put_transfers(&mut *out, run, state);
+pub fn put_state(out: &mut [u8; ROOM], session: Session, state: &[u32; STATE_NUMBERS]) -> Session {
+    let next = put_transfers(&mut *out, session, state);
     put_slots(out, next, state)
 }

@@ -1,11 +1,11 @@
 // Lines of the simulator's script. A line is a word and its fields, parted by commas.
 ghost use Prim.Native.Nat.{_≤_, _<_};
 ghost use lib.ListN.{length};
-ghost use Rattle.program_script.specs.Code.Positions.{Place};
+ghost use Rattle.io.specs.Counts.{Counts};
 use crate::hex;
 use common_text::Number;
 
-// The kinds of line, by the places of their words in WORDS. Those up to COUNT overwrite an entry of the board or the state.
+// The kinds of line, by the indices of their words in WORDS. Those up to COUNT overwrite an entry of the board or the state.
 pub const TRANSFER: usize = 0;
 
 pub const SLOT: usize = 1;
@@ -46,7 +46,7 @@ const FIELDS: [u8; 112] =
     *b"mffwbb  cbbfhb  mbb     cwwbbbb mcb     bb                      wdwbbp  w       ww      snx     snn     sn      ";
 
 // What can be wrong with a line: it is none of the kinds, it has a number that its field does not hold, it reaches past what is
-// lent, which whoever runs it finds, or it posts more than 4,096 bytes.
+// lent, which whoever obeys it finds, or it posts more than 4,096 bytes.
 pub const NOT_A_LINE: u8 = 1;
 
 pub const OUT_OF_RANGE: u8 = 2;
@@ -93,7 +93,7 @@ pub fn no_value(problem: u8) -> Field {
 
 // Where the first piece of s ends: at the first byte that parts pieces, or at the end where there is none.
 pub fn piece_end(s: &[u8], separator: u8) -> usize
-    ensures { λ r. ⌜ Place r (now (s .entry)) ⌝ }
+    ensures { λ r. ⌜ Counts r (now (s .entry)) ⌝ }
 {
     common_text::find_byte(s, separator)
 }
@@ -208,16 +208,16 @@ fn refused(problem: u8) -> Command {
     command_of(problem, KINDS, 0, [0; 7])
 }
 
-// The fields of a line of a kind behind its word, which ends at `place`. Each pass reads the field behind the comma at `at`.
-fn parse_fields(line: &[u8], kind: usize, place: usize) -> Command
-    requires { ⌜ kind < 14 × place ≤ length (now line) ⌝ }
+// The fields of a line of a kind behind its word, from position `from` on. Each pass reads the field behind the comma at `at`.
+fn parse_fields(line: &[u8], kind: usize, from: usize) -> Command
+    requires { ⌜ kind < 14 × from ≤ length (now line) ⌝ }
 {
     let letters = FIELDS;
     let mut values = [0u64; 7];
     let mut problem = 0;
     let mut last = 0;
     let mut i = 0;
-    let mut at = place;
+    let mut at = from;
     while at < line.len() {
         if i == 7 {
             return refused(NOT_A_LINE);

@@ -1,5 +1,5 @@
 // What is said on standard error of a line of the script: what is wrong with it, or why its call is refused.
-use crate::Run;
+use crate::Session;
 use crate::answers;
 use libc::STDERR_FILENO;
 
@@ -26,14 +26,14 @@ pub fn problem(line: u64, problem: u8) {
 }
 
 // Explains a call where it was refused. Its answer is written out before, so that the explanation comes behind it where
-// both go to one place. A call answers no more than a number of a board that the script has overwritten, so that no line of
+// both go to one file. A call answers no more than a number of a board that the script has overwritten, so that no line of
 // the board can be charged.
-pub fn call(out: &[u8], run: Run, number: u32) -> Run {
+pub fn call(out: &[u8], session: Session, number: u32) -> Session {
     if number == 0 {
-        return run;
+        return session;
     }
-    let next = answers::flush(out, run);
-    say_line(run.line);
+    let next = answers::flush(out, session);
+    say_line(session.line);
     program_refusals::explain_number(number);
     next
 }

@@ -4,7 +4,7 @@ ghost use mathlib.Core.Bool.{true, false};
 ghost use Prim.Native.Nat.{_+_, _≤_};
 ghost use lib.ListN.{length};
 use crate::ROOM;
-use crate::Run;
+use crate::Session;
 use crate::answers;
 use crate::command;
 use libc::STDIN_FILENO;
@@ -26,22 +26,22 @@ fn keep(input: &mut [u8], from: usize, n: usize)
 }
 
 // The script has no more bytes than the first n of the input: its last line, where it has any.
-fn last_line(run: Run, n: usize) -> Run {
-    let mut next = run;
+fn last_line(session: Session, n: usize) -> Session {
+    let mut next = session;
     next.found = 0 < n;
     next.start = 0;
     next.stop = n;
     next.over = true;
-    next.line = std::num::wrapping_add_u64(run.line, 1);
+    next.line = std::num::wrapping_add_u64(session.line, 1);
     next
 }
 
 // After a read behind the first `kept` bytes of the input, which are an unfinished line; `end` is where the bytes end now. A
 // script that cannot be read has no further line, the unfinished one included.
-fn after_read(run: Run, got: Got, kept: usize, end: usize) -> Run
+fn after_read(session: Session, got: Got, kept: usize, end: usize) -> Session
     ensures { λ r. ⌜ (got .failed ≡ true → (r .found ≡ false) × (r .over ≡ true)) ⌝ }
 {
-    let mut next = run;
+    let mut next = session;
     next.from = 0;
     next.end = end;
     next.ended = got.ended;
@@ -60,15 +60,21 @@ fn after_read(run: Run, got: Got, kept: usize, end: usize) -> Run
 // Keeps an unfinished line, from `from` to `end`, and reads behind it until the input is full or the script ends. Where it has
 // ended, or no byte more finds room, that line is the last. What has gathered is written out before, so that a read that fails
 // is reported behind it.
-fn read_more(input: &mut [u8], out: &[u8; ROOM], run: Run, from: usize, end: usize) -> Run
+fn read_more(
+    input: &mut [u8],
+    out: &[u8; ROOM],
+    session: Session,
+    from: usize,
+    end: usize,
+) -> Session
     requires { ⌜ (from ≤ end) × (end ≤ length (now input)) ⌝ }
 {
     let kept = end - from;
     keep(&mut *input, from, kept);
-    if run.ended {
-        return last_line(run, kept);
+    if session.ended {
+        return last_line(session, kept);
     }
-    let mut written = answers::flush(out, run);
+    let mut written = answers::flush(out, session);
     if written.over {
         written.found = false;
         return written;
@@ -78,28 +84,28 @@ fn read_more(input: &mut [u8], out: &[u8; ROOM], run: Run, from: usize, end: usi
 }
 
 // The line that was found.
-pub fn line_of(input: &[u8], run: Run) -> &[u8] {
-    let stop = crate::place(run.stop, input);
+pub fn line_of(input: &[u8], session: Session) -> &[u8] {
+    let stop = crate::bounded(session.stop, input);
     let piece = &input[..stop];
-    let start = crate::place(run.start, piece);
+    let start = crate::bounded(session.start, piece);
     &piece[start..]
 }
 
 // Finds the next line in what is read, or reads more. The number of a script's lines is far below 2 ^ 64.
-pub fn next_line(input: &mut [u8], out: &[u8; ROOM], run: Run) -> Run {
-    let end = crate::place(run.end, &*input);
+pub fn next_line(input: &mut [u8], out: &[u8; ROOM], session: Session) -> Session {
+    let end = crate::bounded(session.end, &*input);
     let piece = &input[..end];
-    let from = crate::place(run.from, piece);
+    let from = crate::bounded(session.from, piece);
     let rest = &piece[from..];
     let e = command::piece_end(rest, b'\n');
     if e < rest.len() {
-        let mut next = run;
+        let mut next = session;
         next.found = true;
         next.start = from;
         next.stop = from + e;
         next.from = from + e + 1;
-        next.line = std::num::wrapping_add_u64(run.line, 1);
+        next.line = std::num::wrapping_add_u64(session.line, 1);
         return next;
     }
-    read_more(input, out, run, from, end)
+    read_more(input, out, session, from, end)
 }

@@ -1,5 +1,5 @@
-// A run of a script as the simulator reads and prints it: lines come from standard input, answers go to standard output, and
-// what is wrong is explained on standard error. What a line does is for whoever runs it.
+// A session: a script that the simulator obeys from its first line to its last. Lines come from standard input, answers go to
+// standard output, and what is wrong is explained on standard error. What a line does is for whoever obeys it.
 mod answers;
 mod command;
 mod explain;
@@ -41,18 +41,18 @@ pub use input::INPUT;
 pub use input::line_of;
 pub use input::next_line;
 
-// Where a run stands.
-pub struct Run {
+// How far a session has come.
+pub struct Session {
     // The most that can be lent of the memory, and what is lent of it and of the buffer.
     pub memory_most: usize,
     pub memory_lent: usize,
     pub buffer_lent: usize,
-    // What is read of the script and not run yet stands in the input from `from` to `end`.
+    // What is read of the script and not obeyed yet stands in the input from `from` to `end`.
     pub from: usize,
     pub end: usize,
     // Whether a read has answered that the script ends: none is made after it.
     pub ended: bool,
-    // Whether a line was found there, where it starts and stops, and whether the run ends with it.
+    // Whether a line was found there, where it starts and stops, and whether the session ends with it.
     pub found: bool,
     pub start: usize,
     pub stop: usize,
@@ -66,10 +66,10 @@ pub struct Run {
 }
 
 // Before the first line, with a memory of so many bytes.
-pub fn first_run(memory: usize) -> Run
+pub fn first_session(memory: usize) -> Session
     requires { ⌜ memory ≤ 65536 ⌝ }
 {
-    Run {
+    Session {
         memory_most: memory + 8,
         memory_lent: memory,
         buffer_lent: 4096,
@@ -87,16 +87,16 @@ pub fn first_run(memory: usize) -> Run
     }
 }
 
-// The line has a problem, which ends the run.
-pub fn failed(run: Run, problem: u8) -> Run {
-    let mut next = run;
+// The line has a problem, which ends the session.
+pub fn failed(session: Session, problem: u8) -> Session {
+    let mut next = session;
     next.problem = problem;
     next.over = true;
     next
 }
 
-// n, or the length of s where that is less: a place up to which s can be taken.
-pub fn place(n: usize, s: &[u8]) -> usize
+// n, or the length of s where that is less: s can be taken up to there.
+pub fn bounded(n: usize, s: &[u8]) -> usize
     ensures { λ r. ⌜ Counts r (now (s .entry)) ⌝ }
 {
     if n < s.len() {
@@ -107,6 +107,6 @@ pub fn place(n: usize, s: &[u8]) -> usize
 
 // The first n bytes of s, or all of s where that is less.
 pub fn lent(n: usize, s: &mut [u8]) -> &mut [u8] {
-    let m = place(n, &*s);
+    let m = bounded(n, &*s);
     &mut s[..m]
 }

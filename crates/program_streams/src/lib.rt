@@ -90,7 +90,8 @@ fn outcome_of(end: usize, ended: bool, failed: bool) -> Got
 
 // Reads until `into` is full, a read answers 0 or a read fails for good. EINTR and EAGAIN are tried again, EAGAIN after a short
 // sleep. Each read goes behind the bytes read before it, into room for a byte at least: a read that is lent no room answers 0
-// too. Nothing says that an input ends, so the reads are counted, and running out of them is a failure.
+// too. Nothing says that an input ends, so the reads are counted down from a number
+// that no input uses up; a reading that does has failed.
 pub fn read_all(fd: i32, into: &mut [u8]) -> Got
     ensures { λ r. ⌜ Gathered (now (into .exit)) r ⌝ }
 {

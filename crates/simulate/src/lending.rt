@@ -1,6 +1,6 @@
 // How much of the memory and of the buffer is lent from now on.
 use program_script::Command;
-use program_script::Run;
+use program_script::Session;
 
 // Copies as many bytes as both have.
 fn copy(from: &[u8], to: &mut [u8]) {
@@ -25,21 +25,21 @@ pub fn either<'a>(first: bool, one: &'a mut [u8], other: &'a mut [u8]) -> &'a mu
 // The memory (0) or the buffer is lent up to a length, at most 8 bytes over the exact one. The masters' words are lent from an
 // array of 4,096 bytes, and a longer length from one of 4,104. The one that was lent is copied to the other, whichever is lent
 // from now on; the 8 bytes behind the words keep their values in the longer one.
-pub fn lend(run: Run, command: Command, words: &mut [u8], longer: &mut [u8]) -> Run {
+pub fn lend(session: Session, command: Command, words: &mut [u8], longer: &mut [u8]) -> Session {
     let length = command.second as usize;
-    let mut next = run;
+    let mut next = session;
     if command.first == 0 {
-        if run.memory_most < length {
-            return program_script::failed(run, program_script::OUT_OF_RANGE);
+        if session.memory_most < length {
+            return program_script::failed(session, program_script::OUT_OF_RANGE);
         }
         next.memory_lent = length;
         return next;
     }
     if 4104 < length {
-        return program_script::failed(run, program_script::OUT_OF_RANGE);
+        return program_script::failed(session, program_script::OUT_OF_RANGE);
     }
     next.buffer_lent = length;
-    if run.buffer_lent <= 4096 {
+    if session.buffer_lent <= 4096 {
         copy(&*words, longer);
         return next;
     }

@@ -1,8 +1,8 @@
-// Runs a bus fabric clock by clock: `simulate BOARD < SCRIPT`. BOARD names a description's file, the script's lines say
+// Simulates a bus fabric clock by clock: `simulate BOARD < SCRIPT`. BOARD names a description's file, the script's lines say
 // what to do. `simulate --help` lists what the refusals' numbers mean.
 mod lending;
+mod obey;
 mod overwrite;
-mod run;
 mod world;
 
 use common_numbers::BOARD_NUMBERS;
@@ -36,14 +36,14 @@ fn refuse(path: &[u8], text: &[u8]) {
     program_refusals::explain(r);
 }
 
-// Runs the script on the board that a text describes.
+// Obeys the script on the board that a text describes.
 fn simulate(path: &[u8], text: &[u8]) {
     let mut board = [0u32; BOARD_NUMBERS];
     if description::read(text, &mut board) != 0 {
         refuse(path, text);
         return;
     }
-    run::run_script(text, &mut board);
+    obey::obey_script(text, &mut board);
 }
 
 // Reads the board's file, up to one byte more than a description may have: the reader refuses a longer one by its length. A
@@ -66,7 +66,7 @@ fn simulate_file(path: &[u8]) {
     simulate(path, &text[..n]);
 }
 
-// The word at a place names the board's file.
+// The word at an index names the board's file.
 fn simulate_word(i: usize) {
     let mut path = io::buffer();
     let length = os::arg(i, &mut path);
@@ -82,7 +82,7 @@ fn main() {
     match mode {
         Mode::Help => help(),
         Mode::Version => program_options::print_version(b"simulate"),
-        Mode::Run(i) => simulate_word(i),
+        Mode::Operands(i) => simulate_word(i),
         Mode::Wrong => {
             usage(STDERR_FILENO);
         }

@@ -9,23 +9,23 @@ pub fn word(n: u64) -> u32 {
     if n < 4294967296 { n as u32 } else { 4294967295 }
 }
 
-// A number at a place of an array, where the array has it.
-fn store(numbers: &mut [u32], place: usize, n: u32) {
-    if place < numbers.len() {
-        numbers[place] = n;
+// A number at an index of an array, where the array has it.
+fn store(numbers: &mut [u32], index: usize, n: u32) {
+    if index < numbers.len() {
+        numbers[index] = n;
     }
 }
 
-// The first n of six numbers, at a place of an array and behind it.
-fn put(numbers: &mut [u32], place: usize, values: [u64; 6], n: usize)
-    requires { ⌜ place < 1000 ⌝ }
+// The first n of six numbers, at an index of an array and behind it.
+fn put(numbers: &mut [u32], index: usize, values: [u64; 6], n: usize)
+    requires { ⌜ index < 1000 ⌝ }
 {
     let mut i: usize = 0;
     while i < 6 {
         if n <= i {
             return;
         }
-        store(&mut *numbers, place + i, word(values[i]));
+        store(&mut *numbers, index + i, word(values[i]));
         i += 1;
     }
 }

@@ -1,7 +1,7 @@
-// Where a run of the simulator starts.
+// How a session of the simulator starts.
 use common_numbers::BOARD_NUMBERS;
 ghost use Prim.Native.Nat.{_≤_};
-use program_script::Run;
+use program_script::Session;
 
 // The spans of the first n slaves together.
 fn total_span(board: &[u32; BOARD_NUMBERS], n: u32) -> u64 {
@@ -29,7 +29,7 @@ fn memory_length(total: u64) -> usize
 }
 
 // Before the first line.
-pub fn start(board: &[u32; BOARD_NUMBERS]) -> Run {
+pub fn start(board: &[u32; BOARD_NUMBERS]) -> Session {
     let memory = memory_length(total_span(board, description_layout::slave_count(board)));
-    program_script::first_run(memory)
+    program_script::first_session(memory)
 }

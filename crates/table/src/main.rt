@@ -82,7 +82,7 @@ fn main() {
     match mode {
         Mode::Help => help(),
         Mode::Version => program_options::print_version(b"table"),
-        Mode::Run(_) => table(),
+        Mode::Operands(_) => table(),
         Mode::Wrong => {
             usage(STDERR_FILENO);
         }

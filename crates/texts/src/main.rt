@@ -206,7 +206,7 @@ fn answer_record(piece: &mut [u8], record: &mut [u8], out: &mut [u8], p: Progres
     next
 }
 
-// Answers every record, up to the input's end. Nothing says that an input ends, so the turns are counted down from a number
+// Answers every record, up to the input's end. Nothing says that an input ends, so the passes are counted down from a number
 // that no input uses up. The answer is how many bytes of the output are filled.
 fn answer_records(piece: &mut [u8], record: &mut [u8], out: &mut [u8]) -> usize
     requires { ⌜ 8300 ≤ length (now out) ⌝ }
@@ -221,13 +221,13 @@ fn answer_records(piece: &mut [u8], record: &mut [u8], out: &mut [u8]) -> usize
             last: false,
         },
     };
-    let mut turns = u64::MAX;
-    while turns > 0 {
+    let mut passes = u64::MAX;
+    while passes > 0 {
         p = answer_record(&mut *piece, &mut *record, &mut *out, p);
         if !p.going {
             return p.filled;
         }
-        turns -= 1;
+        passes -= 1;
     }
     p.filled
 }

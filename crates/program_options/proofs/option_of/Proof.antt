@@ -1,4 +1,4 @@
--- `programs::option_of` meets its contract: the first option that the word is, or none. Assumes nothing.
+-- `program_options::option_of` meets its contract: the first option that the word is, or none. Assumes nothing.
 use Rattle.program_options.proofs.OptionLaws.{option-help, option-version, option-end, option-unknown}
 use Rattle.common_laws.specs.Bytes.{bytesOf}
 use borrow.Author.Needs.{needs}

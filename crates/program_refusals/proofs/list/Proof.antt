@@ -1,4 +1,4 @@
--- `refusals::list` is safe and ends. The measure is the count of numbers left. Assumes nothing.
+-- `program_refusals::list` is safe and ends. The measure is the count of numbers left. Assumes nothing.
 use Prim.Native.Nat.{_≤_, _-_}
 use borrow.Author.Needs.{needs}
 use Rattle.program_refusals.proofs.list.Statement.{statement}

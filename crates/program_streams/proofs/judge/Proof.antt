@@ -1,4 +1,4 @@
--- `streams::judge` meets its contract. Each test of the answer and of errno is one of the tests that `told` makes.
+-- `program_streams::judge` meets its contract. Each test of the answer and of errno is one of the tests that `told` makes.
 -- Assumes nothing.
 use Rattle.program_streams.proofs.CallLaws.{count-fits, told-bytes, told-nothing, told-again, told-later, told-failed}
 use Rattle.program_streams.proofs.judge.Statement.{statement}

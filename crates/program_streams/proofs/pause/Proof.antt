@@ -1,4 +1,4 @@
--- `streams::pause` meets its contract, which says nothing, so that it is safe and ends: a walk of its MIR, by hand, since it
+-- `program_streams::pause` meets its contract, which says nothing, so that it is safe and ends: a walk of its MIR, by hand, since it
 -- makes references to structs. Both locals are made, one is lent as a `&` and one as a `&mut`, each for a lifetime that the walk
 -- makes, the lifetimes are ended after the call, and the locals come back. Assumes nothing.
 use mathlib.Core.Path.{refl}

@@ -1,4 +1,4 @@
--- `streams::read_all` meets its contract: each pass adds the answer of one read to those before it. The measure is the reads
+-- `program_streams::read_all` meets its contract: each pass adds the answer of one read to those before it. The measure is the reads
 -- that are left.
 -- Assumes nothing.
 use mathlib.Core.List.{List}
@@ -31,7 +31,7 @@ Inv-loop fd into₀ reads₀ end₀ into reads end = (length into ≡ length int
 abbrev μ-loop : tie.MeasureT-loop
 μ-loop fd into₀ reads₀ end₀ into reads end = reads
 
--- From where a read has come back: the place of the loop, what it told, and the room with what it was lent.
+-- From where a read has come back: what the loop had before it, what it told, and the room with what it was lent.
 abbrev top : tie.After-slice-known2 Inv-loop μ-loop → tie.At-loop Inv-loop μ-loop
 top c = c .before .before .before .before .before .before
 

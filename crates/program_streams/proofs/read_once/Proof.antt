@@ -1,4 +1,4 @@
--- `streams::read_once` meets its contract: the room is as long after the read as before it. Assumes nothing.
+-- `program_streams::read_once` meets its contract: the room is as long after the read as before it. Assumes nothing.
 use borrow.Author.Needs.{needs}
 use Rattle.program_streams.proofs.CallLaws.{call-told}
 use Rattle.program_streams.proofs.read_once.Statement.{statement}

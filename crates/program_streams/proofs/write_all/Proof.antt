@@ -1,4 +1,4 @@
--- `streams::write_all` stays within the bytes. The measure is the writes that are left. Assumes nothing.
+-- `program_streams::write_all` stays within the bytes. The measure is the writes that are left. Assumes nothing.
 use Prim.Native.Nat.{_+_, _≤_}
 use native.Mathlib.Omega.{arith}
 use lib.ListN.{length}

@@ -1,4 +1,4 @@
--- `texts::answer_records` stays within the piece and the output. The measure is the turns that are left. Assumes nothing.
+-- `texts::answer_records` stays within the piece and the output. The measure is the passes that are left. Assumes nothing.
 use mathlib.Core.Path.{_≡_}
 use Prim.Native.Nat.{_≤_}
 use borrow.Author.Needs.{needs}
@@ -7,12 +7,12 @@ use Rattle.texts.proofs.answer_records.Statement.{statement}
 use Rattle.texts.proofs.answer_records.Tie as tie
 
 abbrev Inv-loop : tie.InvT-loop
-Inv-loop piece₀ record₀ out₀ p₀ turns₀ piece «record» out p turns =
+Inv-loop piece₀ record₀ out₀ p₀ passes₀ piece «record» out p passes =
     (p .input .end ≤ length piece) × (p .filled ≤ length out)
     × (length piece ≡ length piece₀) × (length «record» ≡ length record₀) × (length out ≡ length out₀)
 
 abbrev μ-loop : tie.MeasureT-loop
-μ-loop piece₀ record₀ out₀ p₀ turns₀ piece «record» out p turns = turns
+μ-loop piece₀ record₀ out₀ p₀ passes₀ piece «record» out p passes = passes
 
 loop-holds : tie.Need-loop-holds Inv-loop μ-loop
 loop-holds c = search needs
@@ -32,8 +32,8 @@ same-length-3 c = search needs
 returns : tie.Need-returns Inv-loop μ-loop
 returns c = search needs
 
-sub-turns : tie.Need-sub-turns Inv-loop μ-loop
-sub-turns c = search needs
+sub-passes : tie.Need-sub-passes Inv-loop μ-loop
+sub-passes c = search needs
 
 loop-less : tie.Need-loop-less Inv-loop μ-loop
 loop-less c = search needs
@@ -65,7 +65,7 @@ answer-records-spec =
     same-length-2
     same-length-3
     returns
-    sub-turns
+    sub-passes
     loop-less
     loop-again
     same-length-4

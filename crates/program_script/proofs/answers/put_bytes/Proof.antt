@@ -1,4 +1,4 @@
--- `session::answers::put_bytes` is safe and ends. Assumes nothing.
+-- `program_script::answers::put_bytes` is safe and ends. Assumes nothing.
 use Prim.Native.Nat.{_≤_, _-_}
 use lib.ListN.{length}
 use borrow.Author.Needs.{needs}

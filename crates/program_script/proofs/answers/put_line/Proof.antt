@@ -1,4 +1,4 @@
--- `session::answers::put_line` is safe: the text that it prints is no longer than the room that it makes. Assumes nothing.
+-- `program_script::answers::put_line` is safe: the text that it prints is no longer than the room that it makes. Assumes nothing.
 use native.Mathlib.Omega.{arith}
 use borrow.Author.Needs.{needs}
 use Rattle.common_text.proofs.Decimal.{line-length, fields-long}

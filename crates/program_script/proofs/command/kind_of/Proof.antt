@@ -1,4 +1,4 @@
--- `script::kind_of` meets its contract. The loop's invariant: `kind` is at most 14. Assumes nothing.
+-- `program_script::command::kind_of` meets its contract. The loop's invariant: `kind` is at most 14. Assumes nothing.
 use Prim.Native.Nat.{_≤_, _-_}
 use borrow.Author.Needs.{needs}
 use Rattle.program_script.proofs.command.kind_of.Statement.{statement}

@@ -1,5 +1,5 @@
--- `script::parse_fields` is safe and ends. The loop's invariant: `at` is a place in the line, and at most seven fields were read. The measure
--- is what is left of the line. Assumes nothing.
+-- `program_script::command::parse_fields` is safe and ends. The loop's invariant: `at` is a position in the line, and at
+-- most seven fields were read. The measure is what is left of the line. Assumes nothing.
 use Prim.Native.Nat.{_≤_, _-_}
 use lib.ListN.{length}
 use borrow.Author.Needs.{needs}
@@ -7,10 +7,10 @@ use Rattle.program_script.proofs.command.parse_fields.Statement.{statem
 use Rattle.program_script.proofs.command.parse_fields.Tie as tie
 
 abbrev Inv-loop : tie.InvT-loop
-Inv-loop line kind place letters values₀ problem₀ last₀ i₀ at₀ values problem last i at = (at ≤ length line) × (i ≤ 7)
+Inv-loop line kind from letters values₀ problem₀ last₀ i₀ at₀ values problem last i at = (at ≤ length line) × (i ≤ 7)
 
 abbrev μ-loop : tie.MeasureT-loop
-μ-loop line kind place letters values₀ problem₀ last₀ i₀ at₀ values problem last i at = length line - at
+μ-loop line kind from letters values₀ problem₀ last₀ i₀ at₀ values problem last i at = length line - at
 
 loop-holds : tie.Need-loop-holds Inv-loop μ-loop
 loop-holds c = search needs

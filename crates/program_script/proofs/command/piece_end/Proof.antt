@@ -1,4 +1,4 @@
--- `script::piece_end` meets its contract. Assumes nothing.
+-- `program_script::command::piece_end` meets its contract. Assumes nothing.
 use mathlib.Core.Path.{sym}
 use lib.Seq.{length-take-le}
 use borrow.Author.Needs.{needs}

@@ -1,4 +1,4 @@
--- `script::hex::all_digits` is safe and ends. The loop's invariant: `i` is a place in the field. Assumes nothing.
+-- `program_script::hex::all_digits` is safe and ends. The loop's invariant: `i` is at most the field's length. Assumes nothing.
 use Prim.Native.Nat.{_≤_, _-_}
 use lib.ListN.{length}
 use borrow.Author.Needs.{needs}

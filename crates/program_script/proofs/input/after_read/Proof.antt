@@ -1,4 +1,4 @@
--- `session::input::after_read` meets its contract: behind the first test the read did not fail. Assumes nothing.
+-- `program_script::input::after_read` meets its contract: behind the first test the read did not fail. Assumes nothing.
 use mathlib.Core.Path.{subst, sym, _∙_}
 use lib.Dec.{T}
 use borrow.Author.Needs.{needs}

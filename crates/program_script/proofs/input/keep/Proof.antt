@@ -1,4 +1,5 @@
--- `session::input::keep` is safe and ends. The loop's invariant: `i` is at most n, and the input keeps its length. Assumes nothing.
+-- `program_script::input::keep` is safe and ends. The loop's invariant: `i` is at most n, and the input
+-- keeps its length. Assumes nothing.
 use mathlib.Core.Path.{_≡_}
 use Prim.Native.Nat.{_≤_, _-_, _+_}
 use lib.ListN.{length, length-set}

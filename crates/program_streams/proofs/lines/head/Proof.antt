@@ -1,4 +1,4 @@
--- `streams::lines::head` meets its contract: three texts, one behind another. Assumes nothing.
+-- `program_streams::lines::head` meets its contract: three texts, one behind another. Assumes nothing.
 use borrow.Author.Needs.{needs}
 use Rattle.program_streams.proofs.LineLaws.{holds-head}
 use Rattle.program_streams.proofs.lines.head.Statement.{statement}

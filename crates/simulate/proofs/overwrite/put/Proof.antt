@@ -7,10 +7,10 @@ use Rattle.simulate.proofs.overwrite.put.Statement.{statement}
 use Rattle.simulate.proofs.overwrite.put.Tie as tie
 
 abbrev Inv-loop : tie.InvT-loop
-Inv-loop numbers₀ place n values i₀ numbers i = (i ≤ 6) × (length numbers ≡ length numbers₀)
+Inv-loop numbers₀ index n values i₀ numbers i = (i ≤ 6) × (length numbers ≡ length numbers₀)
 
 abbrev μ-loop : tie.MeasureT-loop
-μ-loop numbers₀ place n values i₀ numbers i = 6 - i
+μ-loop numbers₀ index n values i₀ numbers i = 6 - i
 
 loop-holds : tie.Need-loop-holds Inv-loop μ-loop
 loop-holds c = search needs

@@ -1,10 +1,10 @@
--- `simulate::run::run_clock` is safe and ends. The loop's invariant: memory and buffer keep their lengths. The measure is the count
+-- `simulate::obey::obey_clock` is safe and ends. The loop's invariant: memory and buffer keep their lengths. The measure is the count
 -- of clocks that are left. Assumes nothing.
 use mathlib.Core.Path.{_≡_}
 use lib.ListN.{length}
 use borrow.Author.Needs.{needs}
-use Rattle.simulate.proofs.run.run_clock.Statement.{statement}
-use Rattle.simulate.proofs.run.run_clock.Tie as tie
+use Rattle.simulate.proofs.obey.obey_clock.Statement.{statement}
+use Rattle.simulate.proofs.obey.obey_clock.Tie as tie
 
 abbrev Inv-loop : tie.InvT-loop
 Inv-loop board state₀ count memory₀ buffer₀ out₀ lines₀ next₀ number₀ left₀ state memory buffer out lines next number left =
@@ -46,8 +46,8 @@ same-length-2 c = search needs
 returns : tie.Need-returns Inv-loop μ-loop
 returns c = search needs
 
-pub run-clock-spec : {M : Type 1} → statement M
-run-clock-spec =
+pub obey-clock-spec : {M : Type 1} → statement M
+obey-clock-spec =
     tie.close
     (tie.spec
     Inv-loop

@@ -9,33 +9,33 @@ use crate::world;
 use program_script::Command;
 use program_script::INPUT;
 use program_script::ROOM;
-use program_script::Run;
+use program_script::Session;
 
 // The state of a refused board is zeros: the library leaves what it is lent as it was.
-fn run_reset(
+fn obey_reset(
     board: &[u32; BOARD_NUMBERS],
     state: &mut [u32; STATE_NUMBERS],
-    run: Run,
+    session: Session,
     out: &mut [u8; ROOM],
-) -> Run {
+) -> Session {
     *state = [0; STATE_NUMBERS];
     let number = fabric::reset(board, state);
-    program_script::answer(out, run, b"reset", number)
+    program_script::answer(out, session, b"reset", number)
 }
 
 // A post's bytes are the line's last field.
-fn run_post(
+fn obey_post(
     board: &[u32; BOARD_NUMBERS],
     state: &mut [u32; STATE_NUMBERS],
-    run: Run,
+    session: Session,
     c: Command,
     line: &[u8],
     buffer: &mut [u8],
     out: &mut [u8; ROOM],
-) -> Run {
+) -> Session {
     let mut bytes = [0u8; 4096];
     program_script::decode(program_script::last_field(line, c.last), &mut bytes);
-    let end = program_script::place(c.sixth as usize, &bytes);
+    let end = program_script::bounded(c.sixth as usize, &bytes);
     let number = fabric::post(
         board,
         state,
@@ -47,7 +47,7 @@ fn run_post(
         overwrite::word(c.fifth),
         &bytes[..end],
     );
-    program_script::answer(out, run, b"post", number)
+    program_script::answer(out, session, b"post", number)
 }
 
 // How many clocks are left after one: none where its answer could not be printed.
@@ -63,17 +63,17 @@ fn left_after(left: u64, broken: bool) -> u64
 
 // `count` clocks, each with its answer. A refused clock changes nothing, so that those behind it are refused alike: the last
 // one's number explains them all.
-fn run_clock(
+fn obey_clock(
     board: &[u32; BOARD_NUMBERS],
     state: &mut [u32; STATE_NUMBERS],
-    run: Run,
+    session: Session,
     count: u64,
     memory: &mut [u8],
     buffer: &mut [u8],
     out: &mut [u8; ROOM],
-) -> Run {
+) -> Session {
     let mut lines = [0u32; LINES_NUMBERS];
-    let mut next = run;
+    let mut next = session;
     let mut number: u32 = 0;
     let mut left = count;
     while 0 < left {
@@ -87,24 +87,30 @@ fn run_clock(
 }
 
 // The wait is that of the board as it was read.
-fn run_wait(run: Run, c: Command, text: &[u8], out: &mut [u8; ROOM]) -> Run {
+fn obey_wait(session: Session, c: Command, text: &[u8], out: &mut [u8; ROOM]) -> Session {
     let mut board = [0u32; BOARD_NUMBERS];
     description::read(text, &mut board);
     let q = wait::quote_of(&board, overwrite::word(c.first), overwrite::word(c.second));
     let numbers = [q.number as u64, q.wait, q.serve];
-    let printed = program_script::put_line(&mut *out, run, b"wait", &numbers);
+    let printed = program_script::put_line(&mut *out, session, b"wait", &numbers);
     program_script::call(&*out, printed, q.number)
 }
 
 // A fill or a show of lent bytes.
-fn touch(run: Run, c: Command, line: &[u8], lent: &mut [u8], out: &mut [u8; ROOM]) -> Run {
+fn touch(
+    session: Session,
+    c: Command,
+    line: &[u8],
+    lent: &mut [u8],
+    out: &mut [u8; ROOM],
+) -> Session {
     let start = c.second as usize;
     let n = c.third as usize;
     if lent.len() < start {
-        return program_script::failed(run, program_script::PAST_LENT);
+        return program_script::failed(session, program_script::PAST_LENT);
     }
     if lent.len() - start < n {
-        return program_script::failed(run, program_script::PAST_LENT);
+        return program_script::failed(session, program_script::PAST_LENT);
     }
     let end = start + n;
     if c.kind == program_script::FILL {
@@ -112,95 +118,95 @@ fn touch(run: Run, c: Command, line: &[u8], lent: &mut [u8], out: &mut [u8; ROOM
             program_script::last_field(line, c.last),
             &mut lent[start..end],
         );
-        return run;
+        return session;
     }
-    program_script::put_hex(out, run, &lent[start..end])
+    program_script::put_hex(out, session, &lent[start..end])
 }
 
 // Every line but lend, on the bytes that are lent.
-fn obey(
+fn obey_command(
     board: &mut [u32; BOARD_NUMBERS],
     state: &mut [u32; STATE_NUMBERS],
-    run: Run,
+    session: Session,
     c: Command,
     line: &[u8],
     text: &[u8],
     memory: &mut [u8],
     buffer: &mut [u8],
     out: &mut [u8; ROOM],
-) -> Run {
+) -> Session {
     if c.kind <= program_script::COUNT {
         overwrite::overwrite(board, state, c);
-        return run;
+        return session;
     }
     if c.kind == program_script::RESET {
-        return run_reset(board, state, run, out);
+        return obey_reset(board, state, session, out);
     }
     if c.kind == program_script::POST {
-        return run_post(board, state, run, c, line, buffer, out);
+        return obey_post(board, state, session, c, line, buffer, out);
     }
     if c.kind == program_script::CLOCK {
-        return run_clock(board, state, run, c.first, memory, buffer, out);
+        return obey_clock(board, state, session, c.first, memory, buffer, out);
     }
     if c.kind == program_script::STATE {
-        return program_script::put_state(out, run, state);
+        return program_script::put_state(out, session, state);
     }
     if c.kind == program_script::WAIT {
-        return run_wait(run, c, text, out);
+        return obey_wait(session, c, text, out);
     }
     let lent = lending::either(c.first == 0, memory, buffer);
-    touch(run, c, line, lent, out)
+    touch(session, c, line, lent, out)
 }
 
 // The line that was found in the input, if there is one.
-fn run_line(
+fn obey_line(
     board: &mut [u32; BOARD_NUMBERS],
     state: &mut [u32; STATE_NUMBERS],
-    run: Run,
+    session: Session,
     input: &[u8],
     text: &[u8],
     memory: &mut [u8],
     words: &mut [u8],
     longer: &mut [u8],
     out: &mut [u8; ROOM],
-) -> Run {
-    if !run.found {
-        return run;
+) -> Session {
+    if !session.found {
+        return session;
     }
-    let line = program_script::line_of(input, run);
+    let line = program_script::line_of(input, session);
     let c = program_script::parse(line);
     if c.problem != 0 {
-        return program_script::failed(run, c.problem);
+        return program_script::failed(session, c.problem);
     }
     if c.kind == program_script::LEND {
-        return lending::lend(run, c, words, longer);
+        return lending::lend(session, c, words, longer);
     }
-    let all = lending::either(run.buffer_lent <= 4096, words, longer);
-    let buffer = program_script::lent(run.buffer_lent, all);
-    let lent = program_script::lent(run.memory_lent, memory);
-    obey(board, state, run, c, line, text, lent, buffer, out)
+    let all = lending::either(session.buffer_lent <= 4096, words, longer);
+    let buffer = program_script::lent(session.buffer_lent, all);
+    let lent = program_script::lent(session.memory_lent, memory);
+    obey_command(board, state, session, c, line, text, lent, buffer, out)
 }
 
-// Runs a script from standard input on a board; `text` is the board's. The memory has the 65,536 bytes that spans total at
+// Obeys a script from standard input on a board; `text` is the board's. The memory has the 65,536 bytes that spans total at
 // most, and 8 more, so that a length over the exact one can be lent. Of the buffer, 4,096 zero bytes are what is lent; a
 // longer length is lent from `longer`, see lending::lend. Nothing says that a script ends, so the passes are counted down, from
 // a number that no script uses up.
-pub fn run_script(text: &[u8], board: &mut [u32; BOARD_NUMBERS]) {
+pub fn obey_script(text: &[u8], board: &mut [u32; BOARD_NUMBERS]) {
     let mut memory = [0u8; 65544];
     let mut words: [u8; 4096] = [0; 4096];
     let mut longer = [0u8; 4104];
     let mut input = [0u8; INPUT];
     let mut out = [0u8; ROOM];
     let mut state = [0u32; STATE_NUMBERS];
-    let mut run = world::start(board);
+    let mut session = world::start(board);
     let mut passes = u64::MAX;
     while 0 < passes {
         passes -= 1;
-        run = program_script::next_line(&mut input, &out, run);
-        run = run_line(
+        session = program_script::next_line(&mut input, &out, session);
+        session = obey_line(
             &mut *board,
             &mut state,
-            run,
+            session,
             &input,
             text,
             &mut memory,
@@ -208,9 +214,9 @@ pub fn run_script(text: &[u8], board: &mut [u32; BOARD_NUMBERS]) {
             &mut longer,
             &mut out,
         );
-        if run.over {
+        if session.over {
             break;
         }
     }
-    program_script::finish(&mut out, run);
+    program_script::finish(&mut out, session);
 }

@@ -1,11 +1,11 @@
--- `bench_entries::run` is safe and ends: a turn is a master passed, or a clock with all masters before it again.
+-- `bench_entries::clock_all` is safe and ends: a pass is a master passed, or a clock with all masters before it again.
 -- Assumes nothing.
 use mathlib.Core.Path.{_≡_}
 use Prim.Native.Nat.{_+_, _*_, _-_, _≤_}
 use lib.ListN.{length}
 use borrow.Author.Needs.{needs}
-use Rattle.bench_entries.proofs.run.Statement.{statement}
-use Rattle.bench_entries.proofs.run.Tie as tie
+use Rattle.bench_entries.proofs.clock_all.Statement.{statement}
+use Rattle.bench_entries.proofs.clock_all.Tie as tie
 
 abbrev Inv-loop : tie.InvT-loop
 Inv-loop board state₀ memory₀ buffer₀ clocks₀ lines₀ posted₀ idle₀ sum₀ m₀ state memory buffer clocks lines posted idle sum m =
@@ -57,8 +57,8 @@ same-length-2 c = search needs
 returns : tie.Need-returns Inv-loop μ-loop
 returns c = search needs
 
-pub run-spec : {M : Type 1} → statement M
-run-spec =
+pub clock-all-spec : {M : Type 1} → statement M
+clock-all-spec =
     tie.close
     (tie.spec
     Inv-loop
