@@ -1,9 +1,16 @@
 // What the simulator prints. It gathers in a buffer, which is written out when full and at the end.
+use common_numbers::LINE_FIELDS;
 use common_numbers::LINES_NUMBERS;
+use common_numbers::MASTERS;
+use common_numbers::SLAVES;
+use common_numbers::SLOT_NUMBERS;
+use common_numbers::SLOTS_FROM;
 use common_numbers::STATE_NUMBERS;
+use common_numbers::TRANSFER_NUMBERS;
 ghost use mathlib.Core.Path.{_≡_};
 ghost use Prim.Native.Nat.{_+_, _*_, _≤_, _<_};
 ghost use lib.ListN.{length};
+use crate::FIELD_COUNT;
 use crate::Session;
 use crate::explain;
 
@@ -102,50 +109,74 @@ pub fn put_hex(out: &mut [u8; ROOM], session: Session, bytes: &[u8]) -> Session 
     put_line(out, next, b"", &[])
 }
 
-// A lent number as one to print.
 fn wide(n: u32) -> u64 {
     n as u64
 }
 
-// Prints slave s's line of a clock: its six numbers.
-fn put_slave(
-    out: &mut [u8; ROOM],
-    session: Session,
-    lines: &[u32; LINES_NUMBERS],
-    s: usize,
-) -> Session
-    requires { ⌜ s < 16 ⌝ }
-{
-    let p = 6 * s;
-    let numbers = [
-        s as u64,
-        wide(lines[p]),
-        wide(lines[p + 1]),
-        wide(lines[p + 2]),
-        wide(lines[p + 3]),
-        wide(lines[p + 4]),
-        wide(lines[p + 5]),
-    ];
-    put_line(out, session, b"slave", &numbers)
+// A lent number as one to print, where the array has it.
+fn number_at(numbers: &[u32], index: usize) -> u64 {
+    if index < numbers.len() {
+        return wide(numbers[index]);
+    }
+    0
 }
 
-// Prints the lines of the first n slaves.
-fn put_slaves(
+// Prints the record of an array that has the index `own`: the index, and `count` numbers from `from` on. A record of a state is
+// then the line that overwrites it.
+fn put_record(
     out: &mut [u8; ROOM],
     session: Session,
-    lines: &[u32; LINES_NUMBERS],
-    n: u32,
-) -> Session {
+    word: &[u8],
+    own: usize,
+    numbers: &[u32],
+    from: usize,
+    count: usize,
+) -> Session
+    requires { ⌜ (length (now word) < 9) × (from < 1000) × (count < 10) ⌝ }
+{
+    let mut fields = [0u64; FIELD_COUNT];
+    fields[0] = own as u64;
+    let mut i = 0;
+    while i < count {
+        fields[i + 1] = number_at(numbers, from + i);
+        i += 1;
+    }
+    let end = count + 1;
+    put_line(out, session, word, &fields[..end])
+}
+
+// Prints `records` records of an array, the first from `from` on, each of `count` numbers.
+fn put_records(
+    out: &mut [u8; ROOM],
+    session: Session,
+    word: &[u8],
+    records: usize,
+    numbers: &[u32],
+    from: usize,
+    count: usize,
+) -> Session
+    requires { ⌜ (length (now word) < 9) × (records < 17) × (from < 800) × (count < 10) ⌝ }
+{
     let mut next = session;
-    let mut s: usize = 0;
-    while s < 16 {
-        if n as usize <= s {
-            return next;
-        }
-        next = put_slave(&mut *out, next, lines, s);
-        s += 1;
+    let mut at = from;
+    let mut i = 0;
+    while i < records {
+        next = put_record(&mut *out, next, word, i, numbers, at, count);
+        at += count;
+        i += 1;
     }
     next
+}
+
+// The count of a board's slaves, which a script can overwrite, up to the most that a board has.
+fn slaves_up_to(count: u32) -> usize
+    ensures { λ r. ⌜ r < 17 ⌝ }
+{
+    let n = count as usize;
+    if n < SLAVES {
+        return n;
+    }
+    SLAVES
 }
 
 // Prints what a clock answered: slave lines only where it was not refused.
@@ -161,53 +192,27 @@ pub fn put_clock(
     if number != 0 {
         return next;
     }
-    put_slaves(out, next, lines, slave_count)
-}
-
-// Prints one entry of a state: five numbers from index p on.
-fn put_entry(
-    out: &mut [u8; ROOM],
-    session: Session,
-    word: &[u8],
-    i: usize,
-    state: &[u32; STATE_NUMBERS],
-    p: usize,
-) -> Session
-    requires { ⌜ (length (now word) < 9) × (p < 116) ⌝ }
-{
-    let numbers = [
-        i as u64,
-        wide(state[p]),
-        wide(state[p + 1]),
-        wide(state[p + 2]),
-        wide(state[p + 3]),
-        wide(state[p + 4]),
-    ];
-    put_line(out, session, word, &numbers)
-}
-
-fn put_transfers(out: &mut [u8; ROOM], session: Session, state: &[u32; STATE_NUMBERS]) -> Session {
-    let mut next = session;
-    let mut m: usize = 0;
-    while m < 8 {
-        next = put_entry(&mut *out, next, b"transfer", m, state, 5 * m);
-        m += 1;
-    }
-    next
-}
-
-fn put_slots(out: &mut [u8; ROOM], session: Session, state: &[u32; STATE_NUMBERS]) -> Session {
-    let mut next = session;
-    let mut s: usize = 0;
-    while s < 16 {
-        next = put_entry(&mut *out, next, b"slot", s, state, 40 + 5 * s);
-        s += 1;
-    }
-    next
+    put_records(
+        out,
+        next,
+        b"slave",
+        slaves_up_to(slave_count),
+        lines,
+        0,
+        LINE_FIELDS,
+    )
 }
 
 // Prints all of a state. Its marks are 0 or 1: a line of the script and the library write no other.
 pub fn put_state(out: &mut [u8; ROOM], session: Session, state: &[u32; STATE_NUMBERS]) -> Session {
-    let next = put_transfers(&mut *out, session, state);
-    put_slots(out, next, state)
+    let next = put_records(
+        &mut *out,
+        session,
+        b"transfer",
+        MASTERS,
+        state,
+        0,
+        TRANSFER_NUMBERS,
+    );
+    put_records(out, next, b"slot", SLAVES, state, SLOTS_FROM, SLOT_NUMBERS)
 }

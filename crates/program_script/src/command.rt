@@ -37,13 +37,49 @@ pub const LEND: usize = 13;
 // How many kinds there are; the kind of a line that is none of them.
 pub const KINDS: usize = 14;
 
-// The first word of each kind, eight bytes for each.
-const WORDS: [u8; 112] =
-    *b"transferslot,,,,master,,slave,,,share,,,count,,,reset,,,state,,,post,,,,clock,,,wait,,,,fill,,,,show,,,,lend,,,,";
+// The most fields that a line has behind its word: a card's index and nine numbers.
+pub const FIELD_COUNT: usize = 10;
+
+// The most bytes of a word, and the letters of a kind: one for each field, and one more that ends them.
+const WORD_BYTES: usize = 8;
+
+const LETTERS: usize = FIELD_COUNT + 1;
+
+// The first word of each kind.
+const WORDS: [[u8; WORD_BYTES]; KINDS] = [
+    *b"transfer",
+    *b"slot,,,,",
+    *b"master,,",
+    *b"slave,,,",
+    *b"share,,,",
+    *b"count,,,",
+    *b"reset,,,",
+    *b"state,,,",
+    *b"post,,,,",
+    *b"clock,,,",
+    *b"wait,,,,",
+    *b"fill,,,,",
+    *b"show,,,,",
+    *b"lend,,,,",
+];
 
 // The fields behind it, a letter for each: see `field_value`.
-const FIELDS: [u8; 112] =
-    *b"mffwbb  cbbfhb  mbb     cwwbbbb mcb     bb                      wdwbbp  w       ww      snx     snn     sn      ";
+const FIELDS: [[u8; LETTERS]; KINDS] = [
+    *b"mffwbb     ",
+    *b"cbbfhb     ",
+    *b"mbb        ",
+    *b"cwwbbbb    ",
+    *b"mcb        ",
+    *b"bb         ",
+    *b"           ",
+    *b"           ",
+    *b"wdwbbp     ",
+    *b"w          ",
+    *b"ww         ",
+    *b"snx        ",
+    *b"snn        ",
+    *b"sn         ",
+];
 
 // What can be wrong with a line: it is none of the kinds, it has a number that its field does not hold, it reaches past what is
 // lent, which whoever obeys it finds, or it posts more than 4,096 bytes.
@@ -55,20 +91,21 @@ pub const PAST_LENT: u8 = 3;
 
 pub const TOO_MANY_BYTES: u8 = 4;
 
-// What a line says: its kind and what its fields say, a name as 0 or 1, and bytes by their count; the last field starts at
-// `last`. A line with a problem has no kind. The values have names, not places in an array: to read a field of a struct asks for
-// no proof.
+// What a line says: its kind and what its fields say in their order, a name as 0 or 1, and bytes by their count; the last field
+// starts at `last`. A line with a problem has no kind.
 pub struct Command {
     pub problem: u8,
     pub kind: usize,
     pub last: usize,
-    pub first: u64,
-    pub second: u64,
-    pub third: u64,
-    pub fourth: u64,
-    pub fifth: u64,
-    pub sixth: u64,
-    pub seventh: u64,
+    pub values: [u64; FIELD_COUNT],
+}
+
+// What the field at an index says, from 0; 0 behind the last one.
+pub fn value_at(c: Command, i: usize) -> u64 {
+    if i < FIELD_COUNT {
+        return c.values[i];
+    }
+    0
 }
 
 // What a field says, where its problem is 0.
@@ -106,14 +143,8 @@ pub fn last_field(line: &[u8], last: usize) -> &[u8] {
     line
 }
 
-// Whether a word is that of a kind.
-fn is_word_of(word: &[u8], kind: usize) -> bool
-    requires { ⌜ kind < 14 ⌝ }
-{
-    let words = WORDS;
-    let start = 8 * kind;
-    let end = start + 8;
-    let own = &words[start..end];
+// Whether a word is the one that a kind has in WORDS.
+fn is_word(word: &[u8], own: &[u8]) -> bool {
     let e = piece_end(own, b',');
     common_text::same(word, &own[..e])
 }
@@ -122,9 +153,10 @@ fn is_word_of(word: &[u8], kind: usize) -> bool
 fn kind_of(word: &[u8]) -> usize
     ensures { λ r. ⌜ r ≤ 14 ⌝ }
 {
+    let words = WORDS;
     let mut kind = 0;
     while kind < KINDS {
-        if is_word_of(word, kind) {
+        if is_word(word, &words[kind]) {
             return kind;
         }
         kind += 1;
@@ -189,43 +221,34 @@ fn field_value(field: &[u8], letter: u8) -> Field {
     }
 }
 
-fn command_of(problem: u8, kind: usize, last: usize, values: [u64; 7]) -> Command {
+fn refused(problem: u8) -> Command {
     Command {
         problem: problem,
-        kind: kind,
-        last: last,
-        first: values[0],
-        second: values[1],
-        third: values[2],
-        fourth: values[3],
-        fifth: values[4],
-        sixth: values[5],
-        seventh: values[6],
+        kind: KINDS,
+        last: 0,
+        values: [0; FIELD_COUNT],
     }
-}
-
-fn refused(problem: u8) -> Command {
-    command_of(problem, KINDS, 0, [0; 7])
 }
 
 // The fields of a line of a kind behind its word, from position `from` on. Each pass reads the field behind the comma at `at`.
 fn parse_fields(line: &[u8], kind: usize, from: usize) -> Command
     requires { ⌜ kind < 14 × from ≤ length (now line) ⌝ }
 {
-    let letters = FIELDS;
-    let mut values = [0u64; 7];
+    let rows = FIELDS;
+    let letters = rows[kind];
+    let mut values = [0u64; FIELD_COUNT];
     let mut problem = 0;
     let mut last = 0;
     let mut i = 0;
     let mut at = from;
     while at < line.len() {
-        if i == 7 {
+        if i == FIELD_COUNT {
             return refused(NOT_A_LINE);
         }
         last = at + 1;
         let rest = &line[last..];
         let e = piece_end(rest, b',');
-        let field = field_value(&rest[..e], letters[8 * kind + i]);
+        let field = field_value(&rest[..e], letters[i]);
         if field.problem == NOT_A_LINE {
             return refused(NOT_A_LINE);
         }
@@ -234,13 +257,18 @@ fn parse_fields(line: &[u8], kind: usize, from: usize) -> Command
         at = last + e;
         i += 1;
     }
-    if letters[8 * kind + i] != b' ' {
+    if letters[i] != b' ' {
         return refused(NOT_A_LINE);
     }
     if problem != 0 {
         return refused(problem);
     }
-    command_of(0, kind, last, values)
+    Command {
+        problem: 0,
+        kind: kind,
+        last: last,
+        values: values,
+    }
 }
 
 // What a line without its line feed says.

@@ -25,10 +25,10 @@ pub fn either<'a>(first: bool, one: &'a mut [u8], other: &'a mut [u8]) -> &'a mu
 // The memory (0) or the buffer is lent up to a length, at most 8 bytes over the exact one. The masters' words are lent from an
 // array of 4,096 bytes, and a longer length from one of 4,104. The one that was lent is copied to the other, whichever is lent
 // from now on; the 8 bytes behind the words keep their values in the longer one.
-pub fn lend(session: Session, command: Command, words: &mut [u8], longer: &mut [u8]) -> Session {
-    let length = command.second as usize;
+pub fn lend(session: Session, c: Command, words: &mut [u8], longer: &mut [u8]) -> Session {
+    let length = program_script::value_at(c, 1) as usize;
     let mut next = session;
-    if command.first == 0 {
+    if program_script::value_at(c, 0) == 0 {
         if session.memory_most < length {
             return program_script::failed(session, program_script::OUT_OF_RANGE);
         }

@@ -35,16 +35,21 @@ fn obey_post(
 ) -> Session {
     let mut bytes = [0u8; 4096];
     program_script::decode(program_script::last_field(line, c.last), &mut bytes);
-    let end = program_script::bounded(c.sixth as usize, &bytes);
+    let end = program_script::bounded(program_script::value_at(c, 5) as usize, &bytes);
+    let master = overwrite::number_at(c, 0);
+    let write = program_script::value_at(c, 1) == 1;
+    let address = overwrite::number_at(c, 2);
+    let lanes = overwrite::number_at(c, 3);
+    let beats = overwrite::number_at(c, 4);
     let number = fabric::post(
         board,
         state,
         buffer,
-        overwrite::word(c.first),
-        c.second == 1,
-        overwrite::word(c.third),
-        overwrite::word(c.fourth),
-        overwrite::word(c.fifth),
+        master,
+        write,
+        address,
+        lanes,
+        beats,
         &bytes[..end],
     );
     program_script::answer(out, session, b"post", number)
@@ -90,7 +95,11 @@ fn obey_clock(
 fn obey_wait(session: Session, c: Command, text: &[u8], out: &mut [u8; ROOM]) -> Session {
     let mut board = [0u32; BOARD_NUMBERS];
     description::read(text, &mut board);
-    let q = wait::quote_of(&board, overwrite::word(c.first), overwrite::word(c.second));
+    let q = wait::quote_of(
+        &board,
+        overwrite::number_at(c, 0),
+        overwrite::number_at(c, 1),
+    );
     let numbers = [q.number as u64, q.wait, q.serve];
     let printed = program_script::put_line(&mut *out, session, b"wait", &numbers);
     program_script::call(&*out, printed, q.number)
@@ -104,8 +113,8 @@ fn touch(
     lent: &mut [u8],
     out: &mut [u8; ROOM],
 ) -> Session {
-    let start = c.second as usize;
-    let n = c.third as usize;
+    let start = program_script::value_at(c, 1) as usize;
+    let n = program_script::value_at(c, 2) as usize;
     if lent.len() < start {
         return program_script::failed(session, program_script::PAST_LENT);
     }
@@ -146,7 +155,8 @@ fn obey_command(
         return obey_post(board, state, session, c, line, buffer, out);
     }
     if c.kind == program_script::CLOCK {
-        return obey_clock(board, state, session, c.first, memory, buffer, out);
+        let count = program_script::value_at(c, 0);
+        return obey_clock(board, state, session, count, memory, buffer, out);
     }
     if c.kind == program_script::STATE {
         return program_script::put_state(out, session, state);
@@ -154,7 +164,7 @@ fn obey_command(
     if c.kind == program_script::WAIT {
         return obey_wait(session, c, text, out);
     }
-    let lent = lending::either(c.first == 0, memory, buffer);
+    let lent = lending::either(program_script::value_at(c, 0) == 0, memory, buffer);
     touch(session, c, line, lent, out)
 }
 

@@ -1,11 +1,21 @@
 // Entries of the board and the state, overwritten by what a line says, number by number in the order of the line's fields.
 use common_numbers::BOARD_NUMBERS;
+use common_numbers::MASTER_NUMBERS;
+use common_numbers::MASTERS_FROM;
+use common_numbers::SHARES_FROM;
+use common_numbers::SLAVE_NUMBERS;
+use common_numbers::SLAVES;
+use common_numbers::SLAVES_FROM;
+use common_numbers::SLOT_NUMBERS;
+use common_numbers::SLOTS_FROM;
 use common_numbers::STATE_NUMBERS;
+use common_numbers::TRANSFER_NUMBERS;
 ghost use Prim.Native.Nat.{_<_};
 use program_script::Command;
 
-// A number of a line as one of an array. The line's limits keep it within its field.
-pub fn word(n: u64) -> u32 {
+// A field of a line as a number of an array. The line's limits keep it within 32 bits.
+pub fn number_at(c: Command, i: usize) -> u32 {
+    let n = program_script::value_at(c, i);
     if n < 4294967296 { n as u32 } else { 4294967295 }
 }
 
@@ -16,63 +26,64 @@ fn store(numbers: &mut [u32], index: usize, n: u32) {
     }
 }
 
-// The first n of six numbers, at an index of an array and behind it.
-fn put(numbers: &mut [u32], index: usize, values: [u64; 6], n: usize)
-    requires { ⌜ index < 1000 ⌝ }
+// `count` fields of a line, from field `first` on, at an index of an array and behind it.
+fn put(numbers: &mut [u32], index: usize, c: Command, first: usize, count: usize)
+    requires { ⌜ (index < 1000) × (first < 10) × (count < 10) ⌝ }
 {
-    let mut i: usize = 0;
-    while i < 6 {
-        if n <= i {
-            return;
-        }
-        store(&mut *numbers, index + i, word(values[i]));
+    let mut i = 0;
+    while i < count {
+        store(&mut *numbers, index + i, number_at(c, first + i));
         i += 1;
     }
 }
 
-// What stands behind the first field of a line.
-fn behind(c: Command) -> [u64; 6] {
-    [c.second, c.third, c.fourth, c.fifth, c.sixth, c.seventh]
-}
-
-// An entry of the state.
+// An entry of the state. The first field is its index.
 fn put_state(state: &mut [u32; STATE_NUMBERS], c: Command, i: usize)
     requires { ⌜ i < 16 ⌝ }
 {
     if c.kind == program_script::TRANSFER {
-        put(state, 5 * i, behind(c), 5);
+        put(state, TRANSFER_NUMBERS * i, c, 1, TRANSFER_NUMBERS);
         return;
     }
-    put(state, 40 + 5 * i, behind(c), 5);
+    put(state, SLOTS_FROM + SLOT_NUMBERS * i, c, 1, SLOT_NUMBERS);
 }
 
-// An entry of the board, or its counts.
+// A master's shares of a slave: the first two fields are their indices.
+fn put_share(board: &mut [u32; BOARD_NUMBERS], c: Command, m: usize)
+    requires { ⌜ m < 16 ⌝ }
+{
+    let s = program_script::value_at(c, 1) as usize % SLAVES;
+    put(board, SHARES_FROM + SLAVES * m + s, c, 2, 1);
+}
+
+// An entry of the board, or its counts, which stand in front of the masters.
 fn put_board(board: &mut [u32; BOARD_NUMBERS], c: Command, i: usize)
     requires { ⌜ i < 16 ⌝ }
 {
     if c.kind == program_script::MASTER {
-        put(board, 2 + 2 * i, behind(c), 2);
-        return;
-    }
-    if c.kind == program_script::SLAVE {
-        put(board, 18 + 6 * i, behind(c), 6);
-        return;
-    }
-    if c.kind == program_script::SHARE {
         put(
             board,
-            114 + 16 * i + (c.second % 16) as usize,
-            [c.third, 0, 0, 0, 0, 0],
+            MASTERS_FROM + MASTER_NUMBERS * i,
+            c,
             1,
+            MASTER_NUMBERS,
         );
         return;
     }
-    put(board, 0, [c.first, c.second, 0, 0, 0, 0], 2);
+    if c.kind == program_script::SLAVE {
+        put(board, SLAVES_FROM + SLAVE_NUMBERS * i, c, 1, SLAVE_NUMBERS);
+        return;
+    }
+    if c.kind == program_script::SHARE {
+        put_share(board, c, i);
+        return;
+    }
+    put(board, 0, c, 0, MASTERS_FROM);
 }
 
 // An entry of the state or of the board overwritten, or the board's counts. A master or a card has a number below 16.
 pub fn overwrite(board: &mut [u32; BOARD_NUMBERS], state: &mut [u32; STATE_NUMBERS], c: Command) {
-    let i = (c.first % 16) as usize;
+    let i = program_script::value_at(c, 0) as usize % SLAVES;
     if (c.kind == program_script::TRANSFER) | (c.kind == program_script::SLOT) {
         put_state(state, c, i);
         return;

@@ -5,16 +5,22 @@ use Rattle.program_script.proofs.command.kind_of.Statement.{statement}
 use Rattle.program_script.proofs.command.kind_of.Tie as tie
 
 abbrev Inv-loop : tie.InvT-loop
-Inv-loop word kind₀ kind = kind ≤ 14
+Inv-loop word words kind₀ kind = kind ≤ 14
 
 abbrev μ-loop : tie.MeasureT-loop
-μ-loop word kind₀ kind = 14 - kind
+μ-loop word words kind₀ kind = 14 - kind
 
 loop-holds : tie.Need-loop-holds Inv-loop μ-loop
 loop-holds c = search needs
 
-is-word-of-requires : tie.Need-is-word-of-requires Inv-loop μ-loop
-is-word-of-requires c κs = search needs
+mul-is-word : tie.Need-mul-is-word Inv-loop μ-loop
+mul-is-word c = search needs
+
+index-1-is-word : tie.Need-index-1-is-word Inv-loop μ-loop
+index-1-is-word c = search needs
+
+is-word-requires : tie.Need-is-word-requires Inv-loop μ-loop
+is-word-requires c κs = search needs
 
 returns : tie.Need-returns Inv-loop μ-loop
 returns c = search needs
@@ -38,7 +44,9 @@ kind-of-spec =
     Inv-loop
     μ-loop
     loop-holds
-    is-word-of-requires
+    mul-is-word
+    index-1-is-word
+    is-word-requires
     returns
     add-kind
     loop-less

@@ -1,16 +1,22 @@
 -- `program_script::command::parse_fields` is safe and ends. The loop's invariant: `at` is a position in the line, and at
--- most seven fields were read. The measure is what is left of the line. Assumes nothing.
+-- most ten fields were read. The measure is what is left of the line. Assumes nothing.
 use Prim.Native.Nat.{_≤_, _-_}
-use lib.ListN.{length}
 use borrow.Author.Needs.{needs}
+use lib.ListN.{length}
 use Rattle.program_script.proofs.command.parse_fields.Statement.{statement}
 use Rattle.program_script.proofs.command.parse_fields.Tie as tie
 
 abbrev Inv-loop : tie.InvT-loop
-Inv-loop line kind from letters values₀ problem₀ last₀ i₀ at₀ values problem last i at = (at ≤ length line) × (i ≤ 7)
+Inv-loop line kind from letters values₀ problem₀ last₀ i₀ at₀ values problem last i at = (at ≤ length line) × (i ≤ 10)
 
 abbrev μ-loop : tie.MeasureT-loop
 μ-loop line kind from letters values₀ problem₀ last₀ i₀ at₀ values problem last i at = length line - at
+
+mul-letters : tie.Need-mul-letters Inv-loop μ-loop
+mul-letters c = search needs
+
+array-copy-out-letters : tie.Need-array-copy-out-letters Inv-loop μ-loop
+array-copy-out-letters c = search needs
 
 loop-holds : tie.Need-loop-holds Inv-loop μ-loop
 loop-holds c = search needs
@@ -38,12 +44,6 @@ piece-end-requires c κs = search needs
 
 slice-aggregate-field-value : tie.Need-slice-aggregate-field-value Inv-loop μ-loop
 slice-aggregate-field-value c = search needs
-
-mul-field-value : tie.Need-mul-field-value Inv-loop μ-loop
-mul-field-value c = search needs
-
-add-field-value : tie.Need-add-field-value Inv-loop μ-loop
-add-field-value c = search needs
 
 array-read-field-value : tie.Need-array-read-field-value Inv-loop μ-loop
 array-read-field-value c = search needs
@@ -75,12 +75,6 @@ loop-less c = search needs
 loop-again : tie.Need-loop-again Inv-loop μ-loop
 loop-again c = search needs
 
-mul-if3 : tie.Need-mul-if3 Inv-loop μ-loop
-mul-if3 c = search needs
-
-add-if3 : tie.Need-add-if3 Inv-loop μ-loop
-add-if3 c = search needs
-
 array-read-if3 : tie.Need-array-read-if3 Inv-loop μ-loop
 array-read-if3 c = search needs
 
@@ -96,9 +90,6 @@ refused-requires-4 c κs = search needs
 returns-4 : tie.Need-returns-4 Inv-loop μ-loop
 returns-4 c = search needs
 
-command-of-requires : tie.Need-command-of-requires Inv-loop μ-loop
-command-of-requires c κs = search needs
-
 returns-5 : tie.Need-returns-5 Inv-loop μ-loop
 returns-5 c = search needs
 
@@ -108,6 +99,8 @@ parse-fields-spec =
     (tie.spec
     Inv-loop
     μ-loop
+    mul-letters
+    array-copy-out-letters
     loop-holds
     refused-requires
     returns
@@ -117,8 +110,6 @@ parse-fields-spec =
     part-rest-end
     piece-end-requires
     slice-aggregate-field-value
-    mul-field-value
-    add-field-value
     array-read-field-value
     field-value-requires
     refused-requires-2
@@ -129,12 +120,9 @@ parse-fields-spec =
     add-i
     loop-less
     loop-again
-    mul-if3
-    add-if3
     array-read-if3
     refused-requires-3
     returns-3
     refused-requires-4
     returns-4
-    command-of-requires
     returns-5)
