@@ -1,5 +1,23 @@
-// What each refusal means, in a few words, for programs that explain one on standard error: rule 7.k has refusal k whole. What can
-// be asked for on standard output too answers whether all of it was written.
+// What each refusal means, in a few words (section 7 of docs/RULES.md has them whole), for programs that explain one on standard
+// error. What can be asked for on standard output too answers whether all of it was written.
+use common_numbers::BAD_ADDRESS;
+use common_numbers::BAD_BASE;
+use common_numbers::BAD_BEATS;
+use common_numbers::BAD_LANES;
+use common_numbers::BAD_LENGTH;
+use common_numbers::BAD_ORDER;
+use common_numbers::BAD_SHARE;
+use common_numbers::BAD_STATE;
+use common_numbers::BAD_TEXT;
+use common_numbers::BAD_VALUE;
+use common_numbers::BAD_WORDS;
+use common_numbers::HELD;
+use common_numbers::NO_MASTER;
+use common_numbers::NOT_CONNECTED;
+use common_numbers::OVERLAP;
+use common_numbers::PAST_END;
+use common_numbers::SHORT_OUTPUT;
+use common_numbers::SPAN_TOTAL;
 use description::Refusal;
 use libc::STDERR_FILENO;
 use libc::STDOUT_FILENO;
@@ -10,26 +28,26 @@ fn say_decimal(fd: i32, n: u64) -> bool {
     program_streams::write_all(fd, &digits[..length])
 }
 
-// 1 or 2 where no line is charged (rule 8.3).
+// Refusal 1 or 2 where the text as a whole is to blame (rule 8.3).
 fn say_of_text(fd: i32, number: u32) -> bool {
     match number {
-        1 => program_streams::write_all(fd, b"text over 8192 bytes"),
+        BAD_TEXT => program_streams::write_all(fd, b"text over 8192 bytes"),
         _ => program_streams::write_all(fd, b"at the end, no master or no slave"),
     }
 }
 
-// 1 to 7 where a line is charged.
+// Refusals 1 to 7 where a line is to blame.
 fn say_of_line(fd: i32, number: u32) -> bool {
     match number {
-        1 => program_streams::write_all(
+        BAD_TEXT => program_streams::write_all(
             fd,
             b"no final line feed, unknown first word, wrong count of fields, or bad number",
         ),
-        2 => program_streams::write_all(fd, b"line kind out of order or over the count"),
-        3 => program_streams::write_all(fd, b"value outside its list or range"),
-        4 => program_streams::write_all(fd, b"base no multiple of span"),
-        5 => program_streams::write_all(fd, b"slave overlaps an earlier one"),
-        6 => program_streams::write_all(fd, b"spans total over 65536"),
+        BAD_ORDER => program_streams::write_all(fd, b"line kind out of order or over the count"),
+        BAD_VALUE => program_streams::write_all(fd, b"value outside its list or range"),
+        BAD_BASE => program_streams::write_all(fd, b"base no multiple of span"),
+        OVERLAP => program_streams::write_all(fd, b"slave overlaps an earlier one"),
+        SPAN_TOTAL => program_streams::write_all(fd, b"spans total over 65536"),
         _ => program_streams::write_all(
             fd,
             b"share line names no master or slave, or a pair twice",
@@ -37,30 +55,36 @@ fn say_of_line(fd: i32, number: u32) -> bool {
     }
 }
 
-// 8 to 10, for which the embedder is to blame, and 11 to 18, of a post or of a wait.
+// Refusals 8 to 10, of what is lent, and 11 to 18, of a post or of a wait that is looked up.
 fn say_of_call(fd: i32, number: u32) -> bool {
     match number {
-        8 => program_streams::write_all(fd, b"memory or buffer not of its exact length"),
-        9 => program_streams::write_all(fd, b"the state breaks a rule"),
-        10 => program_streams::write_all(fd, b"output shorter than what is to be written"),
-        11 => program_streams::write_all(fd, b"no such master"),
-        12 => program_streams::write_all(fd, b"master holds a transfer"),
-        13 => program_streams::write_all(fd, b"beats 0 or over the master's burst"),
-        14 => program_streams::write_all(fd, b"address no multiple of the master's width"),
-        15 => program_streams::write_all(fd, b"lanes not legal, or a burst without all lanes"),
-        16 => program_streams::write_all(fd, b"no connected slave there"),
-        17 => program_streams::write_all(fd, b"burst passes the slave's end"),
-        18 => program_streams::write_all(fd, b"data not beats times width bytes"),
+        BAD_LENGTH => program_streams::write_all(fd, b"memory or buffer not of its exact length"),
+        BAD_STATE => program_streams::write_all(fd, b"the state breaks a rule"),
+        SHORT_OUTPUT => program_streams::write_all(
+            fd,
+            b"output shorter than what is to be written",
+        ),
+        NO_MASTER => program_streams::write_all(fd, b"no such master"),
+        HELD => program_streams::write_all(fd, b"master holds a transfer"),
+        BAD_BEATS => program_streams::write_all(fd, b"beats 0 or over the master's burst"),
+        BAD_ADDRESS => program_streams::write_all(fd, b"address no multiple of the master's width"),
+        BAD_LANES => program_streams::write_all(
+            fd,
+            b"lanes not legal, or a burst without all lanes",
+        ),
+        NOT_CONNECTED => program_streams::write_all(fd, b"no connected slave there"),
+        PAST_END => program_streams::write_all(fd, b"burst passes the slave's end"),
+        BAD_WORDS => program_streams::write_all(fd, b"data not beats times width bytes"),
         _ => program_streams::write_all(fd, b"no refusal has this number"),
     }
 }
 
 // A number by itself: of 1 and 2 both kinds of cause.
 fn say_number(fd: i32, number: u32) -> bool {
-    if 7 < number {
+    if BAD_SHARE < number {
         return say_of_call(fd, number);
     }
-    if number <= 2 {
+    if number <= BAD_ORDER {
         return say_of_text(fd, number)
             && program_streams::write_all(fd, b"; ")
             && say_of_line(fd, number);

@@ -80,7 +80,7 @@ pub fn finish(out: &mut [u8; ROOM], session: Session) {
 fn glyph(d: u8) -> u8
     requires { ⌜ d < 16 ⌝ }
 {
-    if d < 10 { 48 + d } else { 87 + d }
+    if d < 10 { b'0' + d } else { b'a' + (d - 10) }
 }
 
 // Prints one byte in hex.

@@ -1,4 +1,7 @@
 // Lines of the simulator's script. A line is a word and its fields, parted by commas.
+use common_numbers::BUFFER_BYTES;
+use common_numbers::MASTERS;
+use common_numbers::SLAVES;
 ghost use Prim.Native.Nat.{_≤_, _<_};
 ghost use lib.ListN.{length};
 ghost use Rattle.io.specs.Counts.{Counts};
@@ -82,7 +85,7 @@ const FIELDS: [[u8; LETTERS]; KINDS] = [
 ];
 
 // What can be wrong with a line: it is none of the kinds, it has a number that its field does not hold, it reaches past what is
-// lent, which whoever obeys it finds, or it posts more than 4,096 bytes.
+// lent, which whoever obeys it finds, or it posts more bytes than a buffer has.
 pub const NOT_A_LINE: u8 = 1;
 
 pub const OUT_OF_RANGE: u8 = 2;
@@ -175,16 +178,19 @@ fn named(field: &[u8], first: &[u8], second: &[u8]) -> Field {
     no_value(NOT_A_LINE)
 }
 
+// The largest number that has ten digits.
+const TEN_DIGITS: u64 = 9999999999;
+
 // The largest number of a field by its letter: a flag, a master, a card, a number of one byte, of two, of four, of ten digits.
 fn most(letter: u8) -> u64 {
     match letter {
         b'f' => 1,
-        b'm' => 7,
-        b'c' => 15,
-        b'b' => 255,
-        b'h' => 65535,
-        b'w' => 4294967295,
-        _ => 9999999999,
+        b'm' => MASTERS as u64 - 1,
+        b'c' => SLAVES as u64 - 1,
+        b'b' => u8::MAX as u64,
+        b'h' => u16::MAX as u64,
+        b'w' => u32::MAX as u64,
+        _ => TEN_DIGITS,
     }
 }
 
@@ -202,7 +208,7 @@ fn number(field: &[u8], letter: u8) -> Field {
 // The bytes of a post, by their count.
 fn posted(field: &[u8]) -> Field {
     let bytes = hex::byte_count(field);
-    if 4096 < bytes.value {
+    if bytes.value > BUFFER_BYTES as u64 {
         return no_value(TOO_MANY_BYTES);
     }
     bytes

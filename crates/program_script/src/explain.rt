@@ -1,4 +1,7 @@
 // What is said on standard error of a line of the script: what is wrong with it, or why its call is refused.
+use crate::NOT_A_LINE;
+use crate::OUT_OF_RANGE;
+use crate::PAST_LENT;
 use crate::Session;
 use crate::answers;
 use libc::STDERR_FILENO;
@@ -17,9 +20,9 @@ pub fn problem(line: u64, problem: u8) {
     }
     say_line(line);
     match problem {
-        1 => io::write_all(STDERR_FILENO, b"not a line of a script\n"),
-        2 => io::write_all(STDERR_FILENO, b"a number is out of its range\n"),
-        3 => io::write_all(STDERR_FILENO, b"reaches past what is lent\n"),
+        NOT_A_LINE => io::write_all(STDERR_FILENO, b"not a line of a script\n"),
+        OUT_OF_RANGE => io::write_all(STDERR_FILENO, b"a number is out of its range\n"),
+        PAST_LENT => io::write_all(STDERR_FILENO, b"reaches past what is lent\n"),
         _ => io::write_all(STDERR_FILENO, b"more than 4096 bytes\n"),
     }
     ;

@@ -3,30 +3,33 @@ ghost use Prim.Native.Nat.{_≤_};
 use crate::command;
 use crate::command::Field;
 
-// What a lower case hex digit counts; 16 for any other byte.
+// What `digit_value` says of a byte that is no digit.
+const NO_DIGIT: u8 = 16;
+
+// What a lower case hex digit counts.
 fn digit_value(c: u8) -> u8
     ensures { λ r. ⌜ r ≤ 16 ⌝ }
 {
-    if c < 48 {
-        return 16;
+    if c < b'0' {
+        return NO_DIGIT;
     }
-    if c < 58 {
-        return c - 48;
+    if c <= b'9' {
+        return c - b'0';
     }
-    if c < 97 {
-        return 16;
+    if c < b'a' {
+        return NO_DIGIT;
     }
-    if c < 103 {
-        return c - 87;
+    if c <= b'f' {
+        return c - b'a' + 10;
     }
-    16
+    NO_DIGIT
 }
 
 // Whether every byte of a field is a hex digit.
 fn all_digits(field: &[u8]) -> bool {
     let mut i = 0;
     while i < field.len() {
-        if digit_value(field[i]) == 16 {
+        if digit_value(field[i]) == NO_DIGIT {
             return false;
         }
         i += 1;

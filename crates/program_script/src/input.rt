@@ -10,8 +10,8 @@ use crate::command;
 use libc::STDIN_FILENO;
 use program_streams::Got;
 
-// How much of the script is held at a time. The longest line is a fill of all the memory: two digits for each of 65,544 bytes
-// behind `fill,memory,0,`. A line that fills all of the input says nothing that could be done.
+// How much of the script is held at a time. The longest line is a fill of all the memory: two digits for each of MEMORY_ROOM
+// bytes behind `fill,memory,0,`. A line that fills all of the input says nothing that could be done.
 pub const INPUT: usize = 131200;
 
 // Moves n bytes from `from` on to the front.

@@ -6,6 +6,8 @@ mod explain;
 mod hex;
 mod input;
 
+use common_numbers::BUFFER_BYTES;
+use common_numbers::MEMORY_BYTES;
 ghost use Prim.Native.Nat.{_≤_};
 ghost use Rattle.io.specs.Counts.{Counts};
 pub use answers::ROOM;
@@ -43,6 +45,14 @@ pub use input::INPUT;
 pub use input::line_of;
 pub use input::next_line;
 
+// How many bytes over its exact length the memory or the buffer can be lent, so that a script sees refusal 8; and so the most that
+// is ever lent of each.
+pub const BYTES_OVER: usize = 8;
+
+pub const MEMORY_ROOM: usize = MEMORY_BYTES as usize + BYTES_OVER;
+
+pub const BUFFER_ROOM: usize = BUFFER_BYTES + BYTES_OVER;
+
 // How far a session has come.
 pub struct Session {
     // The most that can be lent of the memory, and what is lent of it and of the buffer.
@@ -72,9 +82,9 @@ pub fn first_session(memory: usize) -> Session
     requires { ⌜ memory ≤ 65536 ⌝ }
 {
     Session {
-        memory_most: memory + 8,
+        memory_most: memory + BYTES_OVER,
         memory_lent: memory,
-        buffer_lent: 4096,
+        buffer_lent: BUFFER_BYTES,
         from: 0,
         end: 0,
         ended: false,

@@ -1,4 +1,6 @@
 // How much of the memory and of the buffer is lent from now on.
+use common_numbers::BUFFER_BYTES;
+use program_script::BUFFER_ROOM;
 use program_script::Command;
 use program_script::Session;
 
@@ -22,9 +24,9 @@ pub fn either<'a>(first: bool, one: &'a mut [u8], other: &'a mut [u8]) -> &'a mu
     other
 }
 
-// The memory (0) or the buffer is lent up to a length, at most 8 bytes over the exact one. The masters' words are lent from an
-// array of 4,096 bytes, and a longer length from one of 4,104. The one that was lent is copied to the other, whichever is lent
-// from now on; the 8 bytes behind the words keep their values in the longer one.
+// The memory (0) or the buffer is lent up to a length, at most BYTES_OVER bytes over the exact one. The masters' words are lent
+// from an array of the exact length, and a longer length from one that has room for it. The one that was lent is copied to the
+// other, whichever is lent from now on; the bytes behind the words keep their values in the longer one.
 pub fn lend(session: Session, c: Command, words: &mut [u8], longer: &mut [u8]) -> Session {
     let length = program_script::value_at(c, 1) as usize;
     let mut next = session;
@@ -35,11 +37,11 @@ pub fn lend(session: Session, c: Command, words: &mut [u8], longer: &mut [u8]) -
         next.memory_lent = length;
         return next;
     }
-    if 4104 < length {
+    if BUFFER_ROOM < length {
         return program_script::failed(session, program_script::OUT_OF_RANGE);
     }
     next.buffer_lent = length;
-    if session.buffer_lent <= 4096 {
+    if session.buffer_lent <= BUFFER_BYTES {
         copy(&*words, longer);
         return next;
     }

@@ -6,6 +6,7 @@ mod overwrite;
 mod world;
 
 use common_numbers::BOARD_NUMBERS;
+use common_numbers::LAST_REFUSAL;
 use common_numbers::TEXT_ROOM;
 use libc::STDERR_FILENO;
 use libc::STDOUT_FILENO;
@@ -22,7 +23,7 @@ fn help() {
             STDOUT_FILENO,
             b"Runs the script's lines on the board and prints what each call answers, a refusal by its number:\n",
         )
-        && program_refusals::list(STDOUT_FILENO, 18);
+        && program_refusals::list(STDOUT_FILENO, LAST_REFUSAL);
     program_options::printed(b"simulate", taken);
 }
 

@@ -1,13 +1,16 @@
 // What each line of a script does.
 use common_numbers::BOARD_NUMBERS;
+use common_numbers::BUFFER_BYTES;
 use common_numbers::LINES_NUMBERS;
 use common_numbers::STATE_NUMBERS;
 ghost use Prim.Native.Nat.{_<_};
 use crate::lending;
 use crate::overwrite;
 use crate::world;
+use program_script::BUFFER_ROOM;
 use program_script::Command;
 use program_script::INPUT;
+use program_script::MEMORY_ROOM;
 use program_script::ROOM;
 use program_script::Session;
 
@@ -33,7 +36,7 @@ fn obey_post(
     buffer: &mut [u8],
     out: &mut [u8; ROOM],
 ) -> Session {
-    let mut bytes = [0u8; 4096];
+    let mut bytes = [0u8; BUFFER_BYTES];
     program_script::decode(program_script::last_field(line, c.last), &mut bytes);
     let end = program_script::bounded(program_script::value_at(c, 5) as usize, &bytes);
     let master = overwrite::number_at(c, 0);
@@ -191,20 +194,20 @@ fn obey_line(
     if c.kind == program_script::LEND {
         return lending::lend(session, c, words, longer);
     }
-    let all = lending::either(session.buffer_lent <= 4096, words, longer);
+    let all = lending::either(session.buffer_lent <= BUFFER_BYTES, words, longer);
     let buffer = program_script::lent(session.buffer_lent, all);
     let lent = program_script::lent(session.memory_lent, memory);
     obey_command(board, state, session, c, line, text, lent, buffer, out)
 }
 
-// Obeys a script from standard input on a board; `text` is the board's. The memory has the 65,536 bytes that spans total at
-// most, and 8 more, so that a length over the exact one can be lent. Of the buffer, 4,096 zero bytes are what is lent; a
-// longer length is lent from `longer`, see lending::lend. Nothing says that a script ends, so the passes are counted down, from
+// Obeys a script from standard input on a board; `text` is the board's. The memory has the bytes that spans total at most, and
+// BYTES_OVER more, so that a length over the exact one can be lent. Of the buffer, zero bytes of the exact length are what is
+// lent; a longer length is lent from `longer`, see lending::lend. Nothing says that a script ends, so the passes are counted down, from
 // a number that no script uses up.
 pub fn obey_script(text: &[u8], board: &mut [u32; BOARD_NUMBERS]) {
-    let mut memory = [0u8; 65544];
-    let mut words: [u8; 4096] = [0; 4096];
-    let mut longer = [0u8; 4104];
+    let mut memory = [0u8; MEMORY_ROOM];
+    let mut words = [0u8; BUFFER_BYTES];
+    let mut longer = [0u8; BUFFER_ROOM];
     let mut input = [0u8; INPUT];
     let mut out = [0u8; ROOM];
     let mut state = [0u32; STATE_NUMBERS];

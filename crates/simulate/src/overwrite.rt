@@ -16,7 +16,11 @@ use program_script::Command;
 // A field of a line as a number of an array. The line's limits keep it within 32 bits.
 pub fn number_at(c: Command, i: usize) -> u32 {
     let n = program_script::value_at(c, i);
-    if n < 4294967296 { n as u32 } else { 4294967295 }
+    if n <= u32::MAX as u64 {
+        n as u32
+    } else {
+        u32::MAX
+    }
 }
 
 // A number at an index of an array, where the array has it.

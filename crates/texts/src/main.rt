@@ -66,15 +66,18 @@ fn refill(piece: &mut [u8], input: Input) -> Input
     }
 }
 
-// Takes the line of a record's length: at most 10 digits and the line feed. One that the input ends in is no length.
+// The most bytes of the line of a record's length: ten digits and the line feed.
+const HEAD_BYTES: usize = 11;
+
+// Takes the line of a record's length. One that the input ends in is no length.
 fn take_head(piece: &mut [u8], first: Input) -> Head
     requires { ⌜ first .end ≤ length (now piece) ⌝ }
     ensures { λ r. ⌜ r .input .end ≤ length (now (piece .exit)) ⌝ }
 {
-    let mut line = [0u8; 11];
+    let mut line = [0u8; HEAD_BYTES];
     let mut kept: usize = 0;
     let mut input = first;
-    while kept < 11 {
+    while kept < HEAD_BYTES {
         input = refill(&mut *piece, input);
         let at = input.at;
         let end = input.end;
@@ -139,13 +142,16 @@ fn take_body(piece: &mut [u8], first: Input, size: u64, into: &mut [u8]) -> Body
     }
 }
 
-// Writes the output that is filled, where an answer might find no room behind it: a short line and at most 8,192 bytes.
+// Room for every answer: a short line, and a description of TEXT_BYTES.
+const ANSWER_ROOM: usize = 8300;
+
+// Writes the output that is filled, where an answer might find no room behind it.
 fn make_room(out: &[u8], filled: usize) -> Room
     requires { ⌜ 8300 ≤ length (now out) ⌝ }
     requires { ⌜ filled ≤ length (now out) ⌝ }
     ensures { λ r. ⌜ r .at + 8300 ≤ length (now (out .entry)) ⌝ }
 {
-    if 8300 <= out.len() - filled {
+    if ANSWER_ROOM <= out.len() - filled {
         return Room {
             made: true,
             at: filled,
@@ -232,7 +238,7 @@ fn answer_records(piece: &mut [u8], record: &mut [u8], out: &mut [u8]) -> usize
     p.filled
 }
 
-// 8,193 bytes of a record are kept: one more than a description may have (rule 1.2), so that a longer one is refused by its length.
+// Of a record one byte more is kept than a description may have, so that a longer one is refused by its length.
 fn main() {
     let mut piece = io::large_buffer();
     let mut record = [0u8; TEXT_ROOM];
