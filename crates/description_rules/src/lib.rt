@@ -16,9 +16,9 @@ ghost use lib.ListN.{replicate};
 ghost use Rattle.description_board.specs.declared.Item.the-variants.{MasterLine, SlaveLine, ShareLine};
 ghost use Rattle.description_board.specs.Rules.{slaveValues, slaveOf, refused, start, step, finish};
 ghost use Rattle.description_rules.specs.Code.Readings.{readingOf};
+pub use refusals::memory_length;
 pub use refusals::overlaps;
 pub use refusals::share_or_none;
-pub use refusals::total_span;
 
 // The refusal's number or 0, and whether a share line was read (rules 1.4, 8.2).
 pub struct Progress {

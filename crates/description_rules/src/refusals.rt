@@ -11,6 +11,7 @@ use common_numbers::MOST_BASE;
 use common_numbers::MOST_SHARES;
 use common_numbers::MOST_WAIT;
 use common_numbers::OVERLAP;
+use common_numbers::SLAVES;
 use common_numbers::SPAN_TOTAL;
 use description_board::Slave;
 use description_board::SlaveNumbers;
@@ -18,7 +19,7 @@ ghost use mathlib.Core.Path.{_≡_};
 ghost use Prim.Native.Nat.{_≤_, _+_};
 ghost use lib.ListN.{take, getD};
 ghost use Rattle.common_laws.specs.Lists.{member};
-ghost use Rattle.description_board.specs.Records.{totalSpan};
+ghost use Rattle.description_board.specs.Records.{totalSpan, memoryLength};
 ghost use Rattle.description_board.specs.Rules.{slaveValues, meets, overlaps, masterRefusal, slaveRefusal, shareRefusal};
 ghost use Rattle.description_layout.specs.Layout.{boardIn};
 
@@ -95,7 +96,7 @@ pub fn overlaps(board: &[u32; BOARD_NUMBERS], n: usize, base: u32, span: u32) ->
 }
 
 // The spans of the first n slaves, and one span more, together (rules 1.7, 2.1): at most 17 u32, so no sum wraps.
-pub fn total_span(board: &[u32; BOARD_NUMBERS], n: usize, span: u32) -> u64
+fn total_span(board: &[u32; BOARD_NUMBERS], n: usize, span: u32) -> u64
     requires { ⌜ n ≤ 16 ⌝ }
     ensures { λ r. ⌜ r ≡ totalSpan (take n (boardIn (now (board .entry)) .slaves)) + span ⌝ }
 {
@@ -107,6 +108,17 @@ pub fn total_span(board: &[u32; BOARD_NUMBERS], n: usize, span: u32) -> u64
         i += 1;
     }
     total
+}
+
+// The bytes of the memory (rule 2.1). The count of a board that no reader made can be any number; its array has 16 slaves.
+pub fn memory_length(board: &[u32; BOARD_NUMBERS]) -> u64
+    ensures { λ r. ⌜ r ≡ memoryLength (boardIn (now (board .entry))) ⌝ }
+{
+    let count = description_layout::slave_count(board) as usize;
+    if SLAVES < count {
+        return total_span(board, SLAVES, 0);
+    }
+    total_span(board, count, 0)
 }
 
 // What a master line is refused for, or 0 (rules 7.2, 7.3).

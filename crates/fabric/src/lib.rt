@@ -16,7 +16,7 @@ use fabric_accesses::Transfer;
 use fabric_state::State;
 ghost use mathlib.Core.Path.{_≡_};
 ghost use mathlib.Core.Bool.{cond};
-ghost use Prim.Native.Nat.{_*_, _≤_, _<_};
+ghost use Prim.Native.Nat.{_*_, _<_};
 ghost use lib.ListN.{length};
 ghost use Rattle.description_board.specs.Items.{boardRefusal};
 ghost use Rattle.description_board.specs.Records.{memoryLength};
@@ -167,15 +167,12 @@ fn clock_refusal_by(
     memory: usize,
     buffer: usize,
 ) -> u32
-    requires { ⌜ (number ≡ 0 → boardIn (now board) .«slave_count» ≤ 16) ⌝ }
     ensures { λ r. ⌜ r ≡ clockRefusalBy number (memoryLength (boardIn (now (board .entry)))) sound memory buffer ⌝ }
 {
     if number != 0 {
         return number;
     }
-    let count = description_layout::slave_count(board) as usize;
-    let room = description_rules::total_span(board, count, 0);
-    if memory as u64 != room {
+    if memory as u64 != description_rules::memory_length(board) {
         return BAD_LENGTH;
     }
     if buffer != BUFFER_BYTES {

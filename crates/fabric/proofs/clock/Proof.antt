@@ -6,7 +6,6 @@ use Prim.Native.Nat.{ℕ}
 use borrow.Author.Needs.{needs}
 use Rattle.common_laws.specs.Lists.{table}
 use Rattle.description_board.specs.declared.Board.{Board}
-use Rattle.description_board.proofs.Accepted.{accepted-legal}
 use Rattle.description_layout.specs.Layout.{boardIn}
 use Rattle.fabric_bytes.specs.Bytes.{Store}
 use Rattle.fabric_layout.specs.Layout.{stateIn}
@@ -34,7 +33,7 @@ ready-requires : tie.Need-ready-requires
 ready-requires c κs = search needs
 
 clock-refusal-by-requires : tie.Need-clock-refusal-by-requires
-clock-refusal-by-requires c κs = λ z. accepted-legal _ (sym (c .ready .ensures .number) ∙ z) .fewSlaves
+clock-refusal-by-requires c κs = search needs
 
 found : (c : tie.After-clock-refusal-by)
     → let s = start (c .before) in c .clock-refusal-by .result ≡ clockRefusal (board s) (stateIn (before s)) (bytes s)

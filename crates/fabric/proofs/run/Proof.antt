@@ -9,7 +9,6 @@ use lib.ListN.{length}
 use borrow.Author.Needs.{needs}
 use Rattle.common_laws.specs.Lists.{table}
 use Rattle.description_board.specs.declared.Board.{Board}
-use Rattle.description_board.proofs.Accepted.{accepted-legal}
 use Rattle.description_layout.specs.Layout.{boardIn}
 use Rattle.fabric_bytes.specs.Bytes.{Store}
 use Rattle.fabric_layout.specs.Layout.{stateIn}
@@ -50,7 +49,7 @@ ready-requires : tie.Need-ready-requires Inv-loop μ-loop
 ready-requires c κs = search needs
 
 clock-refusal-by-requires : tie.Need-clock-refusal-by-requires Inv-loop μ-loop
-clock-refusal-by-requires c κs = λ z. accepted-legal _ (sym (c .ready .ensures .number) ∙ z) .fewSlaves
+clock-refusal-by-requires c κs = search needs
 
 found : (c : tie.After-clock-refusal-by Inv-loop μ-loop)
     → let s = start (c .before) in c .clock-refusal-by .result ≡ clockRefusal (board s) (stateIn (before s)) (bytes s)
