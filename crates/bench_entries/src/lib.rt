@@ -17,8 +17,8 @@ fn all_lanes(width: u32) -> u32 {
     }
 }
 
-// The slave that transfer number `index` of master m is for: the slaves in turn.
-fn slave_in_turn(count: u32, m: u32, index: u32) -> usize
+// The slave that transfer number `index` of master m is for: one slave after another.
+fn slave_for(count: u32, m: u32, index: u32) -> usize
     ensures { λ r. ⌜ r < 16 ⌝ }
 {
     if count == 0 {
@@ -35,7 +35,7 @@ pub struct Next {
     pub length: usize,
 }
 
-// A master's transfer number `index`: all lanes at the front of the slave, reads and writes by turns.
+// A master's transfer number `index`: all lanes at the front of the slave, reads and writes alternate.
 fn next_transfer(ma: Master, sl: Slave, index: u32) -> Next
     ensures { λ r. ⌜ r .length < 9 ⌝ }
 {
@@ -63,7 +63,7 @@ fn post_next(
 {
     let words = [0u8; 8];
     let count = description_layout::slave_count(board);
-    let sl = description_layout::slave_at(board, slave_in_turn(count, m, index));
+    let sl = description_layout::slave_at(board, slave_for(count, m, index));
     let ma = description_layout::master_at(board, m as usize);
     let next = next_transfer(ma, sl, index);
     let n = next.length;

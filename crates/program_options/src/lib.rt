@@ -4,7 +4,8 @@ ghost use mathlib.Core.Path.{_≡_};
 ghost use Rattle.program_options.specs.Options.{optionOf};
 use libc::STDOUT_FILENO;
 
-// What a program is asked for: its help, its version, or its work on its operands, the words from an index on. Wrong: none of these.
+// What a program is asked for: its help, its version, or its work on the operands, the words from an index on. Wrong: none of
+// these.
 pub enum Mode {
     Help,
     Version,

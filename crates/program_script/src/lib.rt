@@ -45,7 +45,7 @@ pub use input::INPUT;
 pub use input::line_of;
 pub use input::next_line;
 
-// How many bytes over its exact length the memory or the buffer can be lent, so that a script sees refusal 8; and so the most that
+// How many bytes over its exact length the memory or the buffer can be lent, so that a script sees refusal 8; and the most that
 // is ever lent of each.
 pub const BYTES_OVER: usize = 8;
 

@@ -202,8 +202,8 @@ fn obey_line(
 
 // Obeys a script from standard input on a board; `text` is the board's. The memory has the bytes that spans total at most, and
 // BYTES_OVER more, so that a length over the exact one can be lent. Of the buffer, zero bytes of the exact length are what is
-// lent; a longer length is lent from `longer`, see lending::lend. Nothing says that a script ends, so the passes are counted down, from
-// a number that no script uses up.
+// lent; a longer length is lent from `longer`, see lending::lend. Nothing says that a script ends, so the passes are counted
+// down, from a number that no script uses up.
 pub fn obey_script(text: &[u8], board: &mut [u32; BOARD_NUMBERS]) {
     let mut memory = [0u8; MEMORY_ROOM];
     let mut words = [0u8; BUFFER_BYTES];

@@ -33,7 +33,9 @@ module _ {text : List ℕ} {g : Got} (x : Gathered text g) where
   }
 
   -- the bytes that were read are all of the input, or fill the room
-  all-read : mostBytes < length text → g .failed ≡ false → (standing (x .answers) ≡ ended) ⊎ (mostBytes < length (gathered (x .answers)))
+  all-read :
+      mostBytes < length text → g .failed ≡ false
+      → (standing (x .answers) ≡ ended) ⊎ (mostBytes < length (gathered (x .answers)))
   unfolding Marks
   all-read room fine = go (standing (x .answers)) refl (x .marks)
     where

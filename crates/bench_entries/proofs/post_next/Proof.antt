@@ -9,8 +9,8 @@ use Rattle.bench_entries.proofs.post_next.Tie as tie
 slave-count-requires : tie.Need-slave-count-requires
 slave-count-requires c κs = search needs
 
-slave-in-turn-requires : tie.Need-slave-in-turn-requires
-slave-in-turn-requires c κs = search needs
+slave-for-requires : tie.Need-slave-for-requires
+slave-for-requires c κs = search needs
 
 slave-at-requires : tie.Need-slave-at-requires
 slave-at-requires c κs = search needs
@@ -41,7 +41,7 @@ post-next-spec =
     tie.close
     (tie.spec
     slave-count-requires
-    slave-in-turn-requires
+    slave-for-requires
     slave-at-requires
     master-at-requires
     next-transfer-requires

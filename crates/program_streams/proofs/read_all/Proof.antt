@@ -1,6 +1,5 @@
--- `program_streams::read_all` meets its contract: each pass adds the answer of one read to those before it. The measure is the reads
--- that are left.
--- Assumes nothing.
+-- `program_streams::read_all` meets its contract: each pass adds the answer of one read to those before it. The measure is the
+-- reads that are left. Assumes nothing.
 use mathlib.Core.List.{List}
 use mathlib.Core.Path.{_≡_, refl, subst, _∙_}
 use Prim.Native.Nat.{ℕ, _-_}
@@ -53,6 +52,7 @@ next :
     (c : tie.After-slice-known2 Inv-loop μ-loop) (t : Told) → told-by c ≡ t
     → Reached (stands t) (after c) (behind (top c .loop .end) t) (top c .loop .reads - 1)
 next c t e =
+    let tested = c .before .before .before .before .before in
     subst
     (λ (t : Told). Reached (stands t) (after c) (behind (top c .loop .end) t) (top c .loop .reads - 1))
     e
@@ -62,7 +62,7 @@ next c t e =
     _
     _
     (top c .loop .inv .1)
-    (c .before .before .before .before .before .loop-test .taken)
+    (tested .loop-test .taken)
     (c .before .before .read-once .kept .1 .0)
     (c .before .before .before .before .if1 .left)
     _

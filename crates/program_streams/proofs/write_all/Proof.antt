@@ -1,5 +1,6 @@
 -- `program_streams::write_all` stays within the bytes. The measure is the writes that are left. Assumes nothing.
-use Prim.Native.Nat.{_+_, _≤_}
+use mathlib.Core.List.{List}
+use Prim.Native.Nat.{ℕ, _+_, _≤_}
 use native.Mathlib.Omega.{arith}
 use lib.ListN.{length}
 use borrow.Author.Needs.{needs}
@@ -13,18 +14,22 @@ Inv-loop fd bytes writes₀ from₀ writes from = from ≤ length bytes
 abbrev μ-loop : tie.MeasureT-loop
 μ-loop fd bytes writes₀ from₀ writes from = writes
 
+-- From where a write has come back: what the loop had before it, and the bytes.
+abbrev top : tie.After-r Inv-loop μ-loop → tie.At-loop Inv-loop μ-loop
+top c = c .before .before .before .before .before .before
+
+abbrev all : tie.After-r Inv-loop μ-loop → List ℕ
+all c = top c .before .before .args .bytes .now
+
 -- what a write took is within the bytes
-within :
-    (c : tie.After-r Inv-loop μ-loop)
-    → c .before .before .before .before .before .before .loop .from + c .r .given .0 .0
-    ≤ length (c .before .before .before .before .before .before .before .before .args .bytes .now)
+within : (c : tie.After-r Inv-loop μ-loop) → top c .loop .from + c .r .given .0 .0 ≤ length (all c)
 within c =
     call-within
-    (c .before .before .before .before .before .before .before .before .args .bytes .now)
+    (all c)
     _
     _
     _
-    (c .before .before .before .before .before .before .loop .inv)
+    (top c .loop .inv)
     (c .before .before .write-once .ensures)
     (c .r .given .1)
 

@@ -1,4 +1,5 @@
--- `texts::put_answer` stays within the output: the line of the number is short, and the writer keeps to its part. Assumes nothing.
+-- `texts::put_answer` stays within the output: the line of the number is short, and the writer keeps to its part. Assumes
+-- nothing.
 use mathlib.Core.List.{List, [], _∷_}
 use mathlib.Core.Path.{refl}
 use Prim.Native.Nat.{ℕ, _≤_}

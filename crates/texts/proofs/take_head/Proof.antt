@@ -1,4 +1,5 @@
--- `texts::take_head` stays within the piece and within its line of 11 bytes. The measure is what is left of the line. Assumes nothing.
+-- `texts::take_head` stays within the piece and within its line of 11 bytes. The measure is what is left of the line. Assumes
+-- nothing.
 use mathlib.Core.Path.{_≡_}
 use Prim.Native.Nat.{_≤_, _-_}
 use native.Mathlib.Omega.{arith}

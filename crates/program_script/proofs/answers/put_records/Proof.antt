@@ -1,4 +1,5 @@
--- `program_script::answers::put_records` is safe and ends. The loop's invariant: a record has fewer than ten numbers. Assumes nothing.
+-- `program_script::answers::put_records` is safe and ends. The loop's invariant: a record has fewer than ten numbers. Assumes
+-- nothing.
 use Prim.Native.Nat.{_≤_, _-_, _+_, _*_}
 use borrow.Author.Needs.{needs}
 use lib.ListN.{length}

@@ -1,4 +1,5 @@
--- `program_script::hex::decode` is safe and ends. The loop's invariant: `i` is at most the length of `out`, which stays. Assumes nothing.
+-- `program_script::hex::decode` is safe and ends. The loop's invariant: `i` is at most the length of `out`, which stays. Assumes
+-- nothing.
 use mathlib.Core.Path.{_≡_}
 use Prim.Native.Nat.{_≤_, _-_}
 use lib.ListN.{length, length-set}

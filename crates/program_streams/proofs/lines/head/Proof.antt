@@ -21,10 +21,12 @@ same-length c = search needs
 
 returns : tie.Need-returns
 returns c =
-    let three = c .before .before .put3 in
-    let two = c .before .before .before .before .before .before .put2 in
-    let one = c .before .before .before .before .before .before .before .before .before .before .before .put in
-    holds-head _ _ _ _ _ _ _ _ (two .kept .0) (three .kept .0) (one .ensures) (two .ensures) (three .ensures)
+    let third = c .before .before in
+    let second = third .before .before .before .before in
+    let first = second .before .before .before .before .before in
+    let two = second .put2 in
+    let three = third .put3 in
+    holds-head _ _ _ _ _ _ _ _ (two .kept .0) (three .kept .0) (first .put .ensures) (two .ensures) (three .ensures)
 
 pub head-spec : {M : Type 1} → statement M
 head-spec =

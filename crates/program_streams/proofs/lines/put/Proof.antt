@@ -1,4 +1,5 @@
--- `program_streams::lines::put` meets its contract: what `common_text::put_bytes` wrote is all of the bytes, or as many as fit. Assumes nothing.
+-- `program_streams::lines::put` meets its contract: what `common_text::put_bytes` wrote is all of the bytes, or as many as fit.
+-- Assumes nothing.
 use mathlib.Core.Path.{sym}
 use native.Mathlib.Omega.{arith}
 use lib.ListN.{length-take}

@@ -1,4 +1,5 @@
--- `simulate::lending::copy` is safe and ends. The loop's invariant: `i` is at most the length of `to`, which stays. Assumes nothing.
+-- `simulate::lending::copy` is safe and ends. The loop's invariant: `i` is at most the length of `to`, which stays. Assumes
+-- nothing.
 use mathlib.Core.Path.{_≡_}
 use Prim.Native.Nat.{_≤_, _-_}
 use native.Mathlib.Omega.{arith}

@@ -1,5 +1,5 @@
--- `simulate::obey::obey_clock` is safe and ends. The loop's invariant: memory and buffer keep their lengths. The measure is the count
--- of clocks that are left. Assumes nothing.
+-- `simulate::obey::obey_clock` is safe and ends. The loop's invariant: memory and buffer keep their lengths. The measure is the
+-- count of clocks that are left. Assumes nothing.
 use mathlib.Core.Path.{_≡_}
 use lib.ListN.{length}
 use borrow.Author.Needs.{needs}

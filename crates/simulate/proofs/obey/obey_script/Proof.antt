@@ -1,5 +1,5 @@
--- `simulate::obey::obey_script` is safe and ends. The loop's invariant: the arrays that are lent keep their lengths. The measure is the
--- count of passes that are left. Assumes nothing.
+-- `simulate::obey::obey_script` is safe and ends. The loop's invariant: the arrays that are lent keep their lengths. The measure
+-- is the count of passes that are left. Assumes nothing.
 use mathlib.Core.Path.{_≡_}
 use lib.ListN.{length}
 use borrow.Author.Needs.{needs}
@@ -7,11 +7,13 @@ use Rattle.simulate.proofs.obey.obey_script.Statement.{statement}
 use Rattle.simulate.proofs.obey.obey_script.Tie as tie
 
 abbrev Inv-loop : tie.InvT-loop
-Inv-loop text board₀ memory₀ words₀ longer₀ input₀ out₀ state₀ session₀ passes₀ board memory words longer input out state session passes =
+Inv-loop text board₀ memory₀ words₀ longer₀ input₀ out₀ state₀ session₀ passes₀ board memory words longer input out state session
+    passes =
     (length memory ≡ 65544) × ((length words ≡ 4096) × ((length longer ≡ 4104) × (length input ≡ 131200)))
 
 abbrev μ-loop : tie.MeasureT-loop
-μ-loop text board₀ memory₀ words₀ longer₀ input₀ out₀ state₀ session₀ passes₀ board memory words longer input out state session passes =
+μ-loop text board₀ memory₀ words₀ longer₀ input₀ out₀ state₀ session₀ passes₀ board memory words longer input out state session
+    passes =
     passes
 
 start-requires : tie.Need-start-requires Inv-loop μ-loop
