@@ -11,11 +11,11 @@ use Rattle.description.specs.Reader.{readText}
 use Rattle.description.proofs.Trip.{read-accepted}
 use Rattle.fabric.specs.Calls.{reset}
 use Rattle.theorem_history.specs.Claim.{Order, Demand3}
-use Rattle.theorem_history.proofs.Safe.{within, finished, served}
-use Rattle.theorem_history.proofs.Exact.{exact-history}
-use Rattle.theorem_history.proofs.Quoted.{figures, longest}
-use Rattle.theorem_history.proofs.Orders.{numbers, times-numbers}
-use Rattle.theorem_history.proofs.ReadsHistory.{reads-right}
+use Rattle.theorem_history.proofs.Safe.WithinWait.{within, finished, served}
+use Rattle.theorem_history.proofs.Exact.ExactHistory.{exact-history}
+use Rattle.theorem_history.proofs.Quoted.QuotedFigures.{figures, longest}
+use Rattle.theorem_history.proofs.ReadBytes.LineOrders.{numbers, times-numbers}
+use Rattle.theorem_history.proofs.ReadBytes.HistoryBytes.{reads-right}
 
 reset-checks : (b : Board) → reset b .number ≡ boardRefusal b
 unfolding reset

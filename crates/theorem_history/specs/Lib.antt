@@ -1,3 +1,3 @@
 pub mod Claim
 pub mod WaitCall
-pub mod Runs
+pub mod ClockRuns

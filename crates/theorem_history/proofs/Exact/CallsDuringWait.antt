@@ -23,13 +23,13 @@ use Rattle.fabric_state.proofs.StateLaws.{transfer-with, transfer-with-other}
 use Rattle.fabric_state.proofs.RequestLaws.{requests-held}
 use Rattle.theorem_bounds.proofs.Potential.{pot}
 use Rattle.theorem_history.specs.Claim.{shows}
-use Rattle.theorem_history.proofs.Pairs.{sharesOf, singleOf, serveOf}
-use Rattle.theorem_history.proofs.Calls.{withPost, withClock}
-use Rattle.theorem_history.proofs.Standing.{Standing, Taken, left-with, post-stands, clock-stands}
-use Rattle.theorem_history.proofs.ExactRequests.{requestFor, transferFor, request-fits, words-right}
-use Rattle.theorem_history.proofs.MasterClock.{hidden, shown}
-use Rattle.theorem_history.proofs.ExactStep.{dueAt, Has, Tracked, Ready, on, serves-mine, serves-other, tracked-after}
-use Rattle.theorem_history.proofs.ExactCalls.{Run, run-post, run-clock, run-last}
+use Rattle.theorem_history.proofs.OneClock.PairFigures.{sharesOf, singleOf, serveOf}
+use Rattle.theorem_history.proofs.Histories.CallCases.{withPost, withClock}
+use Rattle.theorem_history.proofs.Histories.Standing.{Standing, Taken, left-with, post-stands, clock-stands}
+use Rattle.theorem_history.proofs.Exact.DueRequests.{requestFor, transferFor, request-fits, words-right}
+use Rattle.theorem_history.proofs.OneClock.MasterClock.{hidden, shown}
+use Rattle.theorem_history.proofs.Exact.DueClock.{dueAt, Has, Tracked, Ready, on, serves-mine, serves-other, tracked-after}
+use Rattle.theorem_history.proofs.Exact.BuiltHistories.{Run, run-post, run-clock, run-last}
 
 module _ (b : Board) (legal : Legal b) (s : ℕ) (hs : s < b .«slave_count») where
   -- such a post is taken

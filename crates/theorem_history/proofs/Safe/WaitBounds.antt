@@ -28,11 +28,11 @@ use Rattle.fabric_state.proofs.SoundLaws.{requests-same}
 use Rattle.fabric_state.proofs.StepLaws.{grant-serving}
 use Rattle.theorem_bounds.proofs.Potential.{pot}
 use Rattle.theorem_history.specs.Claim.{Call, History, next, answers, shows, names, any}
-use Rattle.theorem_history.proofs.Pairs.{sharesOf, singleOf, serveOf}
-use Rattle.theorem_history.proofs.SlaveClock.{leftAt, potAt, acts, nearer, owner-after, left-after, granted-now, left-granted}
-use Rattle.theorem_history.proofs.Calls.{answerOf, Came, refused, postTaken, clockTaken, came}
-use Rattle.theorem_history.proofs.MasterClock.{kept-after, shown}
-use Rattle.theorem_history.proofs.Standing.{Standing, Taken, post-taken, post-stands, clock-stands, acting, stays, left-with}
+use Rattle.theorem_history.proofs.OneClock.PairFigures.{sharesOf, singleOf, serveOf}
+use Rattle.theorem_history.proofs.OneClock.SlaveClock.{leftAt, potAt, acts, nearer, owner-after, left-after, granted-now, left-granted}
+use Rattle.theorem_history.proofs.Histories.CallCases.{answerOf, Came, refused, postTaken, clockTaken, came}
+use Rattle.theorem_history.proofs.OneClock.MasterClock.{kept-after, shown}
+use Rattle.theorem_history.proofs.Histories.Standing.{Standing, Taken, post-taken, post-stands, clock-stands, acting, stays, left-with}
 
 -- ---- answers
 

@@ -20,9 +20,9 @@ use Rattle.fabric_bytes.proofs.StoreLaws.{length-memory, length-buffer}
 use Rattle.fabric_state.specs.declared.Slot.{Slot}
 use Rattle.fabric_state.specs.Control.{slotAccessed}
 use Rattle.theorem_history.specs.Claim.{Reference, stepped}
-use Rattle.theorem_history.proofs.ReadsServing.{bytesHeld, endOf, accessesAt, accessAt, Lies, Asked, Served}
-use Rattle.theorem_history.proofs.ReadsServing.{served-begins, served-next, served-kept, step-length, step-apart}
-use Rattle.theorem_history.proofs.ReadsServing.{access-memory, access-buffer, asked-accessed}
+use Rattle.theorem_history.proofs.ReadBytes.TransferBytes.{bytesHeld, endOf, accessesAt, accessAt, Lies, Asked, Served}
+use Rattle.theorem_history.proofs.ReadBytes.TransferBytes.{served-begins, served-next, served-kept, step-length, step-apart}
+use Rattle.theorem_history.proofs.ReadBytes.TransferBytes.{access-memory, access-buffer, asked-accessed}
 
 -- master m holds the transfer t, and it is for slave k
 pub record Wants (b : Board) (m k : ℕ) (t : Transfer) : Type 0 where

@@ -30,13 +30,13 @@ use Rattle.fabric_state.proofs.SoundLaws.{grant-facts, clock-sound}
 use Rattle.theorem_bounds.proofs.Order.{between}
 use Rattle.theorem_bounds.proofs.Credit.{credit, spend-all}
 use Rattle.theorem_bounds.proofs.Potential.{Next, grant-exactly}
-use Rattle.theorem_history.proofs.Pairs.{sharesOf, singleOf, serveOf}
+use Rattle.theorem_history.proofs.OneClock.PairFigures.{sharesOf, singleOf, serveOf}
 use Rattle.fabric_state.proofs.StepLaws.{grant-serving}
-use Rattle.theorem_history.proofs.SlaveClock.{Acting, potAt, beats, long, asks-fit, acts, owner-after}
-use Rattle.theorem_history.proofs.SlaveClock.{remaining-after, left-after, granted-now, left-granted, put-aside, nearer}
-use Rattle.theorem_history.proofs.Standing.{acting, stays}
-use Rattle.theorem_history.proofs.ExactRequests.{transferFor, requestFor, last-serve, first-single, base-selects}
-use Rattle.theorem_history.proofs.MasterClock.{acted, kept-after}
+use Rattle.theorem_history.proofs.OneClock.SlaveClock.{Acting, potAt, beats, long, asks-fit, acts, owner-after}
+use Rattle.theorem_history.proofs.OneClock.SlaveClock.{remaining-after, left-after, granted-now, left-granted, put-aside, nearer}
+use Rattle.theorem_history.proofs.Histories.Standing.{acting, stays}
+use Rattle.theorem_history.proofs.Exact.DueRequests.{transferFor, requestFor, last-serve, first-single, base-selects}
+use Rattle.theorem_history.proofs.OneClock.MasterClock.{acted, kept-after}
 
 -- the grants that come after the next one of a master with a shares: o owns the slave with r grants
 unfoldable pub spareOf : ℕ → ℕ → ℕ → ℕ → ℕ

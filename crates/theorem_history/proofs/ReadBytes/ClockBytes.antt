@@ -39,10 +39,10 @@ use Rattle.fabric_state.proofs.StepLaws.{Outcome, rests, waiting, works, ends, 
 use Rattle.fabric_state.proofs.StepLaws.{grant-serving, grant-given, line-owner, finished-serving}
 use Rattle.fabric_state.proofs.SoundLaws.{grant-sound, served-kept}
 use Rattle.theorem_history.specs.Claim.{Reference, bytesIn, stepped, seen, Order, seenAll}
-use Rattle.theorem_history.proofs.Orders.{run, sweep, numbers, run-none, run-next, times-numbers}
-use Rattle.theorem_history.proofs.ReadsServing.{endOf, Lies, Done, served-ends, bytes-in}
-use Rattle.theorem_history.proofs.ReadsSlave.{Wants, Right, GoesOn, right-begins, right-accesses, right-idle, right-passes}
-use Rattle.theorem_history.proofs.ReadsSlave.{right-other-begins, right-other-accesses}
+use Rattle.theorem_history.proofs.ReadBytes.LineOrders.{run, sweep, numbers, run-none, run-next, times-numbers}
+use Rattle.theorem_history.proofs.ReadBytes.TransferBytes.{endOf, Lies, Done, served-ends, bytes-in}
+use Rattle.theorem_history.proofs.ReadBytes.SlaveBytes.{Wants, Right, GoesOn, right-begins, right-accesses, right-idle, right-passes}
+use Rattle.theorem_history.proofs.ReadBytes.SlaveBytes.{right-other-begins, right-other-accesses}
 
 -- ---- slave after slave
 

@@ -36,13 +36,13 @@ use Rattle.fabric_state.proofs.StateLaws.{transfer-with, transfer-with-other, s
 use Rattle.fabric_state.proofs.SoundLaws.{post-sound}
 use Rattle.theorem_history.specs.Claim.{Call, next, after, History, Start, Lent}
 use Rattle.theorem_history.specs.Claim.{names, Reference, referenceAt, bytesIn, Order, seenAll, fedPost, fed}
-use Rattle.fabric.proofs.RunOfClocks.{clock-is, store-is}
-use Rattle.theorem_history.proofs.Calls.{withPost, withClock, Came, refused, postTaken, clockTaken, came, named-taken}
-use Rattle.theorem_history.proofs.Lengths.{clock-lent, lent-before}
-use Rattle.theorem_history.proofs.Standing.{Standing, Taken, post-taken, start-state, start-stands, post-stands, clock-stands}
-use Rattle.theorem_history.proofs.ReadsServing.{bytesHeld, endOf, Asked, served-kept}
-use Rattle.theorem_history.proofs.ReadsSlave.{Wants, Right, SameMaster, asked-kept}
-use Rattle.theorem_history.proofs.ReadsClock.{Agreed, lies, clock-right, clock-read}
+use Rattle.fabric.proofs.RunLaws.{clock-is, store-is}
+use Rattle.theorem_history.proofs.Histories.CallCases.{withPost, withClock, Came, refused, postTaken, clockTaken, came, named-taken}
+use Rattle.theorem_history.proofs.Histories.LentLengths.{clock-lent, lent-before}
+use Rattle.theorem_history.proofs.Histories.Standing.{Standing, Taken, post-taken, start-state, start-stands, post-stands, clock-stands}
+use Rattle.theorem_history.proofs.ReadBytes.TransferBytes.{bytesHeld, endOf, Asked, served-kept}
+use Rattle.theorem_history.proofs.ReadBytes.SlaveBytes.{Wants, Right, SameMaster, asked-kept}
+use Rattle.theorem_history.proofs.ReadBytes.ClockBytes.{Agreed, lies, clock-right, clock-read}
 
 -- ---- the reset
 

@@ -29,15 +29,15 @@ use Rattle.fabric_state.proofs.RequestLaws.{requests-not}
 use Rattle.theorem_bounds.proofs.Order.{chosen-nobody}
 use Rattle.theorem_history.specs.Claim.{Start, Lent}
 use Rattle.fabric_state.proofs.StepLaws.{grant-serving, grant-given, step-rests}
-use Rattle.theorem_history.proofs.SlaveClock.{Acting, leftAt, potAt, leftNow}
-use Rattle.theorem_history.proofs.SlaveClock.{acts, owner-after, left-after, nearer}
-use Rattle.theorem_history.proofs.Calls.{withPost, withClock}
-use Rattle.theorem_history.proofs.Standing.{Standing, Taken, acting, stays, start-stands, post-stands, clock-stands, start-state}
-use Rattle.theorem_history.proofs.ExactRequests.{requestFor, transferFor}
-use Rattle.theorem_history.proofs.MasterClock.{free-after, acted}
-use Rattle.theorem_history.proofs.ExactStep.{due-asks}
-use Rattle.theorem_history.proofs.ExactCalls.{Lead, lead-here, lead-post, lead-clock}
-use Rattle.theorem_history.proofs.ExactRuns.{request-taken}
+use Rattle.theorem_history.proofs.OneClock.SlaveClock.{Acting, leftAt, potAt, leftNow}
+use Rattle.theorem_history.proofs.OneClock.SlaveClock.{acts, owner-after, left-after, nearer}
+use Rattle.theorem_history.proofs.Histories.CallCases.{withPost, withClock}
+use Rattle.theorem_history.proofs.Histories.Standing.{Standing, Taken, acting, stays, start-stands, post-stands, clock-stands, start-state}
+use Rattle.theorem_history.proofs.Exact.DueRequests.{requestFor, transferFor}
+use Rattle.theorem_history.proofs.OneClock.MasterClock.{free-after, acted}
+use Rattle.theorem_history.proofs.Exact.DueClock.{due-asks}
+use Rattle.theorem_history.proofs.Exact.BuiltHistories.{Lead, lead-here, lead-post, lead-clock}
+use Rattle.theorem_history.proofs.Exact.CallsDuringWait.{request-taken}
 
 -- where nobody asks, nobody is granted
 silent : (b : Board) (st : State) (s : ℕ) → ((j : ℕ) → requests b st s j ≡ false) → grantAt b st s ≡ Silent

@@ -28,7 +28,7 @@ use Rattle.fabric_state.proofs.RequestLaws.{Accepted, accepted-at, requests-hel
 use Rattle.theorem_bounds.proofs.Order.{between}
 use Rattle.theorem_bounds.proofs.Credit.{credit, credit-zero}
 use Rattle.theorem_bounds.proofs.Potential.{pot, some-grant, grant-turn, grant-falls, grant-next}
-use Rattle.theorem_history.proofs.Pairs.{sharesOf, singleOf, serveOf, accepted-long, long-single}
+use Rattle.theorem_history.proofs.OneClock.PairFigures.{sharesOf, singleOf, serveOf, accepted-long, long-single}
 
 -- the clocks left of what slave s serves
 abbrev pub leftAt : Board → State → ℕ → ℕ

@@ -22,7 +22,7 @@ use Rattle.wait.specs.Answers.{spelled, pairBytes, pairRefusal, waitRefusal, wa
 use Rattle.wait.proofs.FigureBytes.{wait-fits, serve-fits, wait-spelled, serve-spelled}
 use Rattle.wait.proofs.WrittenLaws.{masters-trimmed, connected-trimmed, wait-trimmed, serve-trimmed, written-board}
 use Rattle.theorem_history.specs.WaitCall.{WaitAnswered}
-use Rattle.theorem_history.proofs.Pairs.{connected-pair}
+use Rattle.theorem_history.proofs.OneClock.PairFigures.{connected-pair}
 
 module _ (text : List ℕ) (accepted : readText text .number ≡ 0) where
   abbrev b : Board

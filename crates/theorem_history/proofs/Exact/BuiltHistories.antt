@@ -16,10 +16,10 @@ use Rattle.fabric.specs.Calls.{World, postRefusal, post, clock}
 use Rattle.fabric.proofs.PostLaws.{not-refused}
 use Rattle.fabric_state.proofs.SoundLaws.{sound-test}
 use Rattle.theorem_history.specs.Claim.{Call, posts, clocks, numberAnswered, Handed, next, after, History, answers, shows, any}
-use Rattle.fabric.proofs.RunOfClocks.{clock-is}
-use Rattle.theorem_history.proofs.Calls.{withPost, withClock, answerOf, post-leaves, clock-leaves}
-use Rattle.theorem_history.proofs.Calls.{clock-number}
-use Rattle.theorem_history.proofs.Standing.{Standing, Taken, clock-free}
+use Rattle.fabric.proofs.RunLaws.{clock-is}
+use Rattle.theorem_history.proofs.Histories.CallCases.{withPost, withClock, answerOf, post-leaves, clock-leaves}
+use Rattle.theorem_history.proofs.Histories.CallCases.{clock-number}
+use Rattle.theorem_history.proofs.Histories.Standing.{Standing, Taken, clock-free}
 
 module _ (b : Board) (legal : Legal b) (ok : boardRefusal b ≡ 0) where
   pub post-accepted : (w : World) (q : Request) → Standing b legal w → Taken b (w .state) q

@@ -29,7 +29,7 @@ use Rattle.fabric_state.specs.Posting.{Request, transferOf, wrongBeats, unalign
 use Rattle.fabric_state.specs.Posting.{transferRefusalBy, transferRefusal}
 use Rattle.wait_turns.specs.Waits as waits
 use Rattle.theorem_history.specs.Claim.{slaveFor}
-use Rattle.theorem_history.proofs.Pairs.{sharesOf, singleOf, serveOf, most-some}
+use Rattle.theorem_history.proofs.OneClock.PairFigures.{sharesOf, singleOf, serveOf, most-some}
 
 -- the beats of the transfer with a grants to come after it
 unfoldable pub beatsFor : Board → ℕ → ℕ → ℕ → ℕ

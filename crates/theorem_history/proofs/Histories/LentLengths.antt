@@ -12,7 +12,7 @@ use Rattle.fabric_state.specs.Posting.{Request}
 use Rattle.fabric.specs.Calls.{World, clockRefusal}
 use Rattle.fabric.proofs.ClockLaws.{exact-lengths}
 use Rattle.theorem_history.specs.Claim.{Call, History, Lent, next, after, answers}
-use Rattle.theorem_history.proofs.Calls.{withPost, Came, refused, postTaken, clockTaken, came}
+use Rattle.theorem_history.proofs.Histories.CallCases.{withPost, Came, refused, postTaken, clockTaken, came}
 
 module _ (b : Board) where
   pub clock-lent : (w : World) → clockRefusal b (w .state) (w .store) ≡ 0 → Lent b w

@@ -27,8 +27,8 @@ use Rattle.fabric_state.proofs.StepLaws.{step-rests, line-owner, finished-servi
 use Rattle.fabric_state.proofs.RequestLaws.{requests-one}
 use Rattle.fabric_state.proofs.SoundLaws.{grant-sound, finished-only}
 use Rattle.theorem_history.specs.Claim.{owns}
-use Rattle.theorem_history.proofs.SlaveClock.{step-serving, acts, owner-after}
-use Rattle.theorem_history.proofs.Standing.{acting, stays}
+use Rattle.theorem_history.proofs.OneClock.SlaveClock.{step-serving, acts, owner-after}
+use Rattle.theorem_history.proofs.Histories.Standing.{acting, stays}
 
 module _ (b : Board) (legal : Legal b) (st : State) (sound : Sound b st) where
   -- who holds nothing holds nothing after the clock

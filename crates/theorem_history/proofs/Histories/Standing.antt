@@ -34,9 +34,9 @@ use Rattle.fabric_state.proofs.StoreLengths.{store-length}
 use Rattle.fabric_state.proofs.SoundLaws.{sound-test, reset-sound, post-sound, clock-sound, grant-sound, served-kept}
 use Rattle.theorem_bounds.proofs.Credit.{credit-zero}
 use Rattle.theorem_history.specs.Claim.{Call, Start, Lent, History, next, after}
-use Rattle.theorem_history.proofs.Pairs.{singleOf, serveOf}
-use Rattle.theorem_history.proofs.SlaveClock.{leftAt, InTurn, Paced, Acting, step-serving, pace-after}
-use Rattle.theorem_history.proofs.Calls.{withPost, withClock, Came, refused, postTaken, clockTaken, came}
+use Rattle.theorem_history.proofs.OneClock.PairFigures.{singleOf, serveOf}
+use Rattle.theorem_history.proofs.OneClock.SlaveClock.{leftAt, InTurn, Paced, Acting, step-serving, pace-after}
+use Rattle.theorem_history.proofs.Histories.CallCases.{withPost, withClock, Came, refused, postTaken, clockTaken, came}
 
 -- ---- what stands
 

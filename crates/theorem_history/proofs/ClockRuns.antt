@@ -21,9 +21,9 @@ use Rattle.fabric_accesses.specs.Accesses.{noTransfer}
 use Rattle.common_laws.proofs.TableLaws.{length-table}
 use Rattle.theorem_history.specs.Claim.{clocks, numberAnswered, Handed, leaves, next, after, History, answers}
 use Rattle.theorem_history.specs.Claim.{Call, Start}
-use Rattle.theorem_history.specs.Runs.{clockCalls, Counts}
-use Rattle.theorem_history.proofs.Calls.{Came, refused, postTaken, clockTaken, came}
-use Rattle.theorem_history.proofs.Standing.{start-state}
+use Rattle.theorem_history.specs.ClockRuns.{clockCalls, Counts}
+use Rattle.theorem_history.proofs.Histories.CallCases.{Came, refused, postTaken, clockTaken, came}
+use Rattle.theorem_history.proofs.Histories.Standing.{start-state}
 
 -- how many clocks stand between two places of a run, and what is true of them
 record Between (b : Board) (most : ℕ) (r q : Run) : Type 0 where
