@@ -1,4 +1,4 @@
--- The clocks that some grants of one master last: `credit`, of which a turn is the credit of all shares.
+-- The clocks that r grants of one master last at the most: `credit`. A turn (rule 5.6) is the credit of all shares.
 -- Assumes nothing.
 use mathlib.Core.Path.{_≡_, refl, ap}
 use mathlib.Core.Bool.{Bool, true, false, cond}
@@ -34,15 +34,15 @@ credit-more : (single serve a : ℕ) → credit single serve (suc (suc a)) ≡ s
 unfolding credit
 credit-more single serve a = rw suc-mul (omega arith)
 
-pub kept-burst : (beats r : ℕ) → 1 < beats → kept beats r ≡ 0
+kept-burst : (beats r : ℕ) → 1 < beats → kept beats r ≡ 0
 unfolding kept
 kept-burst beats r h = rw (lt-ltb 1 beats h)
 
-pub kept-single : (beats r : ℕ) → beats ≤ 1 → kept beats r ≡ r
+kept-single : (beats r : ℕ) → beats ≤ 1 → kept beats r ≡ r
 unfolding kept
 kept-single beats r h = rw (le-ltb 1 beats h)
 
-pub kept-zero : (beats : ℕ) → kept beats 0 ≡ 0
+kept-zero : (beats : ℕ) → kept beats 0 ≡ 0
 unfolding kept
 kept-zero beats = go (ltb 1 beats)
   where
@@ -50,27 +50,34 @@ kept-zero beats = go (ltb 1 beats)
     go true = refl
     go false = refl
 
-module _ (single serve long beats : ℕ) (whole : long ≤ serve) (alone : beats ≤ 1 → long ≤ single) where
-  -- a granted transfer with what then remains is within the credit before it
-  pub spend : (p : ℕ) → long + credit single serve (kept beats p) ≤ credit single serve (suc p)
-  spend p = go (ltb 1 beats) refl p
-    where
-      go : (b : Bool) → ltb 1 beats ≡ b → (p : ℕ) → long + credit single serve (kept beats p) ≤ credit single serve (suc p)
-      go true e p =
-          omega
-          (arith, credit-zero single serve (kept beats p) (kept-burst beats p (ltb-true 1 beats e)), credit-suc single serve p)
-      go false e zero =
-          omega (arith, credit-zero single serve (kept beats 0) (kept-zero beats), credit-suc single serve 0)
-      go false e (suc p) =
-          let h = ltb-false 1 beats e in
-          omega
-          (arith, alone h, ap (credit single serve) (kept-single beats (suc p) h), credit-more single serve p)
+module _ (single serve beats : ℕ) where
+  -- the last grant: nothing is kept behind it
+  last-kept : credit single serve 1 ≡ serve + credit single serve (kept beats 0)
+  last-kept = omega (arith, credit-suc single serve 0, credit-zero single serve (kept beats 0) (kept-zero beats))
 
--- and uses it up: singles while grants are to come, the longest transfer at the last
-pub spend-all : (single serve long beats p : ℕ) → (p ≡ 0 → long ≡ serve) → (1 ≤ p → (long ≡ single) × (beats ≤ 1))
-    → long + credit single serve (kept beats p) ≡ credit single serve (suc p)
-spend-all single serve long beats zero f g =
-    omega (arith, f refl, credit-zero single serve (kept beats 0) (kept-zero beats), credit-suc single serve 0)
-spend-all single serve long beats (suc p) f g =
-    let h = g (omega arith) in
-    omega (arith, h .0, ap (credit single serve) (kept-single beats (suc p) (h .1)), credit-more single serve p)
+  -- a single before it: the others are kept
+  single-kept : (p : ℕ) → beats ≤ 1 → credit single serve (suc (suc p)) ≡ single + credit single serve (kept beats (suc p))
+  single-kept p h = omega (arith, credit-more single serve p, ap (credit single serve) (kept-single beats (suc p) h))
+
+  module _ (long : ℕ) where
+    -- a granted transfer with what then remains is within the credit before it
+    pub spend : long ≤ serve → (beats ≤ 1 → long ≤ single) → (p : ℕ)
+        → long + credit single serve (kept beats p) ≤ credit single serve (suc p)
+    spend whole alone = go (ltb 1 beats) refl
+      where
+        go : (b : Bool) → ltb 1 beats ≡ b → (p : ℕ) → long + credit single serve (kept beats p) ≤ credit single serve (suc p)
+        go true e p =
+            let none = credit-zero single serve (kept beats p) (kept-burst beats p (ltb-true 1 beats e)) in
+            omega (arith, credit-suc single serve p)
+        go false e zero = omega (arith, last-kept)
+        go false e (suc p) =
+            let h = ltb-false 1 beats e in
+            omega (arith, alone h, single-kept p h)
+
+    -- and uses it up: singles while grants are to come, the longest transfer at the last
+    pub spend-all : (p : ℕ) → (p ≡ 0 → long ≡ serve) → (1 ≤ p → (long ≡ single) × (beats ≤ 1))
+        → long + credit single serve (kept beats p) ≡ credit single serve (suc p)
+    spend-all zero f g = omega (arith, f refl, last-kept)
+    spend-all (suc p) f g =
+        let h = g (omega arith) in
+        omega (arith, h .0, single-kept p (h .1))

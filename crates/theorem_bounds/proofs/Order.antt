@@ -1,4 +1,5 @@
--- The masters in cyclic order: the first requester upward from an owner, and what the masters strictly between two of them cost.
+-- The masters in cyclic order (rule 4.5): the first requester upward from an owner, and the sum of what the masters strictly
+-- between two of them cost. A requester m is found, or another before it, and then what lies between that one and m is less.
 -- Assumes nothing.
 use mathlib.Core.Path.{_≡_, refl, sym, ap, _∙_}
 use mathlib.Core.Bool.{Bool, true, false, cond, false≢true}
@@ -23,11 +24,11 @@ between cost n o m = cond (ltb o m) (sum cost m - sum cost (suc o)) ((sum cost n
 
 -- ---- sums
 
-pub sum-zero : (cost : ℕ → ℕ) → sum cost 0 ≡ 0
+sum-zero : (cost : ℕ → ℕ) → sum cost 0 ≡ 0
 unfolding sum
 sum-zero cost = refl
 
-pub sum-suc : (cost : ℕ → ℕ) (n : ℕ) → sum cost (suc n) ≡ sum cost n + cost n
+sum-suc : (cost : ℕ → ℕ) (n : ℕ) → sum cost (suc n) ≡ sum cost n + cost n
 unfolding sum
 sum-suc cost n = refl
 
@@ -35,7 +36,7 @@ sum-more : (cost : ℕ → ℕ) (d a : ℕ) → sum cost a ≤ sum cost (a + d)
 sum-more cost zero a = rw add-zero (omega arith)
 sum-more cost (suc d) a = rw (add-suc, sum-suc) (omega (arith, sum-more cost d a))
 
-pub sum-monotone : (cost : ℕ → ℕ) (a b : ℕ) → a ≤ b → sum cost a ≤ sum cost b
+sum-monotone : (cost : ℕ → ℕ) (a b : ℕ) → a ≤ b → sum cost a ≤ sum cost b
 sum-monotone cost a b h =
     let e : a + (b - a) ≡ b = omega arith in
     rw e at (sum-more cost (b - a) a)
@@ -58,9 +59,9 @@ sum-except cost m (suc n) h = go (ℕ-discrete n m) (sum-except cost m n)
 
 -- ---- the next master
 
-pub above-cases : (n o : ℕ) → ((suc o < n) × (nextMaster n o ≡ suc o)) ⊎ ((n ≤ suc o) × (nextMaster n o ≡ 0))
+next-cases : (n o : ℕ) → ((suc o < n) × (nextMaster n o ≡ suc o)) ⊎ ((n ≤ suc o) × (nextMaster n o ≡ 0))
 unfolding nextMaster
-above-cases n o = go (ltb (o + 1) n) refl
+next-cases n o = go (ltb (o + 1) n) refl
   where
     go : (b : Bool) → ltb (o + 1) n ≡ b → ((suc o < n) × (cond b (o + 1) 0 ≡ suc o)) ⊎ ((n ≤ suc o) × (cond b (o + 1) 0 ≡ 0))
     go true e = inl (omega (arith, ltb-true (o + 1) n e), add-one o)
@@ -68,10 +69,13 @@ above-cases n o = go (ltb (o + 1) n) refl
 
 -- ---- what lies between
 
--- `between` without a difference
-between-cases : (cost : ℕ → ℕ) (n o m : ℕ) → o < n
-    → ((o < m) × (between cost n o m + sum cost (suc o) ≡ sum cost m))
+-- `between` without a difference: m is above o, or the way up from o goes past the highest master
+abbrev Sums : (ℕ → ℕ) → ℕ → ℕ → ℕ → Type 0
+Sums cost n o m =
+    ((o < m) × (between cost n o m + sum cost (suc o) ≡ sum cost m))
     ⊎ ((m ≤ o) × (between cost n o m + sum cost (suc o) ≡ sum cost n + sum cost m))
+
+between-cases : (cost : ℕ → ℕ) (n o m : ℕ) → o < n → Sums cost n o m
 unfolding between
 between-cases cost n o m h = go (ltb o m) refl
   where
@@ -86,14 +90,10 @@ module _ (cost : ℕ → ℕ) (n o m : ℕ) (ho : o < n) (hm : m < n) where
   between-next : nextMaster n o ≡ m → between cost n o m ≡ 0
   between-next e =
       ⊎-elim
-      (λ a. ⊎-elim (λ b. omega (arith, ap (sum cost) (sym (a .1) ∙ e))) (λ b. omega arith) cases)
-      (λ a. ⊎-elim (λ b. omega arith) (λ b. round (omega arith) (omega arith) b) cases)
-      (above-cases n o)
+      (λ a. ⊎-elim (λ b. omega (arith, ap (sum cost) (sym (a .1) ∙ e))) (λ b. omega arith) (between-cases cost n o m ho))
+      (λ a. ⊎-elim (λ b. omega arith) (λ b. round (omega arith) (omega arith) b) (between-cases cost n o m ho))
+      (next-cases n o)
     where
-      cases : ((o < m) × (between cost n o m + sum cost (suc o) ≡ sum cost m))
-          ⊎ ((m ≤ o) × (between cost n o m + sum cost (suc o) ≡ sum cost n + sum cost m))
-      cases = between-cases cost n o m ho
-
       round : suc o ≡ n → m ≡ 0 → (m ≤ o) × (between cost n o m + sum cost (suc o) ≡ sum cost n + sum cost m)
           → between cost n o m ≡ 0
       round p q b = omega (arith, ap (sum cost) p, ap (sum cost) q, sum-zero cost)
@@ -101,13 +101,9 @@ module _ (cost : ℕ → ℕ) (n o m : ℕ) (ho : o < n) (hm : m < n) where
   step-up : suc o < n → suc o ≢ m → between cost n o m ≡ cost (suc o) + between cost n (suc o) m
   step-up h e =
       ⊎-elim
-      (λ a. ⊎-elim (λ b. omega (arith, sum-suc cost (suc o))) (λ b. omega arith) next)
-      (λ a. ⊎-elim (λ b. omega arith) (λ b. omega (arith, sum-suc cost (suc o))) next)
+      (λ a. ⊎-elim (λ b. omega (arith, sum-suc cost (suc o))) (λ b. omega arith) (between-cases cost n (suc o) m h))
+      (λ a. ⊎-elim (λ b. omega arith) (λ b. omega (arith, sum-suc cost (suc o))) (between-cases cost n (suc o) m h))
       (between-cases cost n o m ho)
-    where
-      next : ((suc o < m) × (between cost n (suc o) m + sum cost (suc (suc o)) ≡ sum cost m))
-          ⊎ ((m ≤ suc o) × (between cost n (suc o) m + sum cost (suc (suc o)) ≡ sum cost n + sum cost m))
-      next = between-cases cost n (suc o) m h
 
   step-round : suc o ≡ n → 0 ≢ m → between cost n o m ≡ cost 0 + between cost n 0 m
   step-round h e =
@@ -124,7 +120,7 @@ module _ (cost : ℕ → ℕ) (n o m : ℕ) (ho : o < n) (hm : m < n) where
       ⊎-elim
       (λ a. rw (a .1) (step-up (a .0) (λ q. e (a .1 ∙ q))))
       (λ a. rw (a .1) (step-round (omega arith) (λ q. e (a .1 ∙ q))))
-      (above-cases n o)
+      (next-cases n o)
 
 -- between a master and itself lie all the others
 pub between-all : (cost : ℕ → ℕ) (n m : ℕ) → m < n → between cost n m m + cost m ≡ sum cost n
@@ -147,7 +143,7 @@ tried-next requests n k o e =
     let z : suc k - 1 ≡ k = omega arith in
     rw z at (tried-on requests n (nextMaster n o) (suc k) (λ i. omega arith) e)
 
--- going up from o, m is met among the next k
+-- m is one of the k masters upward from o
 abbrev Within : ℕ → ℕ → ℕ → ℕ → Type 0
 Within n k o m = ((o < m) × (m ≤ o + k)) ⊎ ((m ≤ o) × (m + n ≤ o + k))
 
@@ -167,7 +163,7 @@ within-step n k o m ho hm e w =
     (λ a. rw (a .1) (⊎-elim (λ b. low (λ q. e (a .1 ∙ q)) b) (λ b. inr (omega arith, omega arith)) w))
     (λ a.
     rw (a .1) (⊎-elim (λ b. inr (omega arith, omega arith)) (λ b. round (λ q. e (a .1 ∙ q)) (omega arith) b) w))
-    (above-cases n o)
+    (next-cases n o)
   where
     low : suc o ≢ m → (o < m) × (m ≤ o + suc k) → Within n k (suc o) m
     low d b = inl (omega arith, omega arith)
@@ -175,7 +171,8 @@ within-step n k o m ho hm e w =
     round : 0 ≢ m → suc o ≡ n → (m ≤ o) × (m + n ≤ o + suc k) → Within n k 0 m
     round d p b = inl (omega arith, omega arith)
 
--- The first requester on the way up from o to m, of which m is one itself. `skipped` is what the masters passed over cost.
+-- The first requester upward from o, where m requests: m itself, or another before it. `skipped` is what the masters passed over
+-- cost.
 pub record Found (requests : ℕ → Bool) (cost : ℕ → ℕ) (n o m : ℕ) (x : Choice) : Type 0 where
   pub master : ℕ
   pub is : x ≡ Requester master
@@ -183,13 +180,13 @@ pub record Found (requests : ℕ → Bool) (cost : ℕ → ℕ) (n o m : ℕ) (x
   pub low : master < n
   pub skipped : ℕ
   pub none : ((j : ℕ) → j < n → requests j ≡ false → cost j ≡ 0) → skipped ≡ 0
-  pub place : ((master ≡ m) × (between cost n o m ≡ skipped))
+  pub before : ((master ≡ m) × (between cost n o m ≡ skipped))
       ⊎ ((master ≢ m) × (skipped + cost master + between cost n master m ≡ between cost n o m))
 
 module _ (requests : ℕ → Bool) (cost : ℕ → ℕ) (n m : ℕ) (hm : m < n) (asked : requests m ≡ true) where
-  here : (k o : ℕ) → o < n → requests (nextMaster n o) ≡ true → Dec (nextMaster n o ≡ m)
+  here : (k o : ℕ) → o < n → requests (nextMaster n o) ≡ true
       → Found requests cost n o m (tried requests n (nextMaster n o) (suc k))
-  here k o ho e (yes q) =
+  here k o ho e =
       record {
         master = nextMaster n o;
         is = tried-found requests n (nextMaster n o) (suc k) (λ z. omega arith) e;
@@ -197,18 +194,14 @@ module _ (requests : ℕ → Bool) (cost : ℕ → ℕ) (n m : ℕ) (hm : m < n)
         low = above-lt n o (omega arith);
         skipped = 0;
         none = λ f. refl;
-        place = inl (q, between-next cost n o m ho hm q);
+        before = go (ℕ-discrete (nextMaster n o) m);
       }
-  here k o ho e (no q) =
-      record {
-        master = nextMaster n o;
-        is = tried-found requests n (nextMaster n o) (suc k) (λ z. omega arith) e;
-        asks = e;
-        low = above-lt n o (omega arith);
-        skipped = 0;
-        none = λ f. refl;
-        place = inr (q, omega (arith, between-step cost n o m ho hm q));
-      }
+    where
+      go : Dec (nextMaster n o ≡ m)
+          → ((nextMaster n o ≡ m) × (between cost n o m ≡ 0))
+          ⊎ ((nextMaster n o ≢ m) × (0 + cost (nextMaster n o) + between cost n (nextMaster n o) m ≡ between cost n o m))
+      go (yes q) = inl (q, between-next cost n o m ho hm q)
+      go (no q) = inr (q, omega (arith, between-step cost n o m ho hm q))
 
   later : (k o : ℕ) → o < n → requests (nextMaster n o) ≡ false → nextMaster n o ≢ m
       → Found requests cost n (nextMaster n o) m (tried requests n (nextMaster n (nextMaster n o)) k)
@@ -221,33 +214,36 @@ module _ (requests : ℕ → Bool) (cost : ℕ → ℕ) (n m : ℕ) (hm : m < n)
         low = c .low;
         skipped = cost (nextMaster n o) + c .skipped;
         none = λ f. omega (arith, c .none f, f (nextMaster n o) (above-lt n o (omega arith)) e);
-        place =
+        before =
             ⊎-elim
             (λ a. inl (a .0, omega (arith, between-step cost n o m ho hm q)))
             (λ a. inr (a .0, omega (arith, between-step cost n o m ho hm q)))
-            (c .place);
+            (c .before);
       }
 
   found : (k o : ℕ) → o < n → Within n k o m → Found requests cost n o m (tried requests n (nextMaster n o) k)
   found zero o ho w = absurd (within-zero n o m ho w)
   found (suc k) o ho w =
-      go (requests (nextMaster n o)) refl (λ q. found k (nextMaster n o) (above-lt n o (omega arith)) (within-step n k o m ho hm q w))
+      go (requests (nextMaster n o)) refl
+      (λ q. found k (nextMaster n o) (above-lt n o (omega arith)) (within-step n k o m ho hm q w))
     where
       go : (b : Bool) → requests (nextMaster n o) ≡ b
           → (nextMaster n o ≢ m → Found requests cost n (nextMaster n o) m (tried requests n (nextMaster n (nextMaster n o)) k))
           → Found requests cost n o m (tried requests n (nextMaster n o) (suc k))
-      go true e f = here k o ho e (ℕ-discrete (nextMaster n o) m)
-      go false e f = let q : nextMaster n o ≢ m = λ q. false≢true (sym e ∙ ap requests q ∙ asked) in later k o ho e q (f q)
+      go true e f = here k o ho e
+      go false e f =
+          let q : nextMaster n o ≢ m = λ q. false≢true (sym e ∙ ap requests q ∙ asked) in
+          later k o ho e q (f q)
 
   -- a requester m is found, or another before it
-  pub chosen-found : (o : ℕ) → o < n → Found requests cost n o m (firstRequester requests n o)
+  pub requester-found : (o : ℕ) → o < n → Found requests cost n o m (firstRequester requests n o)
   unfolding firstRequester
-  chosen-found o ho = found n o ho (within-all n o m hm)
+  requester-found o ho = found n o ho (within-all n o m hm)
 
--- with no requester nobody is firstRequester
-pub chosen-nobody : (requests : ℕ → Bool) (n o : ℕ) → ((j : ℕ) → requests j ≡ false) → firstRequester requests n o ≡ Nobody
+-- with no requester there is no first one
+pub requester-nobody : (requests : ℕ → Bool) (n o : ℕ) → ((j : ℕ) → requests j ≡ false) → firstRequester requests n o ≡ Nobody
 unfolding firstRequester
-chosen-nobody requests n o h = go n o
+requester-nobody requests n o h = go n o
   where
     go : (k p : ℕ) → tried requests n (nextMaster n p) k ≡ Nobody
     go zero p = tried-none requests n (nextMaster n p) 0 refl

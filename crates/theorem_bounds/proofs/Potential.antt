@@ -1,4 +1,5 @@
--- One slave at a grant: what a waiting master may still have to wait for falls by the length of what is granted to others.
+-- One slave at a grant (rules 4.3 to 4.6): what a waiting master may still have to wait for falls at least by the length of what
+-- is granted to another, and by exactly that length where everybody connected requests and uses up its grants.
 -- Assumes nothing.
 use mathlib.Core.Path.{_≡_, refl, sym, ap, _∙_}
 use mathlib.Core.Bool.{Bool, true, false, cond, _&&_, false≢true}
@@ -15,64 +16,74 @@ use Rattle.fabric_arbiter.specs.declared.Grant.{Grant}
 use Rattle.fabric_arbiter.specs.declared.Grant.the-variants.{Granted, Silent}
 use Rattle.fabric_arbiter.specs.Choosing.{firstRequester}
 use Rattle.fabric_arbiter.specs.Granting.{kept, grantTo, granted}
-use Rattle.theorem_bounds.proofs.Order.{between, between-all, between-owner, sum-except, Found, chosen-found}
+use Rattle.theorem_bounds.proofs.Order.{between, between-all, between-owner, sum-except, Found, requester-found}
 use Rattle.theorem_bounds.proofs.Credit.{credit, credit-zero, credit-le, spend}
 
--- the master granted with what remains to it: the last owner again, or the first requester upward from it
-pub record Next (requests : ℕ → Bool) (shares : ℕ → ℕ) (o r : ℕ) (x : Choice) (j p : ℕ) : Type 0 where
-  pub how : ((j ≡ o) × (requests o ≡ true) × (r ≡ suc p))
-      ⊎ ((x ≡ Requester j) × (p ≡ shares j - 1) × ((r ≡ 0) ⊎ (requests o ≡ false)))
+-- ---- how a grant comes about
+
+-- the last owner o is granted again, and of its r grants one fewer is left
+pub record OwnerAgain (requests : ℕ → Bool) (o r j left : ℕ) : Type 0 where
+  pub same : j ≡ o
+  pub asks : requests o ≡ true
+  pub had : r ≡ suc left
+
+-- the first requester upward from o is granted, and its shares less 1 are left: o has no grants, or does not request
+pub record FirstFound (n : ℕ) (requests : ℕ → Bool) (shares : ℕ → ℕ) (o r j left : ℕ) : Type 0 where
+  pub first : firstRequester requests n o ≡ Requester j
+  pub fresh : left ≡ shares j - 1
+  pub lost : (r ≡ 0) ⊎ (requests o ≡ false)
+
+-- Master j is granted, and k grants remain to it: none behind a burst, all that are left behind a single.
+pub record Next (n : ℕ) (requests : ℕ → Bool) (shares beats : ℕ → ℕ) (o r j k : ℕ) : Type 0 where
+  pub left : ℕ
+  pub remains : k ≡ kept (beats j) left
+  pub how : OwnerAgain requests o r j left ⊎ FirstFound n requests shares o r j left
 
 granted-apart : (j p : ℕ) → Granted j p ≢ Silent
 granted-apart j p e = let z : _≡_ {A = ℕ} 0 1 = cc in omega arith
 
-pub granted-master : (i j p q : ℕ) → Granted i p ≡ Granted j q → i ≡ j
-granted-master i j p q e = cc
-
-pub granted-left : (i j p q : ℕ) → Granted i p ≡ Granted j q → p ≡ q
-granted-left i j p q e = cc
-
-pub requester-is : (i j : ℕ) → Requester i ≡ Requester j → i ≡ j
-requester-is i j e = cc
-
--- how a grant came about: `kept` of p is what remains
 pub grant-next : (n : ℕ) (requests : ℕ → Bool) (shares beats : ℕ → ℕ) (o r j k : ℕ)
     → granted n requests shares beats (record { owner = o; remaining = r }) ≡ Granted j k
-    → (p : ℕ) × (k ≡ kept (beats j) p) × Next requests shares o r (firstRequester requests n o) j p
+    → Next n requests shares beats o r j k
 unfolding granted grantTo
 grant-next n requests shares beats o r j k e = go (requests o) (ltb 0 r) refl refl e
   where
-    fresh : (x : Choice) → firstRequester requests n o ≡ x → (r ≡ 0) ⊎ (requests o ≡ false) → grantTo shares beats x ≡ Granted j k
-        → (p : ℕ) × (k ≡ kept (beats j) p) × Next requests shares o r (firstRequester requests n o) j p
+    -- what a granted master i is, and keeps
+    same : (i p : ℕ) → Granted i (kept (beats i) p) ≡ Granted j k → (i ≡ j) × (k ≡ kept (beats j) p)
+    same i p f = let q : i ≡ j = cc in let z : kept (beats i) p ≡ k = cc in (q, rw (← q) (sym z))
+
+    fresh : (x : Choice) → firstRequester requests n o ≡ x → (r ≡ 0) ⊎ (requests o ≡ false)
+        → grantTo shares beats x ≡ Granted j k → Next n requests shares beats o r j k
     fresh (Requester i) c h f =
-        let q = granted-master i j _ k f in (
-          shares j - 1,
-          sym (granted-left i j _ k f) ∙ ap (λ (z : ℕ). kept (beats z) (shares z - 1)) q,
-          record { how = inr (c ∙ ap Requester q, refl, h) },
-        )
+        let q = same i (shares i - 1) f in
+        let found : FirstFound n requests shares o r j (shares i - 1) =
+        record { first = c ∙ ap Requester (q .0); fresh = rw (q .0); lost = h } in
+        record { left = shares i - 1; remains = q .1; how = inr found }
     fresh Nobody c h f = absurd (granted-apart j k (sym f))
 
     go : (b c : Bool) → requests o ≡ b → ltb 0 r ≡ c
         → cond (b && c) (Granted o (kept (beats o) (r - 1))) (grantTo shares beats (firstRequester requests n o)) ≡ Granted j k
-        → (p : ℕ) × (k ≡ kept (beats j) p) × Next requests shares o r (firstRequester requests n o) j p
+        → Next n requests shares beats o r j k
     go true true q c f =
-        let i = granted-master o j _ k f in (
-          r - 1,
-          sym (granted-left o j _ k f) ∙ ap (λ (z : ℕ). kept (beats z) (r - 1)) i,
-          record { how = inl (sym i, q, omega (arith, ltb-true 0 r c)) },
-        )
+        let p = same o (r - 1) f in
+        let again : OwnerAgain requests o r j (r - 1) =
+        record { same = sym (p .0); asks = q; had = omega (arith, ltb-true 0 r c) } in
+        record { left = r - 1; remains = p .1; how = inl again }
     go true false q c f = fresh (firstRequester requests n o) refl (inl (omega (arith, ltb-false 0 r c))) f
     go false c q d f = fresh (firstRequester requests n o) refl (inr q) f
 
+-- ---- what a master may have to wait for
+
 -- the slave's masters: shares, and the clocks of a single and of the longest transfer
 module _ (n : ℕ) (shares single serve : ℕ → ℕ) where
+  -- the clocks that r grants of master j last, and its turn (rule 5.6)
   abbrev pub afford : ℕ → ℕ → ℕ
   afford j r = credit (single j) (serve j) r
 
   abbrev pub turn : ℕ → ℕ
   turn j = afford j (shares j)
 
-  -- "the sum of the turns of all other masters"
+  -- the turns of all other masters (rule 5.7)
   abbrev pub quoted : ℕ → ℕ
   quoted m = sum (λ j. cond (eqb j m) 0 (turn j)) n
 
@@ -83,7 +94,7 @@ module _ (n : ℕ) (shares single serve : ℕ → ℕ) where
   abbrev pub pot : ℕ → ℕ → ℕ → ℕ → ℕ
   pot m o r left = left + afford o r + between turn n o m
 
-  -- within the owner's turn, and m not the owner with grants: no more than is quoted
+  -- where what o has is within its turn, and m is not the owner with grants: no more than is quoted
   pub pot-quoted : (m o r left : ℕ) → m < n → o < n → left + afford o r ≤ turn o → (o ≡ m → (r ≡ 0) × (left ≡ 0))
       → pot m o r left ≤ quoted m
   pot-quoted m o r left hm ho h a = go (ℕ-discrete o m)
@@ -99,6 +110,8 @@ module _ (n : ℕ) (shares single serve : ℕ → ℕ) where
           )
       go (no q) = omega (arith, quoted-between m hm, between-owner turn n o m ho hm q)
 
+  -- ---- a grant
+
   -- what is asked of the slave, and how long each request lasts
   module _ (requests : ℕ → Bool) (beats long : ℕ → ℕ)
       (asks : (j : ℕ) → j < n → requests j ≡ true → (1 ≤ shares j) × (long j ≤ serve j) × (beats j ≤ 1 → long j ≤ single j)) where
@@ -111,150 +124,124 @@ module _ (n : ℕ) (shares single serve : ℕ → ℕ) where
     some-grant m o r hm ho q e = go (requests o && ltb 0 r) e
       where
         f : Found requests turn n o m (firstRequester requests n o)
-        f = chosen-found requests turn n m hm q o ho
+        f = requester-found requests turn n m hm q o ho
 
         fresh : (x : Choice) → x ≡ Requester (f .master) → grantTo shares beats x ≢ Silent
         fresh x i d = granted-apart _ _ (ap (grantTo shares beats) (sym i) ∙ d)
 
-        go : (b : Bool) → cond b (Granted o (kept (beats o) (r - 1))) (grantTo shares beats (firstRequester requests n o)) ≢ Silent
+        go : (b : Bool)
+            → cond b (Granted o (kept (beats o) (r - 1))) (grantTo shares beats (firstRequester requests n o)) ≢ Silent
         go true d = granted-apart _ _ d
         go false d = fresh (firstRequester requests n o) (f .is) d
 
-    -- a grant's master requests, and its transfer with what remains is within its turn
+    -- where m requests, and j is granted
     module _ (m o r : ℕ) (hm : m < n) (ho : o < n) (waiting : requests m ≡ true) (j k : ℕ) (g : given o r ≡ Granted j k) where
       f : Found requests turn n o m (firstRequester requests n o)
-      f = chosen-found requests turn n m hm waiting o ho
+      f = requester-found requests turn n m hm waiting o ho
 
-      pub next : (p : ℕ) × (k ≡ kept (beats j) p) × Next requests shares o r (firstRequester requests n o) j p
+      next : Next n requests shares beats o r j k
       next = grant-next n requests shares beats o r j k g
 
       fresh-master : firstRequester requests n o ≡ Requester j → f .master ≡ j
-      fresh-master e = requester-is (f .master) j (sym (f .is) ∙ e)
+      fresh-master e = let z : Requester (f .master) ≡ Requester j = sym (f .is) ∙ e in cc
 
-      pub grant-asks : (j < n) × (requests j ≡ true)
+      -- the granted master requests, and its transfer with what remains is within its grants
+      grant-asks : (j < n) × (requests j ≡ true)
       grant-asks =
           ⊎-elim
-          (λ h. (rw (h .0) ho, ap requests (h .0) ∙ h .1))
-          (λ h. let e = fresh-master (h .0) in (rw (← e) (f .low), ap requests (sym e) ∙ f .asks))
-          (next .2 .how)
+          (λ h. (rw (h .same) ho, ap requests (h .same) ∙ h .asks))
+          (λ h. let e = fresh-master (h .first) in (rw (← e) (f .low), ap requests (sym e) ∙ f .asks))
+          (next .how)
 
-      pub grant-spend : long j + afford j k ≤ afford j (suc (next .0))
+      grant-spend : long j + afford j k ≤ afford j (suc (next .left))
       grant-spend =
           let a = asks j (grant-asks .0) (grant-asks .1) in
-          omega (arith, ap (afford j) (next .1), spend (single j) (serve j) (long j) (beats j) (a .1) (a .2) (next .0))
+          omega (arith, ap (afford j) (next .remains), spend (single j) (serve j) (beats j) (long j) (a .1) (a .2) (next .left))
 
-      -- within its turn, where the last owner's remaining grants were below its shares
+      -- and within its turn, where the last owner's remaining grants were below its shares
       pub grant-turn : (r ≡ 0) ⊎ (r < shares o) → long j + afford j k ≤ turn j
       grant-turn l =
-          let a = asks j (grant-asks .0) (grant-asks .1) in
-          ⊎-elim
-          (λ h.
-          let b : suc (next .0) ≤ shares j = ⊎-elim (λ z. absurd (omega (arith, h .2))) (λ z. omega (arith, h .2, ap shares (h .0))) l in
-          omega (arith, grant-spend, credit-le (single j) (serve j) (suc (next .0)) (shares j) b))
-          (λ h.
-          let b : suc (next .0) ≡ shares j = omega (arith, h .1) in
-          omega (arith, grant-spend, ap (afford j) b))
-          (next .2 .how)
-
-      -- the transfer granted to another falls within what m may have to wait for
-      pub grant-falls : j ≢ m → (o ≡ m → r ≡ 0) → long j + afford j k + between turn n j m ≤ afford o r + between turn n o m
-      grant-falls d a =
-          ⊎-elim
-          (λ h.
-          omega (
-            arith,
-            grant-spend,
-            ap (λ (z : ℕ). between turn n z m) (h .0),
-            ap (λ (z : ℕ). afford z (suc (next .0))) (h .0),
-            ap (afford o) (h .2),
-          ))
-          (λ h. fresh h (f .place))
-          (next .2 .how)
+          let few = ⊎-elim again fresh (next .how) in
+          omega (arith, grant-spend, credit-le (single j) (serve j) (suc (next .left)) (shares j) few)
         where
-          fresh : (firstRequester requests n o ≡ Requester j) × (next .0 ≡ shares j - 1) × ((r ≡ 0) ⊎ (requests o ≡ false))
-              → ((f .master ≡ m) × (between turn n o m ≡ f .skipped))
-              ⊎ ((f .master ≢ m) × (f .skipped + turn (f .master) + between turn n (f .master) m ≡ between turn n o m))
-              → long j + afford j k + between turn n j m ≤ afford o r + between turn n o m
-          fresh h (inl c) = absurd (d (sym (fresh-master (h .0)) ∙ c .0))
-          fresh h (inr c) =
-              let e = fresh-master (h .0) in
+          again : OwnerAgain requests o r j (next .left) → suc (next .left) ≤ shares j
+          again h = ⊎-elim (λ z. absurd (omega (arith, h .had))) (λ z. omega (arith, h .had, ap shares (h .same))) l
+
+          fresh : FirstFound n requests shares o r j (next .left) → suc (next .left) ≤ shares j
+          fresh h = omega (arith, h .fresh, asks j (grant-asks .0) (grant-asks .1) .0)
+
+      -- What m may have to wait for, before the grant and after it. `unused` are the clocks that nobody uses: the turns of masters
+      -- passed over, and the grants that a last owner loses. Where m is granted, nothing else was to wait for; where another is
+      -- granted, that one's grants were.
+      record Change : Type 0 where
+        unused : ℕ
+        goes : ((j ≡ m) × (afford o r + between turn n o m ≡ unused))
+            ⊎ ((j ≢ m) × (afford j (suc (next .left)) + between turn n j m + unused ≡ afford o r + between turn n o m))
+        none : f .skipped ≡ 0 → ((r ≡ 0) ⊎ (requests o ≡ false) → r ≡ 0) → unused ≡ 0
+
+      change : (o ≡ m → r ≡ 0) → Change
+      change a = ⊎-elim again fresh (next .how)
+        where
+          again : OwnerAgain requests o r j (next .left) → Change
+          again h = record {
+            unused = 0;
+            goes =
+                inr (
+                  (λ q. omega (arith, h .had, a (sym (h .same) ∙ q))),
+                  omega (
+                    arith,
+                    ap (λ (z : ℕ). between turn n z m) (h .same),
+                    ap (λ (z : ℕ). afford z (suc (next .left))) (h .same),
+                    ap (afford o) (h .had),
+                  ),
+                );
+            none = λ s l. refl;
+          }
+
+          fresh : FirstFound n requests shares o r j (next .left) → Change
+          fresh h =
+              let e = fresh-master (h .first) in
               let s = asks j (grant-asks .0) (grant-asks .1) .0 in
-              let b : suc (next .0) ≡ shares j = omega (arith, h .1) in
-              omega
-              (arith, grant-spend, c .1, ap turn e, ap (λ (z : ℕ). between turn n z m) e, ap (afford j) b)
+              let whole : suc (next .left) ≡ shares j = omega (arith, h .fresh) in
+              record {
+                unused = f .skipped + afford o r;
+                goes =
+                    ⊎-elim
+                    (λ c. inl (sym e ∙ c .0, omega (arith, c .1)))
+                    (λ c.
+                    inr (
+                      (λ q. c .0 (e ∙ q)),
+                      omega (arith, c .1, ap turn e, ap (λ (z : ℕ). between turn n z m) e, ap (afford j) whole),
+                    ))
+                    (f .before);
+                none = λ s l. omega (arith, s, credit-zero (single o) (serve o) r (l (h .lost)));
+              }
 
-      -- where everybody connected requests, and a request uses up its master's credit, nothing is lost
-      module _ (full : (i : ℕ) → i < n → 1 ≤ shares i → requests i ≡ true)
-          (uses : (p : ℕ) → Next requests shares o r (firstRequester requests n o) j p → long j + afford j (kept (beats j) p) ≡ afford j (suc p)) where
-        grant-exact : long j + afford j k ≡ afford j (suc (next .0))
-        grant-exact = omega (arith, ap (afford j) (next .1), uses (next .0) (next .2))
+      -- a transfer granted to another is within what m may have to wait for
+      pub grant-falls : j ≢ m → (o ≡ m → r ≡ 0)
+          → long j + afford j k + between turn n j m ≤ afford o r + between turn n o m
+      grant-falls d a =
+          ⊎-elim (λ c. absurd (d (c .0))) (λ c. omega (arith, grant-spend, c .1)) (change a .goes)
 
-        no-skip : f .skipped ≡ 0
-        no-skip = f .none (λ i h q. quiet i h q (shares i) refl)
-          where
-            quiet : (i : ℕ) → i < n → requests i ≡ false → (a : ℕ) → shares i ≡ a → turn i ≡ 0
-            quiet i h q zero e = credit-zero (single i) (serve i) (shares i) e
-            quiet i h q (suc a) e = absurd (false≢true (sym q ∙ full i h (omega arith)))
+      -- where everybody connected requests, and a request uses up its master's grants, no clock goes unused: m is granted only with
+      -- nothing left to wait for
+      pub grant-exactly : ((i : ℕ) → i < n → 1 ≤ shares i → requests i ≡ true)
+          → ((x : Next n requests shares beats o r j k) → long j + afford j k ≡ afford j (suc (x .left)))
+          → (o ≡ m → r ≡ 0) → (r ≡ 0) ⊎ (r < shares o)
+          → ((j ≡ m) × (afford o r + between turn n o m ≡ 0))
+          ⊎ ((j ≢ m) × (long j + afford j k + between turn n j m ≡ afford o r + between turn n o m))
+      grant-exactly full uses a l =
+          let z = change a .none no-skip (no-grants l) in
+          ⊎-elim (λ c. inl (c .0, c .1 ∙ z)) (λ c. inr (c .0, omega (arith, c .1, z, uses next))) (change a .goes)
+        where
+          no-skip : f .skipped ≡ 0
+          no-skip = f .none (λ i h q. quiet i h q (shares i) refl)
+            where
+              quiet : (i : ℕ) → i < n → requests i ≡ false → (c : ℕ) → shares i ≡ c → turn i ≡ 0
+              quiet i h q zero e = credit-zero (single i) (serve i) (shares i) e
+              quiet i h q (suc c) e = absurd (false≢true (sym q ∙ full i h (omega arith)))
 
-        no-grants : (r ≡ 0) ⊎ (r < shares o) → (r ≡ 0) ⊎ (requests o ≡ false) → r ≡ 0
-        no-grants l (inl h) = h
-        no-grants (inl l) (inr h) = l
-        no-grants (inr l) (inr h) = absurd (false≢true (sym h ∙ full o ho (omega arith)))
-
-        grant-equal : j ≢ m → (r ≡ 0) ⊎ (r < shares o)
-            → long j + afford j k + between turn n j m ≡ afford o r + between turn n o m
-        grant-equal d l =
-            ⊎-elim
-            (λ h.
-            omega (
-              arith,
-              grant-exact,
-              ap (λ (z : ℕ). between turn n z m) (h .0),
-              ap (λ (z : ℕ). afford z (suc (next .0))) (h .0),
-              ap (afford o) (h .2),
-            ))
-            (λ h. fresh h (f .place))
-            (next .2 .how)
-          where
-            fresh : (firstRequester requests n o ≡ Requester j) × (next .0 ≡ shares j - 1) × ((r ≡ 0) ⊎ (requests o ≡ false))
-                → ((f .master ≡ m) × (between turn n o m ≡ f .skipped))
-                ⊎ ((f .master ≢ m) × (f .skipped + turn (f .master) + between turn n (f .master) m ≡ between turn n o m))
-                → long j + afford j k + between turn n j m ≡ afford o r + between turn n o m
-            fresh h (inl c) = absurd (d (sym (fresh-master (h .0)) ∙ c .0))
-            fresh h (inr c) =
-                let e = fresh-master (h .0) in
-                let s = asks j (grant-asks .0) (grant-asks .1) .0 in
-                let b : suc (next .0) ≡ shares j = omega (arith, h .1) in
-                omega (
-                  arith,
-                  grant-exact,
-                  no-skip,
-                  c .1,
-                  ap turn e,
-                  ap (λ (z : ℕ). between turn n z m) e,
-                  ap (afford j) b,
-                  credit-zero (single o) (serve o) r (no-grants l (h .2)),
-                )
-
-        -- and m is granted only with nothing left to wait for
-        pub grant-exactly : (o ≡ m → r ≡ 0) → (r ≡ 0) ⊎ (r < shares o)
-            → ((j ≡ m) × (afford o r + between turn n o m ≡ 0))
-            ⊎ ((j ≢ m) × (long j + afford j k + between turn n j m ≡ afford o r + between turn n o m))
-        grant-exactly a l = go (ℕ-discrete j m)
-          where
-            fresh : j ≡ m → (firstRequester requests n o ≡ Requester j) × (next .0 ≡ shares j - 1) × ((r ≡ 0) ⊎ (requests o ≡ false))
-                → ((f .master ≡ m) × (between turn n o m ≡ f .skipped))
-                ⊎ ((f .master ≢ m) × (f .skipped + turn (f .master) + between turn n (f .master) m ≡ between turn n o m))
-                → afford o r + between turn n o m ≡ 0
-            fresh e h (inl c) = omega (arith, no-skip, c .1, credit-zero (single o) (serve o) r (no-grants l (h .2)))
-            fresh e h (inr c) = absurd (c .0 (fresh-master (h .0) ∙ e))
-
-            go : Dec (j ≡ m)
-                → ((j ≡ m) × (afford o r + between turn n o m ≡ 0))
-                ⊎ ((j ≢ m) × (long j + afford j k + between turn n j m ≡ afford o r + between turn n o m))
-            go (yes e) =
-                inl (
-                  e,
-                  ⊎-elim (λ h. absurd (omega (arith, h .2, a (sym (h .0) ∙ e)))) (λ h. fresh e h (f .place)) (next .2 .how),
-                )
-            go (no d) = inr (d, grant-equal d l)
+          no-grants : (r ≡ 0) ⊎ (r < shares o) → (r ≡ 0) ⊎ (requests o ≡ false) → r ≡ 0
+          no-grants x (inl h) = h
+          no-grants (inl x) (inr h) = x
+          no-grants (inr x) (inr h) = absurd (false≢true (sym h ∙ full o ho (omega arith)))

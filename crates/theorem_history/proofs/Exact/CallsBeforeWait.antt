@@ -25,8 +25,8 @@ use Rattle.fabric_state.specs.Resetting.{stateAtReset}
 use Rattle.fabric.specs.Calls.{World}
 use Rattle.fabric_state.proofs.CycleLaws.{leftOf, left-resting}
 use Rattle.fabric_state.proofs.StateLaws.{slot-after, transfer-with, transfer-with-other, transfer-reset, slot-reset}
-use Rattle.fabric_state.proofs.RequestLaws.{requests-not}
-use Rattle.theorem_bounds.proofs.Order.{chosen-nobody}
+use Rattle.fabric_state.proofs.DecodeLaws.{requests-not}
+use Rattle.theorem_bounds.proofs.Order.{requester-nobody}
 use Rattle.theorem_history.specs.Claim.{Start, Lent}
 use Rattle.fabric_state.proofs.StepLaws.{grant-serving, grant-given, step-rests}
 use Rattle.theorem_history.proofs.OneClock.SlaveClock.{Acting, leftAt, potAt, leftNow}
@@ -43,7 +43,7 @@ use Rattle.theorem_history.proofs.Exact.CallsDuringWait.{request-taken}
 silent : (b : Board) (st : State) (s : ℕ) → ((j : ℕ) → requests b st s j ≡ false) → grantAt b st s ≡ Silent
 unfolding grantAt granted grantTo
 silent b st s f =
-    rw (f (slotAt st s .owner), chosen-nobody (requests b st s) (b .«master_count») (slotAt st s .owner) f)
+    rw (f (slotAt st s .owner), requester-nobody (requests b st s) (b .«master_count») (slotAt st s .owner) f)
 
 module _ (b : Board) (legal : Legal b) (s : ℕ) (hs : s < b .«slave_count») (m : ℕ) where
   -- nobody holds a transfer, and m was the last owner, with no grants

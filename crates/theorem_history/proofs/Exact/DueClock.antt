@@ -15,9 +15,8 @@ use Rattle.description_board.specs.Records.{masterAt, slaveAt, sharesAt}
 use Rattle.description_board.specs.Legal.{Legal}
 use Rattle.fabric_accesses.specs.declared.Transfer.{Transfer}
 use Rattle.fabric_accesses.specs.Accesses.{ownLength}
-use Rattle.fabric_arbiter.specs.Choosing.{firstRequester}
-use Rattle.fabric_arbiter.specs.Granting.{kept}
 use Rattle.fabric_arbiter.specs.declared.Grant.the-variants.{Granted}
+use Rattle.fabric_arbiter.specs.Granting.{kept}
 use Rattle.fabric_state.specs.declared.Slot.{Slot}
 use Rattle.fabric_state.specs.declared.State.{State}
 use Rattle.fabric_state.specs.Records.{transferAt, slotAt}
@@ -128,23 +127,25 @@ module _ (b : Board) (legal : Legal b) (s : ℕ) (hs : s < b .«slave_count») (
           (x .full j hj has)
 
       -- a grant uses up its master's credit
-      all-uses : (j p : ℕ) → j < b .«master_count» → requests b st s j ≡ true
-          → Next (requests b st s) (sharesOf b legal s hs) owner remaining
-          (firstRequester (requests b st s) (b .«master_count») owner) j p
-          → length j + lasts j (kept (transferAt st j .beats) p) ≡ lasts j (suc p)
-      all-uses j p hj q n =
+      all-uses : (j k : ℕ) → j < b .«master_count» → requests b st s j ≡ true
+          → (x : Next (b .«master_count») (requests b st s) (sharesOf b legal s hs) (beats b legal st safe s hs) owner remaining j k)
+          → length j + lasts j k ≡ lasts j (suc (x .left))
+      all-uses j k hj q n =
+          let p = n .left in
           let due : dueAt b s st j ≡ p =
           ⊎-elim
-          (λ h. spare-again (sharesAt b j s) j owner remaining p (h .0) (h .2))
+          (λ h. spare-again (sharesAt b j s) j owner remaining p (h .same) (h .had))
           (λ h.
           spare-new (sharesAt b j s) j owner remaining
-          (λ e. ⊎-elim (λ z. z) (λ z. absurd (false≢true (sym z ∙ ap (requests b st s) (sym e) ∙ q))) (h .2))
-          ∙ sym (h .1))
+          (λ e. ⊎-elim (λ z. z) (λ z. absurd (false≢true (sym z ∙ ap (requests b st s) (sym e) ∙ q))) (h .lost))
+          ∙ sym (h .fresh))
           (n .how) in
+          let used : length j + lasts j (kept (transferAt st j .beats) p) ≡ lasts j (suc p) =
           rw (all-asks j hj (asks-fit b legal st safe s hs j hj q .0) .0 ∙ ap (transferFor b s j) due)
-          (spend-all (singleOf b legal s hs j) (serveOf b legal s hs j)
-          (ownLength (masterAt b j) (slaveAt b s) (transferFor b s j p)) (transferFor b s j p .beats) p
-          (last-serve b legal s hs j p) (first-single b legal s hs j p))
+          (spend-all (singleOf b legal s hs j) (serveOf b legal s hs j) (transferFor b s j p .beats)
+          (ownLength (masterAt b j) (slaveAt b s) (transferFor b s j p)) p
+          (last-serve b legal s hs j p) (first-single b legal s hs j p)) in
+          ap (λ (z : ℕ). length j + lasts j z) (n .remains) ∙ used
 
       granted-exactly : (j k : ℕ) → grantAt b st s ≡ Granted j k
           → ((j ≡ m) × (lasts owner remaining + apart owner ≡ 0))
@@ -155,7 +156,7 @@ module _ (b : Board) (legal : Legal b) (s : ℕ) (hs : s < b .«slave_count») (
           grant-exactly (b .«master_count») (sharesOf b legal s hs) (singleOf b legal s hs) (serveOf b legal s hs)
           (requests b st s) (beats b legal st safe s hs) length (asks-fit b legal st safe s hs)
           m owner remaining hm (safe .owner s hs) (x .tracked .asks) j k g (λ i h l. all-asks i h l .1)
-          (λ p. all-uses j p (a .within) (a .asks)) (λ e. x .tracked .aside e .1) (safe .remaining s hs)
+          (all-uses j k (a .within) (a .asks)) (λ e. x .tracked .aside e .1) (safe .remaining s hs)
 
     -- ---- what is left to wait for
 

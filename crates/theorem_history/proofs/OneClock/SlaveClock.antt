@@ -263,9 +263,9 @@ module _ (b : Board) (legal : Legal b) (st : State) (sound : Sound b st) (s : �
       put-aside j k g d e =
           let n = grant-next masters (requests b st s) shares beats owner remaining j k g in
           ⊎-elim
-          (λ h. absurd (d (h .0 ∙ e)))
-          (λ h. ⊎-elim (λ z. z) (λ z. absurd (false≢true (sym z ∙ ap (requests b st s) e ∙ waiting))) (h .2))
-          (n .2 .how)
+          (λ h. absurd (d (h .same ∙ e)))
+          (λ h. ⊎-elim (λ z. z) (λ z. absurd (false≢true (sym z ∙ ap (requests b st s) e ∙ waiting))) (h .lost))
+          (n .how)
 
       -- the clock is its first cycle, or the slave serves another and less is left to wait for
       pub nearer : (K : ℕ) → (slotAt st s .serving ≡ true → owner ≢ m)
