@@ -77,10 +77,10 @@ grant-next n requests shares beats o r j k e = go (requests o) (ltb 0 r) refl re
 -- the slave's masters: shares, and the clocks of a single and of the longest transfer
 module _ (n : ℕ) (shares single serve : ℕ → ℕ) where
   -- the clocks that r grants of master j last, and its turn (rule 5.6)
-  abbrev pub afford : ℕ → ℕ → ℕ
+  abbrev afford : ℕ → ℕ → ℕ
   afford j r = credit (single j) (serve j) r
 
-  abbrev pub turn : ℕ → ℕ
+  abbrev turn : ℕ → ℕ
   turn j = afford j (shares j)
 
   -- the turns of all other masters (rule 5.7)
@@ -115,7 +115,7 @@ module _ (n : ℕ) (shares single serve : ℕ → ℕ) where
   -- what is asked of the slave, and how long each request lasts
   module _ (requests : ℕ → Bool) (beats long : ℕ → ℕ)
       (asks : (j : ℕ) → j < n → requests j ≡ true → (1 ≤ shares j) × (long j ≤ serve j) × (beats j ≤ 1 → long j ≤ single j)) where
-    abbrev pub given : ℕ → ℕ → Grant
+    abbrev given : ℕ → ℕ → Grant
     given o r = granted n requests shares beats (record { owner = o; remaining = r })
 
     -- a requester exists: somebody is granted
@@ -170,9 +170,9 @@ module _ (n : ℕ) (shares single serve : ℕ → ℕ) where
           fresh : FirstFound n requests shares o r j (next .left) → suc (next .left) ≤ shares j
           fresh h = omega (arith, h .fresh, asks j (grant-asks .0) (grant-asks .1) .0)
 
-      -- What m may have to wait for, before the grant and after it. `unused` are the clocks that nobody uses: the turns of masters
-      -- passed over, and the grants that a last owner loses. Where m is granted, nothing else was to wait for; where another is
-      -- granted, that one's grants were.
+      -- What m may have to wait for, before the grant and after it. `unused` are the clocks that nobody uses: the turns of
+      -- masters passed over, and the grants that a last owner loses. Where m is granted, nothing else was to wait for; where
+      -- another is granted, that one's grants were.
       record Change : Type 0 where
         unused : ℕ
         goes : ((j ≡ m) × (afford o r + between turn n o m ≡ unused))
@@ -223,8 +223,8 @@ module _ (n : ℕ) (shares single serve : ℕ → ℕ) where
       grant-falls d a =
           ⊎-elim (λ c. absurd (d (c .0))) (λ c. omega (arith, grant-spend, c .1)) (change a .goes)
 
-      -- where everybody connected requests, and a request uses up its master's grants, no clock goes unused: m is granted only with
-      -- nothing left to wait for
+      -- where everybody connected requests, and a request uses up its master's grants, no clock goes unused: m is granted only
+      -- with nothing left to wait for
       pub grant-exactly : ((i : ℕ) → i < n → 1 ≤ shares i → requests i ≡ true)
           → ((x : Next n requests shares beats o r j k) → long j + afford j k ≡ afford j (suc (x .left)))
           → (o ≡ m → r ≡ 0) → (r ≡ 0) ⊎ (r < shares o)

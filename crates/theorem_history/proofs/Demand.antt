@@ -1,4 +1,5 @@
--- Demand 3: every board that reset does not refuse has it whole, the board of every accepted text among them.
+-- The claim of rules 6.1 to 6.11 holds whole of every board that a reset does not refuse, the board of every accepted text among
+-- them.
 -- Assumes nothing.
 use mathlib.Core.Path.{_≡_, refl, sym, _∙_}
 use mathlib.Core.List.{List}
@@ -11,9 +12,11 @@ use Rattle.description.specs.Reader.{readText}
 use Rattle.description.proofs.Trip.{read-accepted}
 use Rattle.fabric.specs.Calls.{reset}
 use Rattle.theorem_history.specs.Claim.{Order, Demand3}
-use Rattle.theorem_history.proofs.Safe.WithinWait.{within, finished, served}
+use Rattle.theorem_history.proofs.Histories.Unrefused.{unrefused}
+use Rattle.theorem_history.proofs.Safe.WithinWait.{within, finished}
 use Rattle.theorem_history.proofs.Exact.ExactHistory.{exact-history}
-use Rattle.theorem_history.proofs.Quoted.QuotedFigures.{figures, longest}
+use Rattle.theorem_history.proofs.Quoted.QuotedFigures.{figures}
+use Rattle.theorem_history.proofs.Quoted.LongestTransfer.{longest}
 use Rattle.theorem_history.proofs.ReadBytes.LineOrders.{numbers, times-numbers}
 use Rattle.theorem_history.proofs.ReadBytes.HistoryBytes.{reads-right}
 
@@ -23,13 +26,13 @@ reset-checks b = refl
 
 pub demand3 : (b : Board) → reset b .number ≡ 0 → Demand3 b
 demand3 b ok = record {
-  within = λ w before q calls start history accepted later. within b legal w before start history q accepted calls later;
-  finished = λ w before q calls start history accepted later. finished b legal w before start history q accepted calls later;
+  within = within b legal;
+  finished = finished b legal;
   exact = exact-history b legal;
   quoted = figures b legal checked;
   longest = longest b legal checked;
   reads = reads-right b legal;
-  served = λ w calls q start lent history. served b legal w calls start history lent q;
+  served = unrefused b legal;
 }
   where
     checked : boardRefusal b ≡ 0
@@ -38,11 +41,11 @@ demand3 b ok = record {
     legal : Legal b
     legal = accepted-legal b checked
 
--- a text that is not refused reads to a board that reset does not refuse
+-- a text that is not refused reads to a board that a reset does not refuse
 pub text-demand3 : (text : List ℕ) → readText text .number ≡ 0 → Demand3 (readText text .board)
 unfolding reset
 text-demand3 text accepted = demand3 (readText text .board) (read-accepted text accepted)
 
--- the order by slave number is one of the orders of the read claim
+-- the reads of the claim are about some order: that by slave number is one
 pub byNumber : Order
 byNumber = record { slaves = numbers 16; once = times-numbers 16 }

@@ -1,4 +1,4 @@
--- The wait is exact (rule 6.5): a history in which a transfer waits exactly the quoted wait.
+-- The wait is exact: each connected pair has a history in which a transfer waits so long (rule 6.5).
 pub mod DueRequests
 pub mod DueClock
 pub mod BuiltHistories

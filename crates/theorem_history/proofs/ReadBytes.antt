@@ -1,6 +1,7 @@
--- What a read brings (rules 6.7 to 6.9): the bytes of the byte memory.
+-- A read brings the bytes of the byte memory (rules 6.7 to 6.9): from one transfer to one slave, one clock and a whole history.
 pub mod LineOrders
 pub mod TransferBytes
 pub mod SlaveBytes
+pub mod FirstCycles
 pub mod ClockBytes
 pub mod HistoryBytes

@@ -1,11 +1,10 @@
--- What a master posts at a slave to use up its credit there: singles while grants are to come, the longest transfer at
--- the last. Such a transfer is not refused and lasts exactly as long as is quoted.
+-- What a master posts at a slave to use up its grants there: singles while grants are to come, the longest transfer at the last.
+-- Such a transfer is not refused and lasts exactly as long as is quoted.
 -- Assumes nothing.
 use mathlib.Core.Path.{_≡_, refl, ap, _∙_}
-use mathlib.Core.Bool.{Bool, true, false, cond, _||_}
+use mathlib.Core.Bool.{Bool, true, false, cond, or-true}
 use Prim.Native.Nat.{ℕ, zero, suc, _+_, _*_, _/_, _%_, _≤_, _<_, max}
-use native.Mathlib.Nat.{one-mul, le-refl, le-trans, mul-le-mul, div-mul-le-self}
-use native.Mathlib.Nat.{min-le-left, min-le-right}
+use native.Mathlib.Nat.{one-mul, le-refl, le-trans, mul-le-mul, div-mul-le-self, min-le-left, min-le-right}
 use native.Mathlib.Omega.{arith}
 use lib.Dec.{leb}
 use lib.Count.{ones, onesIn, trailingZeros}
@@ -15,7 +14,7 @@ use Rattle.common_laws.specs.Lists.{member}
 use Rattle.common_laws.proofs.TableLaws.{member-each}
 use Rattle.description_board.specs.declared.Board.{Board}
 use Rattle.description_board.specs.declared.Slave.{Slave}
-use Rattle.description_board.specs.Records.{masterAt, slaveAt}
+use Rattle.description_board.specs.Records.{masterAt, slaveAt, sharesAt}
 use Rattle.description_board.specs.Rules.{widths}
 use Rattle.description_board.specs.Legal.{Legal}
 use Rattle.description_board.proofs.RuleLaws.{width-bound, burst-bound, span-bound}
@@ -25,11 +24,16 @@ use Rattle.fabric_accesses.specs.Decoding.{selects, targetOf}
 use Rattle.fabric_accesses.specs.Accesses.{ratio, waitOf, ownLength}
 use Rattle.fabric_accesses.proofs.AccessLaws.{base-aligned, accesses-full}
 use Rattle.fabric_accesses.proofs.SelectLaws.{selects-of, selects-target}
+use Rattle.fabric_state.specs.declared.State.{State}
+use Rattle.fabric_state.specs.Records.{transferAt}
+use Rattle.fabric_state.specs.Soundness.{requests}
 use Rattle.fabric_state.specs.Posting.{Request, transferOf, wrongBeats, unaligned, wrongLanes, unmapped, passesEnd}
 use Rattle.fabric_state.specs.Posting.{transferRefusalBy, transferRefusal}
+use Rattle.fabric_state.proofs.DecodeLaws.{requests-of}
 use Rattle.wait_turns.specs.Waits as waits
 use Rattle.theorem_history.specs.Claim.{slaveFor}
-use Rattle.theorem_history.proofs.OneClock.PairFigures.{sharesOf, singleOf, serveOf, most-some}
+use Rattle.theorem_history.proofs.OneClock.PairFigures.{singleOf, longestOf, most-some}
+use Rattle.theorem_history.proofs.Histories.OnePost.{Taken}
 
 -- the beats of the transfer with a grants to come after it
 unfoldable pub beatsFor : Board → ℕ → ℕ → ℕ → ℕ
@@ -54,7 +58,7 @@ requestFor b s j a = record {
 unfoldable pub transferFor : Board → ℕ → ℕ → ℕ → Transfer
 transferFor b s j a = transferOf (requestFor b s j a)
 
-pub words-right : (b : Board) (s j a : ℕ) → length (requestFor b s j a .words)
+words-right : (b : Board) (s j a : ℕ) → length (requestFor b s j a .words)
     ≡ cond (requestFor b s j a .write) (requestFor b s j a .beats * masterAt b j .width) 0
 unfolding requestFor
 words-right b s j a = length-replicate (cond (writes (slaveAt b s)) (beatsFor b s j a * masterAt b j .width) 0) 0
@@ -66,11 +70,7 @@ full-lanes w e = member-each (λ x. legalLanes x (allLanes x) ≡ true) w widths
 
 full-post : (w k : ℕ) → member w widths ≡ true → postLanes w (allLanes w) k ≡ true
 unfolding postLanes
-full-post w k e = rw (full-lanes w e, eq-eqb (allLanes w) (allLanes w) refl) (go (leb k 1))
-  where
-    go : (c : Bool) → (c || true) ≡ true
-    go true = refl
-    go false = refl
+full-post w k e = rw (full-lanes w e, eq-eqb (allLanes w) (allLanes w) refl) (or-true (leb k 1))
 
 -- what passes 13 to 17
 not-refused : (b : Board) (j s : ℕ) (t : Transfer) → 1 ≤ t .beats → t .beats ≤ masterAt b j .burst
@@ -100,23 +100,24 @@ wait-is sl t e = rw e (go (leb (sl .«read_wait») (sl .«write_wait»)) refl)
     go true q = omega (arith, leb-true (sl .«read_wait») (sl .«write_wait») q)
     go false q = omega (arith, leb-false (sl .«read_wait») (sl .«write_wait») q)
 
-module _ (b : Board) (legal : Legal b) (s : ℕ) (hs : s < b .«slave_count») (j : ℕ) where
+module _ (b : Board) (s j : ℕ) where
   long-is : (a : ℕ) → ownLength (masterAt b j) (slaveAt b s) (transferFor b s j a)
       ≡ beatsFor b s j a * ratio (masterAt b j) (slaveAt b s) * waits.longestAccess (slaveAt b s)
   unfolding ownLength transferFor requestFor
   long-is a =
       ap (λ (x : ℕ). x * (1 + waitOf (slaveAt b s) (transferFor b s j a)))
       (accesses-full (masterAt b j) (slaveAt b s) (transferFor b s j a) refl)
-      ∙ ap (λ (x : ℕ). beatsFor b s j a * ratio (masterAt b j) (slaveAt b s) * x) (wait-is (slaveAt b s) (transferFor b s j a) refl)
+      ∙ ap (λ (x : ℕ). beatsFor b s j a * ratio (masterAt b j) (slaveAt b s) * x)
+      (wait-is (slaveAt b s) (transferFor b s j a) refl)
 
   pub last-serve : (a : ℕ) → a ≡ 0
-      → ownLength (masterAt b j) (slaveAt b s) (transferFor b s j a) ≡ serveOf b legal s hs j
+      → ownLength (masterAt b j) (slaveAt b s) (transferFor b s j a) ≡ longestOf b s j
   unfolding waits.serve beatsFor
   last-serve zero e = long-is zero
   last-serve (suc a) e = absurd (omega arith)
 
   pub first-single : (a : ℕ) → 1 ≤ a
-      → (ownLength (masterAt b j) (slaveAt b s) (transferFor b s j a) ≡ singleOf b legal s hs j)
+      → (ownLength (masterAt b j) (slaveAt b s) (transferFor b s j a) ≡ singleOf b s j)
       × (transferFor b s j a .beats ≤ 1)
   unfolding waits.single beatsFor transferFor requestFor
   first-single zero h = absurd (omega arith)
@@ -126,10 +127,13 @@ module _ (b : Board) (legal : Legal b) (s : ℕ) (hs : s < b .«slave_count») (
     le-refl 1,
   )
 
-  -- ---- it is not refused
+-- ---- it is not refused
 
-  module _ (hj : j < b .«master_count») (has : 1 ≤ sharesOf b legal s hs j) where
-    pub base-selects : selects b j (slaveAt b s .base) s ≡ true
+module _
+    (b : Board) (legal : Legal b) (s : ℕ) (hs : s < b .«slave_count») (j : ℕ) (hj : j < b .«master_count»)
+    (has : 1 ≤ sharesAt b j s)
+  where
+    base-selects : selects b j (slaveAt b s .base) s ≡ true
     base-selects =
         let p = span-bound (slaveAt b s .span) (legal .slave s hs .span) in
         selects-of b legal j (slaveAt b s .base) s
@@ -146,7 +150,7 @@ module _ (b : Board) (legal : Legal b) (s : ℕ) (hs : s < b .«slave_count») (
     beats-fit zero =
         let ma = masterAt b j in
         let sl = slaveAt b s in (
-          most-some b legal s hs j hj,
+          most-some b legal s j hs hj,
           min-le-left (ma .burst) (sl .span / ma .width),
           le-trans (mul-le-mul (min-le-right (ma .burst) (sl .span / ma .width)) (le-refl (ma .width)))
               (div-mul-le-self (sl .span) (ma .width)),
@@ -157,7 +161,7 @@ module _ (b : Board) (legal : Legal b) (s : ℕ) (hs : s < b .«slave_count») (
         let n = span-bound (slaveAt b s .span) (legal .slave s hs .span) in
         (le-refl 1, u .0, omega (arith, one-mul (masterAt b j .width)))
 
-    pub request-fits : (a : ℕ) → transferRefusal b j (transferFor b s j a) ≡ 0
+    request-fits : (a : ℕ) → transferRefusal b j (transferFor b s j a) ≡ 0
     unfolding transferFor requestFor
     request-fits a =
         let f = beats-fit a in
@@ -167,3 +171,14 @@ module _ (b : Board) (legal : Legal b) (s : ℕ) (hs : s < b .«slave_count») (
         (base-aligned (slaveAt b s .base) (slaveAt b s .span) (masterAt b j .width) (n .aligned) (n .span) w)
         (full-post (masterAt b j .width) (beatsFor b s j a) w)
         (selects-target b legal j (slaveAt b s .base) s base-selects) hs (omega (arith, f .2))
+
+    -- its post is taken where j holds nothing
+    pub request-taken : (st : State) (a : ℕ) → transferAt st j .held ≡ false → Taken b st (requestFor b s j a)
+    unfolding requestFor transferFor
+    request-taken st a free =
+        record { master = hj; free = free; fits = request-fits a; words = words-right b s j a }
+
+    -- and who holds it asks
+    pub request-asks : (st : State) (a : ℕ) → transferAt st j ≡ transferFor b s j a → requests b st s j ≡ true
+    unfolding transferFor requestFor
+    request-asks st a e = requests-of b st s j (ap (λ (t : Transfer). t .held) e) (rw e base-selects)

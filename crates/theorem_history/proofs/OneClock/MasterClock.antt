@@ -1,7 +1,8 @@
--- One clock of a sound state, for the masters at one slave: who acts, who keeps its transfer, whom the lines show.
+-- One clock of a sound state, for the masters at one slave: who is served, who keeps its transfer, and whom the lines show
+-- (rule 6.2).
 -- Assumes nothing.
 use mathlib.Core.Path.{_≡_, refl, sym, ap, subst, _∙_}
-use mathlib.Core.Bool.{Bool, true, false, not, _&&_, _||_, false≢true}
+use mathlib.Core.Bool.{Bool, true, false, not, _||_, and-false, false≢true}
 use mathlib.Core.Logic.{_⊎_, inl, inr, _≢_}
 use Prim.Native.Nat.{ℕ, _<_}
 use native.Mathlib.Omega.{arith}
@@ -11,7 +12,6 @@ use borrow.Author.Tests.{eq-eqb, ne-eqb, ltb-true, ltb-false}
 use Rattle.common_laws.specs.Lists.{some}
 use Rattle.common_laws.proofs.TableLaws.{some-here, none-all}
 use Rattle.description_board.specs.declared.Board.{Board}
-use Rattle.description_board.specs.Records.{masterAt, slaveAt}
 use Rattle.description_board.specs.Legal.{Legal}
 use Rattle.fabric_accesses.specs.declared.Transfer.{Transfer}
 use Rattle.fabric_state.specs.declared.Slot.{Slot}
@@ -20,15 +20,14 @@ use Rattle.fabric_state.specs.Records.{noLine, transferAt, slotAt}
 use Rattle.fabric_state.specs.Soundness.{requests}
 use Rattle.fabric_state.specs.Control.{slotAfterGrant, stepOf, stateAfter, finished, linesOf}
 use Rattle.fabric_state.proofs.Sound.{Sound}
-use Rattle.fabric_state.proofs.CycleLaws.{Cycle, cycle}
 use Rattle.fabric_state.proofs.StateLaws.{slot-after, line-after, line-after-past, transfer-after, transfer-kept}
 use Rattle.fabric_state.proofs.StateLaws.{transfer-finished, held-after, finished-here}
 use Rattle.fabric_state.proofs.StepLaws.{step-rests, line-owner, finished-serving}
 use Rattle.fabric_state.proofs.RequestLaws.{requests-one}
 use Rattle.fabric_state.proofs.SoundLaws.{grant-sound, finished-only}
 use Rattle.theorem_history.specs.Claim.{owns}
-use Rattle.theorem_history.proofs.OneClock.SlaveClock.{step-serving, acts, owner-after}
-use Rattle.theorem_history.proofs.Histories.Standing.{acting, stays}
+use Rattle.theorem_history.proofs.OneClock.AfterGrant.{ServesNow}
+use Rattle.theorem_history.proofs.OneClock.SlaveClock.{acts, owner-after}
 
 module _ (b : Board) (legal : Legal b) (st : State) (sound : Sound b st) where
   -- who holds nothing holds nothing after the clock
@@ -41,19 +40,11 @@ module _ (b : Board) (legal : Legal b) (st : State) (sound : Sound b st) where
       go false q = q
 
   module _ (s : ℕ) (hs : s < b .«slave_count») where
-    ends-then : slotAfterGrant b st s .serving ≡ true → stepOf b st s .finished ≡ not (stepOf b st s .slot .serving)
-    ends-then on =
-        let a = acting b legal st sound s hs on in
-        let o = slotAfterGrant b st s .owner in
-        subst (Cycle (masterAt b o) (slaveAt b s) (transferAt st o) (slotAfterGrant b st s)) (sym (step-serving b st s on))
-        (cycle (masterAt b o) (slaveAt b s) (transferAt st o) (slotAfterGrant b st s) on (a .done) (a .waited))
-        .ends
-
-    -- who acts is in service after the clock, or finished
-    pub acted : (j : ℕ) → slotAfterGrant b st s .serving ≡ true → slotAfterGrant b st s .owner ≡ j
+    -- who is served is finished, or in service after the clock
+    pub acted : (j : ℕ) → ServesNow b st s j
         → (transferAt (stateAfter b st) j .held ≡ false)
         ⊎ ((slotAt (stateAfter b st) s .serving ≡ true) × (slotAt (stateAfter b st) s .owner ≡ j))
-    acted j on e = go (stepOf b st s .slot .serving) refl
+    acted j now = go (stepOf b st s .slot .serving) refl
       where
         go : (c : Bool) → stepOf b st s .slot .serving ≡ c
             → (transferAt (stateAfter b st) j .held ≡ false)
@@ -61,15 +52,15 @@ module _ (b : Board) (legal : Legal b) (st : State) (sound : Sound b st) where
         go true q =
             inr (
               ap (λ (x : Slot). x .serving) (slot-after b st s hs (legal .fewSlaves)) ∙ q,
-              owner-after b legal st sound s hs (acting b legal st sound s hs) (stays b legal st sound s hs) on ∙ e,
+              owner-after b legal st sound s hs (now .on) ∙ now .owner,
             )
         go false q =
-            let f = finished-here b st j s hs (ends-then on ∙ ap not q) (line-owner b st s on ∙ e) in
-            let h = acting b legal st sound s hs on .low in
-            let l : j < 8 = subst (λ (i : ℕ). i < 8) e (omega (arith, legal .fewMasters)) in
+            let c = acts b legal st sound s hs (now .on) in
+            let f = finished-here b st j s hs (c .ends ∙ ap not q) (c .line ∙ now .owner) in
+            let l : j < 8 = omega (arith, grant-sound b st legal sound s hs .owner, now .owner, legal .fewMasters) in
             inl (ap (λ (t : Transfer). t .held) (transfer-after b st j l ∙ transfer-finished b st j f))
 
-    -- who asks here and does not act keeps its transfer
+    -- who asks here and is not served keeps its transfer
     module _ (j : ℕ) (asks : requests b st s j ≡ true)
         (off : slotAfterGrant b st s .serving ≡ true → slotAfterGrant b st s .owner ≢ j) where
       unfinished : finished b st j ≡ false
@@ -96,14 +87,10 @@ module _ (b : Board) (legal : Legal b) (st : State) (sound : Sound b st) where
               off (subst (λ (i : ℕ). slotAfterGrant b st i .serving ≡ true) z on)
               (subst (λ (i : ℕ). slotAfterGrant b st i .owner ≡ j) z q)
 
-          and-no : (c : Bool) → (c && false) ≡ false
-          and-no true = refl
-          and-no false = refl
-
           go : (c : Bool) → slotAfterGrant b st k .serving ≡ c → owns j (stepOf b st k .line) ≡ false
           go true on =
               rw (ne-eqb (stepOf b st k .line .owner) j (λ q. other on (sym (line-owner b st k on) ∙ q)))
-              (and-no (eqb (stepOf b st k .line .phase) 1 || eqb (stepOf b st k .line .phase) 2))
+              (and-false (eqb (stepOf b st k .line .phase) 1 || eqb (stepOf b st k .line .phase) 2))
           go false e = rw (step-rests b st k e)
 
       -- nor does any line show it
@@ -117,12 +104,11 @@ module _ (b : Board) (legal : Legal b) (st : State) (sound : Sound b st) where
               ap (owns j) (line-after b st k h (legal .fewSlaves)) ∙ line-hides k h
           go k false e = ap (owns j) (line-after-past b st k (ltb-false k (b .«slave_count») e))
 
-    -- who acts is shown
-    pub shown : (j : ℕ) → slotAfterGrant b st s .serving ≡ true → slotAfterGrant b st s .owner ≡ j
-        → some (λ k. owns j (getD (linesOf b st) k noLine)) 16 ≡ true
+    -- who is served is shown
+    pub shown : (j : ℕ) → ServesNow b st s j → some (λ k. owns j (getD (linesOf b st) k noLine)) 16 ≡ true
     unfolding owns
-    shown j on e =
+    shown j now =
         let l = legal .fewSlaves in
-        let c = acts b legal st sound s hs (acting b legal st sound s hs) (stays b legal st sound s hs) on in
+        let c = acts b legal st sound s hs (now .on) in
         some-here (λ k. owns j (getD (linesOf b st) k noLine)) 16 s (omega arith)
-        (ap (owns j) (line-after b st s hs l) ∙ rw (c .shown, eq-eqb (stepOf b st s .line .owner) j (c .line ∙ e)))
+        (ap (owns j) (line-after b st s hs l) ∙ rw (c .shown, eq-eqb (stepOf b st s .line .owner) j (c .line ∙ now .owner)))

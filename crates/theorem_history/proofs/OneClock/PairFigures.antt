@@ -20,8 +20,9 @@ use Rattle.fabric_accesses.specs.Accesses.{ratio, waitOf, ownLength}
 use Rattle.fabric_accesses.proofs.AccessLaws.{accesses-le}
 use Rattle.fabric_state.proofs.RequestLaws.{Accepted}
 use Rattle.wait_turns.specs.Waits as waits
+use Rattle.theorem_bounds.proofs.Order.{between}
 use Rattle.theorem_bounds.proofs.Credit.{credit, credit-zero, credit-suc}
-use Rattle.theorem_bounds.proofs.Potential.{quoted}
+use Rattle.theorem_bounds.proofs.Potential.{quoted, pot}
 
 -- a connected pair: the slave is one of the board's, and the master has shares there
 pub connected-pair : (b : Board) (m s : ℕ) → connected b m s ≡ true → (s < b .«slave_count») × (1 ≤ sharesAt b m s)
@@ -31,7 +32,7 @@ connected-pair b m s c =
     (ltb-true s (b .«slave_count») (p .0), ltb-true 0 (sharesAt b m s) (p .1))
 
 -- the wait of a direction is no longer than the longer one
-pub wait-longest : (sl : Slave) (t : Transfer) → 1 + waitOf sl t ≤ waits.longestAccess sl
+wait-longest : (sl : Slave) (t : Transfer) → 1 + waitOf sl t ≤ waits.longestAccess sl
 unfolding waitOf waits.longestAccess
 wait-longest sl t = go (t .write)
   where
@@ -40,7 +41,7 @@ wait-longest sl t = go (t .write)
     go false = omega arith
 
 -- a burst that fits the slave has no more beats than n
-pub beats-most : (ma : Master) (sl : Slave) (k : ℕ) → 1 ≤ ma .width → k ≤ ma .burst → k * ma .width ≤ sl .span
+beats-most : (ma : Master) (sl : Slave) (k : ℕ) → 1 ≤ ma .width → k ≤ ma .burst → k * ma .width ≤ sl .span
     → k ≤ waits.mostBeats ma sl
 unfolding waits.mostBeats
 beats-most ma sl k h l f = let d : k ≤ sl .span / ma .width = le-div-iff-mul-le h .1 f in omega arith
@@ -65,40 +66,58 @@ unfolding ownLength waits.single
 long-single ma sl t h =
     mul-le-mul (omega (arith, accesses-le ma sl t 1 h, one-mul (ratio ma sl))) (wait-longest sl t)
 
-module _ (b : Board) (legal : Legal b) (s : ℕ) (hs : s < b .«slave_count») where
-  abbrev pub sharesOf : ℕ → ℕ
-  sharesOf j = sharesAt b j s
+-- ---- the figures of master j at slave s
 
-  abbrev pub singleOf : ℕ → ℕ
-  singleOf j = waits.single (masterAt b j) (slaveAt b s) (waits.longestAccess (slaveAt b s))
+abbrev pub sharesOf : Board → ℕ → ℕ → ℕ
+sharesOf b s j = sharesAt b j s
 
-  abbrev pub serveOf : ℕ → ℕ
-  serveOf j = waits.serve (masterAt b j) (slaveAt b s) (waits.longestAccess (slaveAt b s))
+-- the clocks of a single, and of the longest transfer (rule 5.5)
+abbrev pub singleOf : Board → ℕ → ℕ → ℕ
+singleOf b s j = waits.single (masterAt b j) (slaveAt b s) (waits.longestAccess (slaveAt b s))
 
-  -- the longest transfer has a beat at least
-  pub most-some : (j : ℕ) → j < b .«master_count» → 1 ≤ waits.mostBeats (masterAt b j) (slaveAt b s)
-  most-some j hj =
-      let w = width-bound (masterAt b j .width) (legal .master j hj .width) in
-      let u = burst-bound (masterAt b j .burst) (legal .master j hj .burst) in
-      let n = span-bound (slaveAt b s .span) (legal .slave s hs .span) in
-      beats-most (masterAt b j) (slaveAt b s) 1 (w .0) (u .0) (omega (arith, one-mul (masterAt b j .width)))
+abbrev pub longestOf : Board → ℕ → ℕ → ℕ
+longestOf b s j = waits.serve (masterAt b j) (slaveAt b s) (waits.longestAccess (slaveAt b s))
 
-  -- a turn is the credit of all shares
-  other-turn : (m j : ℕ) → waits.otherTurn b (waits.longestAccess (slaveAt b s)) m s j
-      ≡ cond (eqb j m) 0 (credit (singleOf j) (serveOf j) (sharesOf j))
+-- the clocks that r of its grants last at the most, and its turn (rule 5.6)
+abbrev pub creditOf : Board → ℕ → ℕ → ℕ → ℕ
+creditOf b s j r = credit (singleOf b s j) (longestOf b s j) r
+
+abbrev pub turnOf : Board → ℕ → ℕ → ℕ
+turnOf b s j = creditOf b s j (sharesOf b s j)
+
+-- the turns of the masters between o and m
+abbrev pub turnsBetween : Board → ℕ → ℕ → ℕ → ℕ
+turnsBetween b s o m = between (turnOf b s) (b .«master_count») o m
+
+-- what master m may have to wait for, where o owns the slave with r grants, and l clocks of its transfer are left
+abbrev pub potOf : Board → ℕ → ℕ → ℕ → ℕ → ℕ → ℕ
+potOf b s m o r l = pot (b .«master_count») (sharesOf b s) (singleOf b s) (longestOf b s) m o r l
+
+-- the longest transfer has a beat at least
+pub most-some : (b : Board) → Legal b → (s j : ℕ) → s < b .«slave_count» → j < b .«master_count»
+    → 1 ≤ waits.mostBeats (masterAt b j) (slaveAt b s)
+most-some b legal s j hs hj =
+    let w = width-bound (masterAt b j .width) (legal .master j hj .width) in
+    let u = burst-bound (masterAt b j .burst) (legal .master j hj .burst) in
+    let n = span-bound (slaveAt b s .span) (legal .slave s hs .span) in
+    beats-most (masterAt b j) (slaveAt b s) 1 (w .0) (u .0) (omega (arith, one-mul (masterAt b j .width)))
+
+module _ (b : Board) (s : ℕ) (hs : s < b .«slave_count») where
+  -- the turn of another master is its credit of all shares
+  other-turn : (m j : ℕ) → waits.otherTurn b (waits.longestAccess (slaveAt b s)) m s j ≡ cond (eqb j m) 0 (turnOf b s j)
   unfolding waits.otherTurn connected waits.turn
   other-turn m j = rw (lt-ltb s (b .«slave_count») hs) (go (sharesAt b j s) (eqb j m))
     where
       go : (a : ℕ) (c : Bool)
-          → cond (ltb 0 a && not c) ((a - 1) * singleOf j + serveOf j) 0 ≡ cond c 0 (credit (singleOf j) (serveOf j) a)
+          → cond (ltb 0 a && not c) ((a - 1) * singleOf b s j + longestOf b s j) 0 ≡ cond c 0 (creditOf b s j a)
       go zero true = refl
-      go zero false = sym (credit-zero (singleOf j) (serveOf j) 0 refl)
+      go zero false = sym (credit-zero (singleOf b s j) (longestOf b s j) 0 refl)
       go (suc a) true = rw (lt-ltb 0 (suc a) (omega arith))
       go (suc a) false =
           let e : suc a - 1 ≡ a = omega arith in
           rw (lt-ltb 0 (suc a) (omega arith), e, credit-suc)
 
   -- the quoted wait is the sum of the turns of all others
-  pub wait-quoted : (m : ℕ) → waits.quotedWait b m s ≡ quoted (b .«master_count») sharesOf singleOf serveOf m
+  pub wait-quoted : (m : ℕ) → waits.quotedWait b m s ≡ quoted (b .«master_count») (sharesOf b s) (singleOf b s) (longestOf b s) m
   unfolding waits.quotedWait waits.turnsOf
   wait-quoted m = sum-same _ _ (b .«master_count») (λ j h. other-turn m j)

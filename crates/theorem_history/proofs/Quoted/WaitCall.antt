@@ -1,5 +1,5 @@
--- The wait call on an accepted text, and on the writer's text of an accepted board: it is taken, and its bytes spell the
--- quoted wait and the serve.
+-- The wait call (rule 5.8) on an accepted text, and on the writer's text of an accepted board: it is taken, and its bytes spell
+-- the quoted wait and the serve.
 -- Assumes nothing.
 use mathlib.Core.Path.{_≡_, ap, subst₂, _∙_}
 use mathlib.Core.Bool.{true, cond}
@@ -51,8 +51,8 @@ module _ (text : List ℕ) (accepted : readText text .number ≡ 0) where
       output = ap (λ (n : ℕ). cond (eqb n 0) (pairBytes b m s ++ drop 16 out) out) number
 
 -- the writer's text of a board has the board's own figures, whatever stands behind its counts
-pub written-answered : (b : Board) → boardRefusal b ≡ 0 → (m s : ℕ) (out : List ℕ) → m < b .«master_count» → connected b m s ≡ true
-    → 16 ≤ length out → WaitAnswered (writeText b) m s (quotedWait b m s) (serveOf b m s) out
+pub written-answered : (b : Board) → boardRefusal b ≡ 0 → (m s : ℕ) (out : List ℕ) → m < b .«master_count»
+    → connected b m s ≡ true → 16 ≤ length out → WaitAnswered (writeText b) m s (quotedWait b m s) (serveOf b m s) out
 written-answered b ok m s out hm c room =
     let legal = accepted-legal b ok in
     let hs = connected-pair b m s c .0 in

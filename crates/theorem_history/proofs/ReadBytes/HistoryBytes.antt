@@ -1,8 +1,9 @@
--- The read claim of demand 3: a reset makes what is true of every slave, posts, clocks and refused calls keep it.
+-- The reads of the claim (rules 6.7 to 6.9): a reset makes true of every slave what the byte memory needs, posts and clocks keep
+-- it, and so the clock that finishes a read leaves what the read's step gave.
 -- Assumes nothing.
-use mathlib.Core.Path.{_≡_, refl, sym, ap, subst, _∙_}
+use mathlib.Core.Path.{_≡_, refl, sym, ap, _∙_}
 use mathlib.Core.Bool.{Bool, true, false, cond, not, _&&_, true≢false}
-use mathlib.Core.List.{List, [], _∷_}
+use mathlib.Core.List.{List}
 use mathlib.Core.Logic.{⊎-elim, _≢_}
 use Prim.Native.Nat.{ℕ, _+_, _*_, _≤_, _<_}
 use native.Mathlib.Omega.{arith}
@@ -24,25 +25,26 @@ use Rattle.fabric_bytes.proofs.StoreLaws.{length-posted, parts-apart}
 use Rattle.fabric_state.specs.declared.Slot.{Slot}
 use Rattle.fabric_state.specs.declared.State.{State}
 use Rattle.fabric_state.specs.Records.{transferAt, slotAt}
-use Rattle.fabric_state.specs.Posting.{Request, transferOf}
+use Rattle.fabric_state.specs.Posting.{Request, transferOf, withTransfer}
 use Rattle.fabric_state.specs.Soundness.{sound}
 use Rattle.fabric_state.specs.Control.{finished, maskOf, linesOf}
 use Rattle.fabric_state.specs.Resetting.{stateAtReset}
-use Rattle.fabric_state.specs.Posting.{withTransfer}
 use Rattle.fabric.specs.Calls.{clock, storeAfterClock, World}
 use Rattle.fabric_state.proofs.Sound.{Sound}
-use Rattle.fabric_state.proofs.StateLaws.{transfer-reset, slot-reset, mask-bit, mask-bit-past}
-use Rattle.fabric_state.proofs.StateLaws.{transfer-with, transfer-with-other, slot-with}
+use Rattle.fabric_state.proofs.StateLaws.{transfer-reset, slot-reset, mask-bit, mask-bit-past, transfer-with, transfer-with-other}
+use Rattle.fabric_state.proofs.StateLaws.{slot-with}
 use Rattle.fabric_state.proofs.SoundLaws.{post-sound}
-use Rattle.theorem_history.specs.Claim.{Call, next, after, History, Start, Lent}
-use Rattle.theorem_history.specs.Claim.{names, Reference, referenceAt, bytesIn, Order, seenAll, fedPost, fed}
+use Rattle.theorem_history.specs.Claim.{Call, after, History, Start, Lent, names, Reference, referenceAt, bytesIn, Order}
+use Rattle.theorem_history.specs.Claim.{seenAll, fedPost, fed}
 use Rattle.fabric.proofs.RunLaws.{clock-is, store-is}
-use Rattle.theorem_history.proofs.Histories.CallCases.{withPost, withClock, Came, refused, postTaken, clockTaken, came, named-taken}
+use Rattle.theorem_history.proofs.Histories.CallCases.{TakesPost, TakesClock, withPost, withClock, named-taken, feeds}
 use Rattle.theorem_history.proofs.Histories.LentLengths.{clock-lent, lent-before}
-use Rattle.theorem_history.proofs.Histories.Standing.{Standing, Taken, post-taken, start-state, start-stands, post-stands, clock-stands}
+use Rattle.theorem_history.proofs.Histories.OnePost.{Taken, post-taken}
+use Rattle.theorem_history.proofs.Histories.Standing.{Standing, start-state, start-stands, post-stands, clock-stands}
 use Rattle.theorem_history.proofs.ReadBytes.TransferBytes.{bytesHeld, endOf, Asked, served-kept}
 use Rattle.theorem_history.proofs.ReadBytes.SlaveBytes.{Wants, Right, SameMaster, asked-kept}
-use Rattle.theorem_history.proofs.ReadBytes.ClockBytes.{Agreed, lies, clock-right, clock-read}
+use Rattle.theorem_history.proofs.ReadBytes.FirstCycles.{lies}
+use Rattle.theorem_history.proofs.ReadBytes.ClockBytes.{Agreed, clock-right, clock-read}
 
 -- ---- the reset
 
@@ -82,7 +84,8 @@ module _
     then-sound = post-sound b st (q .master) (transferOf q) legal sound (fresh .master) (fresh .free) (fresh .fits) refl
 
     then-new : transferAt stateThen (q .master) ≡ transferOf q
-    then-new = transfer-with st (q .master) (transferOf q) (sound .transfers) (omega (arith, fresh .master, legal .fewMasters))
+    then-new =
+        transfer-with st (q .master) (transferOf q) (sound .transfers) (omega (arith, fresh .master, legal .fewMasters))
 
     few : bytesHeld b (q .master) (transferOf q) ≤ 512
     few =
@@ -183,53 +186,31 @@ module _
 -- ---- the calls of a history
 
 -- what stands, and the byte memory with it
-pub record Good (b : Board) (legal : Legal b) (w : World) (r : Reference) : Type 0 where
-  pub stands : Standing b legal w
-  pub right : Agreed b (w .state) (w .store) r
-
-pub start-good : (b : Board) (legal : Legal b) (w : World) → Start b w → Lent b w → Good b legal w (referenceAt (w .store .memory))
-start-good b legal w s lent = record {
-  stands = start-stands b legal w s lent;
-  right = rw (start-state b w s) (reset-right b legal (w .store) (lent .memory) (lent .buffer));
-}
+record Good (b : Board) (w : World) (r : Reference) : Type 0 where
+  stands : Standing b w
+  right : Agreed b (w .state) (w .store) r
 
 module _ (b : Board) (legal : Legal b) where
-  post-good : (w : World) (r : Reference) (q : Request) → Good b legal w r → Taken b (w .state) q
-      → Good b legal (withPost w q) (fedPost q r)
-  post-good w r q g t = record {
-    stands = post-stands b legal w q (g .stands) t;
-    right = post-right b legal (w .state) (g .stands .sound) (w .store) r q t (g .right);
+  start-good : (w : World) → Start b w → Lent b w → Good b w (referenceAt (w .store .memory))
+  start-good w s lent = record {
+    stands = start-stands b legal w s lent;
+    right = rw (start-state b w s) (reset-right b legal (w .store) (lent .memory) (lent .buffer));
   }
 
-  clock-good : (w : World) (r : Reference) (order : Order) → Good b legal w r
-      → Good b legal (withClock b w) (seenAll b (order .slaves) (linesOf b (w .state)) r)
-  clock-good w r order g = record {
+  post-good : (w : World) (r : Reference) (q : Request) → TakesPost b w q → Good b w r → Good b (withPost w q) (fedPost q r)
+  post-good w r q e g =
+      let t = post-taken b w q e in
+      record {
+        stands = post-stands b legal w q (g .stands) t;
+        right = post-right b legal (w .state) (g .stands .sound) (w .store) r q t (g .right);
+      }
+
+  clock-good : (w : World) (r : Reference) (order : Order) → TakesClock b w → Good b w r
+      → Good b (withClock b w) (seenAll b (order .slaves) (linesOf b (w .state)) r)
+  clock-good w r order e g = record {
     stands = clock-stands b legal w (g .stands);
     right = clock-right b legal (w .state) (g .stands .sound) order (w .store) r (g .right);
   }
-
-  good-step : (orders : ℕ → Order) (c : Call) (cs : List Call) (w : World) (r : Reference) → Good b legal w r → Came b w c
-      → ((s : Reference) → Good b legal (next w c) s → Good b legal (after (next w c) cs) (fed b orders s cs))
-      → Good b legal (after (next w c) cs) (fed b orders r (c ∷ cs))
-  good-step orders c cs w r g (refused e f k) rest =
-      subst (Good b legal (after (next w c) cs)) (sym (k orders r cs))
-      (rest r (subst (λ (u : World). Good b legal u r) (sym e) g))
-  good-step orders c cs w r g (postTaken q t e f k) rest =
-      subst (Good b legal (after (next w c) cs)) (sym (k orders r cs))
-      (rest (fedPost q r)
-      (subst (λ (u : World). Good b legal u (fedPost q r)) (sym e)
-      (post-good w r q g (post-taken b (w .state) (w .store .buffer) q t))))
-  good-step orders c cs w r g (clockTaken t e f k) rest =
-      let s = seenAll b (orders (length cs) .slaves) (linesOf b (w .state)) r in
-      subst (Good b legal (after (next w c) cs)) (sym (k orders r cs))
-      (rest s (subst (λ (u : World). Good b legal u s) (sym e) (clock-good w r (orders (length cs)) g)))
-
-  pub history-good : (orders : ℕ → Order) (cs : List Call) (w : World) (r : Reference) → Good b legal w r → History b w cs
-      → Good b legal (after w cs) (fed b orders r cs)
-  unfolding History after fed
-  history-good orders [] w r g h = g
-  history-good orders (c ∷ cs) w r g h =
-      good-step orders c cs w r g (came b w c (h .0)) (λ s x. history-good orders cs (next w c) s x (h .1))
 
 -- ---- the claim
 
@@ -239,7 +220,6 @@ named b st m e =
     (λ (h : 8 ≤ m). absurd (true≢false (sym e ∙ mask-bit-past b st m h)))
     (less-or m 8)
 
--- "As the finishing clock leaves it, the front of its master's part .. equals what the read's step gave."
 pub reads-right : (b : Board) → Legal b → (w : World) (calls : List Call) (orders : ℕ → Order) (last : Order) (m : ℕ)
     → Start b w → History b w calls
     → let u = after w calls in
@@ -249,11 +229,12 @@ pub reads-right : (b : Board) → Legal b → (w : World) (calls : List Call) (o
     → take (bytesIn b (r .request m)) (drop (partOf m) (storeAfterClock b (u .state) (u .store) .buffer)) ≡ r .given m
 unfolding names
 reads-right b legal w calls orders last m s h n =
-    let f = fed b orders (referenceAt (w .store .memory)) calls in
+    let first = referenceAt (w .store .memory) in
     let u = after w calls in
     let free = named-taken b (u .state) (u .store) m n in
     let lent = lent-before b calls w h (clock-lent b u free) in
-    let g = history-good b legal orders calls w (referenceAt (w .store .memory)) (start-good b legal w s lent) h in
+    let g = feeds b orders (Good b) (post-good b legal) (clock-good b legal) calls w h first (start-good b legal w s lent) in
     let named-now : bit (maskOf b (u .state)) m ≡ true = rw (clock-is b (u .state) (u .store) free) at n in
     rw (clock-is b (u .state) (u .store) free, store-is b (u .state) (u .store) free)
-    (clock-read b legal (u .state) (g .stands .sound) last (u .store) f m (g .right) (named b (u .state) m named-now))
+    (clock-read b legal (u .state) (g .stands .sound) last (u .store) (fed b orders first calls) (g .right) m
+    (named b (u .state) m named-now))

@@ -1,5 +1,5 @@
--- A step for each number of a list, one after another: what the steps make true, where each number below n is in the list once,
--- in whatever order.
+-- A step for each number of a list, one after another: what the steps make true where each number below n is in the list once, in
+-- whatever order. So the lines of one clock may count in any order (rule 6.7).
 -- Assumes nothing.
 use mathlib.Core.Path.{_≡_, refl, sym, ap, _∙_}
 use mathlib.Core.Bool.{Bool, true, false, cond}
@@ -26,9 +26,9 @@ times-other i k ks h = rw (ne-eqb i k h)
 -- ---- the steps
 
 -- f k for each k of the list, one after another
-unfoldable pub run : {X : Type 0} → (ℕ → X → X) → List ℕ → X → X
-run f [] x = x
-run f (k ∷ ks) x = run f ks (f k x)
+unfoldable pub steps : {X : Type 0} → (ℕ → X → X) → List ℕ → X → X
+steps f [] x = x
+steps f (k ∷ ks) x = steps f ks (f k x)
 
 module _
     {X : Type 0} (P Q : ℕ → X → Type 0) (f : ℕ → X → X)
@@ -39,8 +39,8 @@ module _
     abbrev Stage : List ℕ → X → ℕ → Type 0
     Stage ks x k = ((times k ks ≡ 1) × P k x) ⊎ ((times k ks ≡ 0) × Q k x)
 
-    stages : (ks : List ℕ) (x : X) → ((k : ℕ) → Stage ks x k) → (k : ℕ) → Q k (run f ks x)
-    unfolding run times
+    stages : (ks : List ℕ) (x : X) → ((k : ℕ) → Stage ks x k) → (k : ℕ) → Q k (steps f ks x)
+    unfolding steps times
     stages [] x h k = ⊎-elim (λ a. absurd (omega arith)) (λ a. a .1) (h k)
     stages (i ∷ ks) x h k = stages ks (f i x) (λ j. ⊎-elim (same j) (other j) (equal-or i j)) k
       where
@@ -60,11 +60,12 @@ module _
 
     -- P k becomes Q k by the step of k, and the steps of the others keep it: in whatever order the numbers below n come
     pub sweep : (n : ℕ) (ks : List ℕ) → ((k : ℕ) → times k ks ≡ cond (ltb k n) 1 0) → (x : X)
-        → ((k : ℕ) → k < n → P k x) → ((k : ℕ) → n ≤ k → Q k x) → (k : ℕ) → Q k (run f ks x)
+        → ((k : ℕ) → k < n → P k x) → ((k : ℕ) → n ≤ k → Q k x) → (k : ℕ) → Q k (steps f ks x)
     sweep n ks once x p q =
         stages ks x
         (λ k.
-        ⊎-elim (λ (l : k < n). inl (once k ∙ rw (lt-ltb k n l), p k l)) (λ (l : n ≤ k). inr (once k ∙ rw (le-ltb k n l), q k l))
+        ⊎-elim (λ (l : k < n). inl (once k ∙ rw (lt-ltb k n l), p k l))
+        (λ (l : n ≤ k). inr (once k ∙ rw (le-ltb k n l), q k l))
         (less-or k n))
 
 -- ---- by number
@@ -73,18 +74,18 @@ module _
 abbrev pub numbers : ℕ → List ℕ
 numbers n = table (λ i. i) n
 
-run-append : {X : Type 0} (f : ℕ → X → X) (ks : List ℕ) (k : ℕ) (x : X) → run f (ks ++ (k ∷ [])) x ≡ f k (run f ks x)
-unfolding run
-run-append f [] k x = refl
-run-append f (i ∷ ks) k x = run-append f ks k (f i x)
+steps-append : {X : Type 0} (f : ℕ → X → X) (ks : List ℕ) (k : ℕ) (x : X) → steps f (ks ++ (k ∷ [])) x ≡ f k (steps f ks x)
+unfolding steps
+steps-append f [] k x = refl
+steps-append f (i ∷ ks) k x = steps-append f ks k (f i x)
 
-pub run-none : {X : Type 0} (f : ℕ → X → X) (x : X) → run f (numbers 0) x ≡ x
-unfolding run table gather
-run-none f x = refl
+pub steps-none : {X : Type 0} (f : ℕ → X → X) (x : X) → steps f (numbers 0) x ≡ x
+unfolding steps table gather
+steps-none f x = refl
 
-pub run-next : {X : Type 0} (f : ℕ → X → X) (n : ℕ) (x : X) → run f (numbers (suc n)) x ≡ f n (run f (numbers n) x)
+pub steps-next : {X : Type 0} (f : ℕ → X → X) (n : ℕ) (x : X) → steps f (numbers (suc n)) x ≡ f n (steps f (numbers n) x)
 unfolding table gather
-run-next f n x = run-append f (numbers n) n x
+steps-next f n x = steps-append f (numbers n) n x
 
 times-append : (s : ℕ) (ks : List ℕ) (k : ℕ) → times s (ks ++ (k ∷ [])) ≡ times s (k ∷ ks)
 unfolding times

@@ -1,4 +1,5 @@
--- What is true of one slave between the fabric and the byte memory, and the steps that keep it.
+-- One slave and the masters whose transfers are for it, against the byte memory: what is true of them between any two steps of a
+-- clock. The slave's own first cycles and accesses keep it, and so do those of the other slaves.
 -- Assumes nothing.
 use mathlib.Core.Path.{_≡_, refl, _∙_, sym, subst}
 use mathlib.Core.Bool.{Bool, true, false, cond, not, _&&_, true≢false}
@@ -9,20 +10,20 @@ use lib.Dec.{eqb}
 use lib.ListN.{length}
 use borrow.Author.Tests.{eq-eqb, ne-eqb}
 use Rattle.description_board.specs.declared.Board.{Board}
-use Rattle.description_board.specs.Records.{masterAt, slaveAt, startOf, memoryLength}
+use Rattle.description_board.specs.Records.{startOf, memoryLength}
 use Rattle.description_board.proofs.StartLaws.{end-before}
 use Rattle.fabric_accesses.specs.declared.Transfer.{Transfer}
 use Rattle.fabric_accesses.specs.Decoding.{targetOf}
 use Rattle.fabric_bytes.specs.Bytes.{Store, bufferLength, partOf}
 use Rattle.fabric_bytes.proofs.MoveLaws.{equal-or, less-or}
 use Rattle.fabric_bytes.proofs.Ranges.{Agree, agree-refl, agree-sym, agree-trans, Apart, front-same}
-use Rattle.fabric_bytes.proofs.StoreLaws.{length-memory, length-buffer}
 use Rattle.fabric_state.specs.declared.Slot.{Slot}
 use Rattle.fabric_state.specs.Control.{slotAccessed}
 use Rattle.theorem_history.specs.Claim.{Reference, stepped}
 use Rattle.theorem_history.proofs.ReadBytes.TransferBytes.{bytesHeld, endOf, accessesAt, accessAt, Lies, Asked, Served}
-use Rattle.theorem_history.proofs.ReadBytes.TransferBytes.{served-begins, served-next, served-kept, step-length, step-apart}
-use Rattle.theorem_history.proofs.ReadBytes.TransferBytes.{access-memory, access-buffer, asked-accessed}
+use Rattle.theorem_history.proofs.ReadBytes.TransferBytes.{served-begins, served-next, served-kept, step-length}
+use Rattle.theorem_history.proofs.ReadBytes.TransferBytes.{step-apart, access-lengths, access-memory, access-buffer}
+use Rattle.theorem_history.proofs.ReadBytes.TransferBytes.{asked-accessed}
 
 -- master m holds the transfer t, and it is for slave k
 pub record Wants (b : Board) (m k : ℕ) (t : Transfer) : Type 0 where
@@ -50,12 +51,12 @@ pub record SameMaster (d e : Store) (r s : Reference) (m : ℕ) : Type 0 where
   pub given : r .given m ≡ s .given m
 
 -- and of slave k
-pub record SameSlave (b : Board) (d e : Store) (r s : Reference) (k : ℕ) : Type 0 where
-  pub memory : length (d .memory) ≡ length (e .memory)
-  pub buffer : length (d .buffer) ≡ length (e .buffer)
-  pub bytes : length (r .bytes) ≡ length (s .bytes)
-  pub range : Agree (startOf b k) (endOf b k) (d .memory) (e .memory)
-  pub step : Agree (startOf b k) (endOf b k) (r .bytes) (s .bytes)
+record SameSlave (b : Board) (d e : Store) (r s : Reference) (k : ℕ) : Type 0 where
+  memory : length (d .memory) ≡ length (e .memory)
+  buffer : length (d .buffer) ≡ length (e .buffer)
+  bytes : length (r .bytes) ≡ length (s .bytes)
+  range : Agree (startOf b k) (endOf b k) (d .memory) (e .memory)
+  step : Agree (startOf b k) (endOf b k) (r .bytes) (s .bytes)
 
 pub asked-kept : (b : Board) (d e : Store) (r s : Reference) (m : ℕ) (t : Transfer) → bytesHeld b m t ≤ 512
     → length (d .buffer) ≡ length (e .buffer) → SameMaster d e r s m → Asked b d r m t → Asked b e s m t
@@ -83,7 +84,7 @@ pub record GoesOn (t′ t : Transfer) (x y : Slot) : Type 0 where
   pub transfer : t′ ≡ t
 
 module _ (b : Board) (held : ℕ → Transfer) (k : ℕ) (lies : (m : ℕ) → Wants b m k (held m) → Lies b m k (held m)) where
-  pub right-kept : (d e : Store) (r s : Reference) (x : Slot) → SameSlave b d e r s k
+  right-kept : (d e : Store) (r s : Reference) (x : Slot) → SameSlave b d e r s k
       → ((m : ℕ) → Wants b m k (held m) → SameMaster d e r s m) → Right b held d r k x → Right b held e s k x
   right-kept d e r s x h f c = record {
     memory = sym (h .memory) ∙ c .memory;
@@ -133,16 +134,16 @@ module _ (b : Board) (held : ℕ → Transfer) (k : ℕ) (lies : (m : ℕ) → W
   -- an access
   pub right-accesses : (d : Store) (r : Reference) (x : Slot) → x .serving ≡ true
       → x .done < accessesAt b k (x .owner) (held (x .owner)) → Right b held d r k x
-      → Right b held (accessAt b k (x .owner) (held (x .owner)) (x .done) d) r k
-      (slotAccessed x)
+      → Right b held (accessAt b k (x .owner) (held (x .owner)) (x .done) d) r k (slotAccessed x)
   unfolding slotAccessed
   right-accesses d r x on few c =
       let o = x .owner in
       let w = c .wants on in
       let e = accessAt b k o (held o) (x .done) d in
+      let l = access-lengths b k o (held o) (x .done) d in
       record {
-        memory = length-memory (masterAt b o) (slaveAt b k) (held o) o (startOf b k) (x .done) d ∙ c .memory;
-        buffer = length-buffer (masterAt b o) (slaveAt b k) (held o) o (startOf b k) (x .done) d ∙ c .buffer;
+        memory = l .0 ∙ c .memory;
+        buffer = l .1 ∙ c .buffer;
         bytes = c .bytes;
         asked = λ m v.
             ⊎-elim
@@ -150,8 +151,7 @@ module _ (b : Board) (held : ℕ → Transfer) (k : ℕ) (lies : (m : ℕ) → W
             subst (λ (i : ℕ). Asked b e r i (held i)) q
             (asked-accessed b k o (held o) (lies o w) (x .done) d r (c .asked o w)))
             (λ (q : o ≢ m).
-            asked-kept b d e r r m (held m) (lies m v .few)
-            (sym (length-buffer (masterAt b o) (slaveAt b k) (held o) o (startOf b k) (x .done) d))
+            asked-kept b d e r r m (held m) (lies m v .few) (sym (l .1))
             (record {
               part = agree-sym (access-buffer b k o (held o) (lies o w) (x .done) d few m q);
               request = refl;
@@ -230,14 +230,13 @@ module _ (b : Board) (held : ℕ → Transfer) (k : ℕ) (lies : (m : ℕ) → W
             given = rw (ne-eqb m o (λ e. elsewhere m v (sym e)));
           }) c
 
-      pub right-other-accesses : (n : ℕ) → n < accessesAt b i o (held o)
-          → Right b held (accessAt b i o (held o) n d) r k x
+      pub right-other-accesses : (n : ℕ) → n < accessesAt b i o (held o) → Right b held (accessAt b i o (held o) n d) r k x
       right-other-accesses n l =
-          let e = accessAt b i o (held o) n d in
-          right-kept d e r r x
+          let same = access-lengths b i o (held o) n d in
+          right-kept d (accessAt b i o (held o) n d) r r x
           (record {
-            memory = sym (length-memory (masterAt b o) (slaveAt b i) (held o) o (startOf b i) n d);
-            buffer = sym (length-buffer (masterAt b o) (slaveAt b i) (held o) o (startOf b i) n d);
+            memory = sym (same .0);
+            buffer = sym (same .1);
             bytes = refl;
             range = agree-sym (access-memory b i o (held o) lies′ n d l (startOf b k) (endOf b k) apart);
             step = agree-refl (startOf b k) (endOf b k) (r .bytes);

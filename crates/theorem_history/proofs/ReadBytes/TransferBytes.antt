@@ -1,4 +1,5 @@
--- The accesses of one transfer at one slave, against its whole step on the byte memory.
+-- The accesses of one transfer at one slave, against its step on the byte memory, which is whole (rule 6.7): with the accesses
+-- that are still to come carried out too, the slave's span is that of the byte memory, and a read has brought what its step gave.
 -- Assumes nothing.
 use mathlib.Core.Path.{_≡_, refl, _∙_, sym}
 use mathlib.Core.Bool.{Bool, true, false, cond, true≢false}
@@ -18,20 +19,20 @@ use Rattle.fabric_accesses.proofs.AccessLaws.{first-zero, first-next, first-le}
 use Rattle.fabric_bytes.specs.Moving.{move}
 use Rattle.fabric_bytes.specs.Bytes.{Store, bufferLength, partOf, enabled, memoryIndex, written, carriedAccess}
 use Rattle.fabric_bytes.proofs.MoveLaws.{length-move}
-use Rattle.fabric_bytes.proofs.Ranges.{Agree, agree-refl, agree-sym, agree-trans, Apart, move-apart, move-agree}
-use Rattle.fabric_bytes.proofs.Ranges.{front, front-at, front-same, front-moved}
-use Rattle.fabric_bytes.proofs.StoreLaws.{accessed-write, carry, accessed-carries, Alike, parts-apart}
-use Rattle.fabric_bytes.proofs.StoreLaws.{carry-none, carry-join, carry-memory, carry-buffer, carry-alike}
+use Rattle.fabric_bytes.proofs.Ranges.{Agree, agree-refl, agree-sym, agree-trans, Apart, move-apart, move-agree, front, front-at}
+use Rattle.fabric_bytes.proofs.Ranges.{front-same, front-moved}
+use Rattle.fabric_bytes.proofs.StoreLaws.{length-memory, length-buffer, accessed-write, carry, accessed-carries, Alike}
+use Rattle.fabric_bytes.proofs.StoreLaws.{parts-apart, carry-none, carry-join, carry-memory, carry-buffer, carry-alike}
 use Rattle.fabric_state.specs.Posting.{transferOf}
 use Rattle.theorem_history.specs.Claim.{Reference, slaveFor, bytesIn, indexInMemory, bytesAfter, given, stepped}
 
--- "beats × master width bytes"
+-- the bytes of the transfer t of master m
 abbrev pub bytesHeld : Board → ℕ → Transfer → ℕ
 bytesHeld b m t = t .beats * masterAt b m .width
 
--- where the transfer lies in memory, at slave k, and where that slave's span ends there
-abbrev pub placeAt : Board → ℕ → Transfer → ℕ
-placeAt b k t = memoryIndex (slaveAt b k) t (startOf b k)
+-- the index in memory of its first byte, at slave k (rule 6.8), and of the end of that slave's span
+abbrev indexAt : Board → ℕ → Transfer → ℕ
+indexAt b k t = memoryIndex (slaveAt b k) t (startOf b k)
 
 abbrev pub endOf : Board → ℕ → ℕ
 endOf b k = startOf b k + slaveAt b k .span
@@ -43,12 +44,21 @@ accessesAt b k m t = accesses (masterAt b m) (slaveAt b k) t
 abbrev pub accessAt : Board → ℕ → ℕ → Transfer → ℕ → Store → Store
 accessAt b k m t a d = carriedAccess (masterAt b m) (slaveAt b k) t m (startOf b k) a d
 
+-- which keeps the lengths of memory and buffer
+pub access-lengths : (b : Board) (k m : ℕ) (t : Transfer) (a : ℕ) (d : Store)
+    → let e = accessAt b k m t a d in
+    (length (e .memory) ≡ length (d .memory)) × (length (e .buffer) ≡ length (d .buffer))
+access-lengths b k m t a d = (
+  length-memory (masterAt b m) (slaveAt b k) t m (startOf b k) a d,
+  length-buffer (masterAt b m) (slaveAt b k) t m (startOf b k) a d,
+)
+
 -- the transfer of master m lies in the span of slave k and in the master's part of the buffer
 pub record Lies (b : Board) (m k : ℕ) (t : Transfer) : Type 0 where
   pub known : m < 8
   pub few : bytesHeld b m t ≤ 512
-  pub low : startOf b k ≤ placeAt b k t
-  pub high : placeAt b k t + bytesHeld b m t ≤ endOf b k
+  pub low : startOf b k ≤ indexAt b k t
+  pub high : indexAt b k t + bytesHeld b m t ≤ endOf b k
   pub inside : endOf b k ≤ memoryLength b
   pub whole : firstByte (masterAt b m) (slaveAt b k) (accessesAt b k m t) ≡ bytesHeld b m t
 
@@ -63,7 +73,7 @@ pub record Asked (b : Board) (d : Store) (r : Reference) (m : ℕ) (t : Transfer
 unfoldable pub rest : Board → ℕ → ℕ → Transfer → ℕ → Store → Store
 rest b k m t a d =
     let first = firstByte (masterAt b m) (slaveAt b k) a in
-    carry (t .write) (enabled (masterAt b m) t) (partOf m) (placeAt b k t) first (bytesHeld b m t - first) d
+    carry (t .write) (enabled (masterAt b m) t) (partOf m) (indexAt b k t) first (bytesHeld b m t - first) d
 
 -- slave k has carried out a accesses of the transfer t of master m: with the rest carried out, the slave's span of the
 -- memory is that of the byte memory, and the front of the master's part is what a read gave
@@ -78,38 +88,50 @@ pub record Done (b : Board) (d : Store) (r : Reference) (k m : ℕ) (t : Transfe
   pub reads : t .write ≡ false → front (bytesHeld b m t) (partOf m) (d .buffer) ≡ r .given m
 
 module _ (b : Board) (k m : ℕ) (t : Transfer) (lies : Lies b m k t) where
+  -- its bytes, the index of the first of them in memory, and which of them are enabled
+  abbrev size : ℕ
+  size = bytesHeld b m t
+
+  abbrev index : ℕ
+  index = indexAt b k t
+
+  abbrev on : ℕ → Bool
+  on = enabled (masterAt b m) t
+
+  -- the first byte of access a, and the bytes of an access
+  abbrev first : ℕ → ℕ
+  first a = firstByte (masterAt b m) (slaveAt b k) a
+
+  abbrev each : ℕ
+  each = accessBytes (masterAt b m) (slaveAt b k)
+
   -- ---- one access more, and the last
 
-  first-few : (a : ℕ) → a ≤ accessesAt b k m t → firstByte (masterAt b m) (slaveAt b k) a ≤ bytesHeld b m t
+  first-few : (a : ℕ) → a ≤ accessesAt b k m t → first a ≤ size
   first-few a h = rw (← lies .whole) (first-le (masterAt b m) (slaveAt b k) a _ h)
 
-  access-few : (a : ℕ) → a < accessesAt b k m t
-      → firstByte (masterAt b m) (slaveAt b k) a + accessBytes (masterAt b m) (slaveAt b k) ≤ bytesHeld b m t
+  access-few : (a : ℕ) → a < accessesAt b k m t → first a + each ≤ size
   access-few a h = rw first-next at (first-few (a + 1) (omega arith))
 
   rest-next : (a : ℕ) (d : Store) → a < accessesAt b k m t
       → rest b k m t (a + 1) (accessAt b k m t a d) ≡ rest b k m t a d
   unfolding rest
   rest-next a d h =
-      let f = firstByte (masterAt b m) (slaveAt b k) a in
-      let g = accessBytes (masterAt b m) (slaveAt b k) in
-      let n = bytesHeld b m t in
       let l = access-few a h in
-      let e : g + (n - (f + g)) ≡ n - f = omega arith in
+      let e : each + (size - (first a + each)) ≡ size - first a = omega arith in
       rw (accessed-carries, first-next (masterAt b m) (slaveAt b k) a)
-      (carry-join (t .write) (enabled (masterAt b m) t) (partOf m) (placeAt b k t) f g (n - (f + g)) d ∙ rw e)
+      (carry-join (t .write) on (partOf m) index (first a) each (size - (first a + each)) d ∙ rw e)
 
   rest-none : (a : ℕ) (d : Store) → a ≡ accessesAt b k m t → rest b k m t a d ≡ d
   unfolding rest
   rest-none a d e =
-      let z : bytesHeld b m t - bytesHeld b m t ≡ 0 = omega arith in
-      rw (e, lies .whole, z) (carry-none (t .write) (enabled (masterAt b m) t) (partOf m) (placeAt b k t) (bytesHeld b m t) d)
+      let z : size - size ≡ 0 = omega arith in
+      rw (e, lies .whole, z) (carry-none (t .write) on (partOf m) index size d)
 
-  rest-whole : (d : Store)
-      → rest b k m t 0 d ≡ carry (t .write) (enabled (masterAt b m) t) (partOf m) (placeAt b k t) 0 (bytesHeld b m t) d
+  rest-whole : (d : Store) → rest b k m t 0 d ≡ carry (t .write) on (partOf m) index 0 size d
   unfolding rest
   rest-whole d =
-      let z : bytesHeld b m t - 0 ≡ bytesHeld b m t = omega arith in
+      let z : size - 0 ≡ size = omega arith in
       rw (first-zero, z)
 
   pub served-next : (a : ℕ) (d : Store) (r : Reference) → a < accessesAt b k m t → Served b d r k m t a
@@ -120,47 +142,39 @@ module _ (b : Board) (k m : ℕ) (t : Transfer) (lies : Lies b m k t) where
     reads = λ e. rw (rest-next a d h) (s .reads e);
   }
 
-  pub served-ends : (a : ℕ) (d : Store) (r : Reference) → a ≡ accessesAt b k m t → Served b d r k m t a
-      → Done b d r k m t
+  pub served-ends : (a : ℕ) (d : Store) (r : Reference) → a ≡ accessesAt b k m t → Served b d r k m t a → Done b d r k m t
   served-ends a d r e s =
       record { range = rw (rest-none a d e) at (s .range); reads = λ f. rw (rest-none a d e) at (s .reads f) }
 
-  -- an access leaves the other slaves' spans alone, and the other masters' parts
-  pub access-memory : (a : ℕ) (d : Store) → a < accessesAt b k m t → (lo hi : ℕ)
-      → Apart (startOf b k) (endOf b k) lo hi
-      → Agree lo hi (accessAt b k m t a d .memory) (d .memory)
-  access-memory a d h lo hi p =
-      let f = firstByte (masterAt b m) (slaveAt b k) a in
-      let g = accessBytes (masterAt b m) (slaveAt b k) in
-      let l = access-few a h in
+  -- what lies apart from the slave's span lies apart from the transfer's bytes
+  apart-from : (lo hi i n : ℕ) → i + n ≤ size → Apart (startOf b k) (endOf b k) lo hi → Apart (index + i) (index + (i + n)) lo hi
+  apart-from lo hi i n h p =
       let x = lies .low in
       let y = lies .high in
+      ⊎-elim (λ (u : endOf b k ≤ lo). inl (omega arith)) (λ (u : hi ≤ startOf b k). inr (omega arith)) p
+
+  -- an access changes neither another slave's span nor another master's part
+  pub access-memory : (a : ℕ) (d : Store) → a < accessesAt b k m t → (lo hi : ℕ) → Apart (startOf b k) (endOf b k) lo hi
+      → Agree lo hi (accessAt b k m t a d .memory) (d .memory)
+  access-memory a d h lo hi p =
       rw accessed-carries
-      (carry-memory (t .write) (enabled (masterAt b m) t) (partOf m) (placeAt b k t) f g lo hi d
-      (⊎-elim (λ (u : endOf b k ≤ lo). inl (omega arith)) (λ (u : hi ≤ startOf b k). inr (omega arith)) p))
+      (carry-memory (t .write) on (partOf m) index (first a) each lo hi d (apart-from lo hi (first a) each (access-few a h) p))
 
   pub access-buffer : (a : ℕ) (d : Store) → a < accessesAt b k m t → (j : ℕ) → m ≢ j
       → Agree (partOf j) (partOf j + 512) (accessAt b k m t a d .buffer) (d .buffer)
   access-buffer a d h j q =
-      let f = firstByte (masterAt b m) (slaveAt b k) a in
-      let g = accessBytes (masterAt b m) (slaveAt b k) in
-      let l = access-few a h in
-      let z = lies .few in
       rw accessed-carries
-      (carry-buffer (t .write) (enabled (masterAt b m) t) (partOf m) (placeAt b k t) f g (partOf j) (partOf j + 512) d
-      (parts-apart m j f g q (omega arith)))
+      (carry-buffer (t .write) on (partOf m) index (first a) each (partOf j) (partOf j + 512) d
+      (parts-apart m j (first a) each q (omega (arith, access-few a h, lies .few))))
 
-  -- and its own master's words
-  pub asked-accessed : (a : ℕ) (d : Store) (r : Reference) → Asked b d r m t
-      → Asked b (accessAt b k m t a d) r m t
+  -- nor its own master's words
+  pub asked-accessed : (a : ℕ) (d : Store) (r : Reference) → Asked b d r m t → Asked b (accessAt b k m t a d) r m t
   unfolding written
   asked-accessed a d r h =
       record { master = h .master; transfer = h .transfer; many = h .many; there = go (t .write) refl }
     where
       go : (w : Bool) → t .write ≡ w
-          → front (length (r .request m .words)) (partOf m)
-          (accessAt b k m t a d .buffer)
-          ≡ r .request m .words
+          → front (length (r .request m .words)) (partOf m) (accessAt b k m t a d .buffer) ≡ r .request m .words
       go true e = rw (accessed-write (masterAt b m) (slaveAt b k) t m (startOf b k) a d e) (h .there)
       go false e =
           let z : length (r .request m .words) ≡ 0 = h .many ∙ rw e in
@@ -174,103 +188,96 @@ module _ (b : Board) (k m : ℕ) (t : Transfer) (lies : Lies b m k t) where
       → Served b d r k m t a → Served b e s k m t a
   unfolding rest
   served-kept a d e r s h y g v =
-      let f = firstByte (masterAt b m) (slaveAt b k) a in
-      let n = bytesHeld b m t in
-      let l : f ≤ n = first-few a (v .done) in
+      let l = first-few a (v .done) in
       let p = lies .low in
       let q = lies .high in
       let x = lies .few in
-      let z = carry-alike (t .write) (enabled (masterAt b m) t) (partOf m) (placeAt b k t) f (n - f) (startOf b k) (endOf b k)
-      (partOf m) (partOf m + 512) (omega arith) (omega arith) (omega arith) (omega arith) h in
+      let z =
+      carry-alike (t .write) on (partOf m) index (first a) (size - first a) (startOf b k) (endOf b k) (partOf m)
+      (partOf m + 512) (omega arith) (omega arith) (omega arith) (omega arith) h in
       record {
         done = v .done;
         range = agree-trans (agree-sym (z .memory)) (agree-trans (v .range) y);
         reads = λ w.
-            sym (front-same n (partOf m) (partOf m) (partOf m + 512) (z .bufferLength) (z .buffer) (omega arith) (omega arith))
+            sym (front-same size (partOf m) (partOf m) (partOf m + 512) (z .bufferLength) (z .buffer) (omega arith) (omega arith))
             ∙ v .reads w
             ∙ g;
       }
 
   -- ---- the first cycle: the whole step is taken on the byte memory
 
-  whole-step : (write : Bool) (on : ℕ → Bool) (d : Store) (words bytes : List ℕ) → length (d .memory) ≡ length bytes
+  whole-step : (write : Bool) (lanes : ℕ → Bool) (d : Store) (words bytes : List ℕ) → length (d .memory) ≡ length bytes
       → Agree (startOf b k) (endOf b k) (d .memory) bytes
-      → (write ≡ true → (i : ℕ) → i < bytesHeld b m t → getD (d .buffer) (partOf m + i) 0 ≡ getD words i 0)
-      → Agree (startOf b k) (endOf b k) (carry write on (partOf m) (placeAt b k t) 0 (bytesHeld b m t) d .memory)
-      (cond write (move on words 0 (placeAt b k t) 0 (bytesHeld b m t) bytes) bytes)
+      → (write ≡ true → (i : ℕ) → i < size → getD (d .buffer) (partOf m + i) 0 ≡ getD words i 0)
+      → Agree (startOf b k) (endOf b k) (carry write lanes (partOf m) index 0 size d .memory)
+      (cond write (move lanes words 0 index 0 size bytes) bytes)
   unfolding carry
-  whole-step true on d words bytes l g h =
-      move-agree on (d .buffer) words (partOf m) 0 (placeAt b k t) 0 (bytesHeld b m t) (startOf b k) (endOf b k) l g
+  whole-step true lanes d words bytes l g h =
+      move-agree lanes (d .buffer) words (partOf m) 0 index 0 size (startOf b k) (endOf b k) l g
       (λ i x y. rw zero-add (h refl i (omega arith)))
-  whole-step false on d words bytes l g h = g
+  whole-step false lanes d words bytes l g h = g
 
-  whole-length : (write : Bool) (on : ℕ → Bool) (words bytes : List ℕ)
-      → length (cond write (move on words 0 (placeAt b k t) 0 (bytesHeld b m t) bytes) bytes) ≡ length bytes
-  whole-length true on words bytes = length-move on words 0 (placeAt b k t) 0 (bytesHeld b m t) bytes
-  whole-length false on words bytes = refl
+  whole-length : (write : Bool) (lanes : ℕ → Bool) (words bytes : List ℕ)
+      → length (cond write (move lanes words 0 index 0 size bytes) bytes) ≡ length bytes
+  whole-length true lanes words bytes = length-move lanes words 0 index 0 size bytes
+  whole-length false lanes words bytes = refl
 
-  whole-apart : (lo hi : ℕ) → Apart (startOf b k) (endOf b k) lo hi → (write : Bool) (on : ℕ → Bool) (words bytes : List ℕ)
-      → Agree lo hi (cond write (move on words 0 (placeAt b k t) 0 (bytesHeld b m t) bytes) bytes) bytes
-  whole-apart lo hi h true on words bytes =
-      let p = lies .low in
-      let q = lies .high in
-      move-apart on words 0 (placeAt b k t) 0 (bytesHeld b m t) lo hi bytes
-      (⊎-elim (λ (x : endOf b k ≤ lo). inl (omega arith)) (λ (x : hi ≤ startOf b k). inr (omega arith)) h)
-  whole-apart lo hi h false on words bytes = agree-refl lo hi bytes
+  whole-apart : (lo hi : ℕ) → Apart (startOf b k) (endOf b k) lo hi → (write : Bool) (lanes : ℕ → Bool) (words bytes : List ℕ)
+      → Agree lo hi (cond write (move lanes words 0 index 0 size bytes) bytes) bytes
+  whole-apart lo hi h true lanes words bytes =
+      move-apart lanes words 0 index 0 size lo hi bytes (apart-from lo hi 0 size (omega arith) h)
+  whole-apart lo hi h false lanes words bytes = agree-refl lo hi bytes
 
-  whole-front : (write : Bool) (on : ℕ → Bool) (d : Store) → length (d .memory) ≡ memoryLength b
+  whole-front : (write : Bool) (lanes : ℕ → Bool) (d : Store) → length (d .memory) ≡ memoryLength b
       → length (d .buffer) ≡ bufferLength → write ≡ false
-      → front (bytesHeld b m t) (partOf m) (carry write on (partOf m) (placeAt b k t) 0 (bytesHeld b m t) d .buffer)
-      ≡ front (bytesHeld b m t) (placeAt b k t) (d .memory)
+      → front size (partOf m) (carry write lanes (partOf m) index 0 size d .buffer) ≡ front size index (d .memory)
   unfolding carry
-  whole-front true on d l f e = absurd (true≢false e)
-  whole-front false on d l f e =
+  whole-front true lanes d l f e = absurd (true≢false e)
+  whole-front false lanes d l f e =
       let x = lies .few in
       let y = lies .high in
       let z = lies .inside in
       let w = lies .known in
-      front-moved (d .memory) (placeAt b k t) (partOf m) (bytesHeld b m t) (d .buffer) (omega arith) (omega arith)
+      front-moved (d .memory) index (partOf m) size (d .buffer) (omega arith) (omega arith)
 
   module _ (d : Store) (r : Reference) (asked : Asked b d r m t) (target : targetOf b m (t .address) ≡ k) where
-    pub bytes-in : bytesIn b (r .request m) ≡ bytesHeld b m t
+    pub bytes-in : bytesIn b (r .request m) ≡ size
     unfolding bytesIn
     bytes-in = λ i. asked .transfer i .beats * masterAt b (asked .master i) .width
 
-    place-of : indexInMemory b (r .request m) ≡ placeAt b k t
+    index-of : indexInMemory b (r .request m) ≡ indexAt b k t
     unfolding indexInMemory slaveFor
-    place-of =
-        let e : indexInMemory b (r .request m) ≡ placeAt b (targetOf b m (t .address)) t =
-        λ i. placeAt b (targetOf b (asked .master i) (asked .transfer i .address)) (asked .transfer i) in
+    index-of =
+        let e : indexInMemory b (r .request m) ≡ indexAt b (targetOf b m (t .address)) t =
+        λ i. indexAt b (targetOf b (asked .master i) (asked .transfer i .address)) (asked .transfer i) in
         e ∙ rw target
 
     step-bytes : bytesAfter b (r .request m) (r .bytes)
-        ≡ cond (t .write)
-        (move (enabled (masterAt b m) t) (r .request m .words) 0 (placeAt b k t) 0 (bytesHeld b m t) (r .bytes)) (r .bytes)
+        ≡ cond (t .write) (move on (r .request m .words) 0 index 0 size (r .bytes)) (r .bytes)
     unfolding bytesAfter
     step-bytes =
-        rw (bytes-in, place-of)
+        rw (bytes-in, index-of)
         (λ i.
         cond (asked .transfer i .write)
-        (move (enabled (masterAt b (asked .master i)) (asked .transfer i)) (r .request m .words) 0 (placeAt b k t) 0
-        (bytesHeld b m t) (r .bytes))
+        (move (enabled (masterAt b (asked .master i)) (asked .transfer i)) (r .request m .words) 0 index 0 size
+        (r .bytes))
         (r .bytes))
 
     pub step-length : length (bytesAfter b (r .request m) (r .bytes)) ≡ length (r .bytes)
-    step-length = rw step-bytes (whole-length (t .write) (enabled (masterAt b m) t) (r .request m .words) (r .bytes))
+    step-length = rw step-bytes (whole-length (t .write) on (r .request m .words) (r .bytes))
 
     pub step-apart : (lo hi : ℕ) → Apart (startOf b k) (endOf b k) lo hi
         → Agree lo hi (bytesAfter b (r .request m) (r .bytes)) (r .bytes)
-    step-apart lo hi h =
-        rw step-bytes (whole-apart lo hi h (t .write) (enabled (masterAt b m) t) (r .request m .words) (r .bytes))
+    step-apart lo hi h = rw step-bytes (whole-apart lo hi h (t .write) on (r .request m .words) (r .bytes))
 
-    step-given : given b (r .request m) (r .bytes) ≡ front (bytesHeld b m t) (placeAt b k t) (r .bytes)
+    step-given : given b (r .request m) (r .bytes) ≡ front size index (r .bytes)
     unfolding given
-    step-given = rw (bytes-in, place-of)
+    step-given = rw (bytes-in, index-of)
 
-    words-there : t .write ≡ true → (i : ℕ) → i < bytesHeld b m t
+    words-there : t .write ≡ true → (i : ℕ) → i < size
         → getD (d .buffer) (partOf m + i) 0 ≡ getD (r .request m .words) i 0
     words-there e i h =
-        let n : length (r .request m .words) ≡ bytesHeld b m t = asked .many ∙ rw e in
+        let n : length (r .request m .words) ≡ size = asked .many ∙ rw e in
         sym (front-at (length (r .request m .words)) (partOf m) (d .buffer) i (omega arith)) ∙ rw (asked .there)
 
     pub served-begins : length (d .memory) ≡ memoryLength b → length (d .buffer) ≡ bufferLength
@@ -280,9 +287,9 @@ module _ (b : Board) (k m : ℕ) (t : Transfer) (lies : Lies b m k t) where
     served-begins l f n g = record {
       done = omega arith;
       range = rw (rest-whole, step-bytes)
-          (whole-step (t .write) (enabled (masterAt b m) t) d (r .request m .words) (r .bytes) (l ∙ sym n) g words-there);
+          (whole-step (t .write) on d (r .request m .words) (r .bytes) (l ∙ sym n) g words-there);
       reads = λ e.
           rw (rest-whole, eq-eqb m m refl, step-given)
-          (whole-front (t .write) (enabled (masterAt b m) t) d l f e
-          ∙ front-same (bytesHeld b m t) (placeAt b k t) (startOf b k) (endOf b k) (l ∙ sym n) g (lies .low) (lies .high));
+          (whole-front (t .write) on d l f e
+          ∙ front-same size index (startOf b k) (endOf b k) (l ∙ sym n) g (lies .low) (lies .high));
     }
