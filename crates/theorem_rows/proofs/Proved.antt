@@ -1,22 +1,27 @@
--- Every row holds: each side computes to the same.
+-- Every example of Rows and of Examples holds: each side computes to the same.
 -- Assumes nothing.
 use mathlib.Core.Path.{refl}
 use lib.Count.{ones, onesIn, trailingZeros}
 use Rattle.common_laws.specs.Bytes.{bytesOf}
 use Rattle.common_laws.specs.Bits.{bit}
 use Rattle.common_laws.specs.Lists.{member, same, gather, table, sum, every, some, firstFrom, first}
-use Rattle.common_text.specs.Fields.{push, split, isDigit, scan, shaped, numberOf, numberRefusal, numberValue, noNumbers, withNumber, collect, numbersOf}
+use Rattle.common_text.specs.Fields.{push, split, isDigit, scan, shaped, numberOf, numberRefusal, numberValue, noNumbers}
+use Rattle.common_text.specs.Fields.{withNumber, collect, numbersOf}
 use Rattle.common_text.specs.Digits.{digitsIn, digits, fieldsText, lineText}
 use Rattle.description_board.specs.Records.{noBoard, connected, totalSpan, startOf, memoryLength}
-use Rattle.description_board.specs.Rules.{slaveValues, meets, overlaps, masterRefusal, slaveRefusal, shareRefusal, itemRefusal, withMaster, withSlave, withShare, withItem, isShare, refused, start, taken, step, stepAll, finish, described}
+use Rattle.description_board.specs.Rules.{slaveValues, meets, overlaps, masterRefusal, slaveRefusal, shareRefusal, itemRefusal}
+use Rattle.description_board.specs.Rules.{withMaster, withSlave, withShare, withItem, isShare, refused, start, taken, step}
+use Rattle.description_board.specs.Rules.{stepAll, finish, described}
 use Rattle.description_board.specs.Items.{masterItem, slaveItem, shareItem, items, boardRefusal}
 use Rattle.description_lines.specs.Writer.{itemText, itemsText}
 use Rattle.description.specs.Writer.{writeText}
-use Rattle.description_lines.specs.Reader.{masterLine, slaveLine, shareLine, itemOfFields, itemOf, unended, itemsOfPieces, itemsOf}
+use Rattle.description_lines.specs.Reader.{masterLine, slaveLine, shareLine, itemOfFields, itemOf, unended, itemsOfPieces}
+use Rattle.description_lines.specs.Reader.{itemsOf}
 use Rattle.description.specs.Reader.{mostBytes, reading, readText}
 use Rattle.fabric_lanes.specs.Lanes.{lowest, adjacent, legalLanes, postLanes}
 use Rattle.fabric_accesses.specs.Decoding.{agrees, selects, targetOf}
-use Rattle.fabric_accesses.specs.Accesses.{ratio, accesses, accessBytes, firstByte, accessOffset, wordOffset, writeLanes, slaveLanes, waitOf, ownLength}
+use Rattle.fabric_accesses.specs.Accesses.{ratio, accesses, accessBytes, firstByte, accessOffset, wordOffset, writeLanes}
+use Rattle.fabric_accesses.specs.Accesses.{slaveLanes, waitOf, ownLength}
 use Rattle.fabric_accesses.specs.Runs.{runLimit, placeOf, runOf}
 use Rattle.fabric_arbiter.specs.Choosing.{nextMaster, tried, firstRequester}
 use Rattle.fabric_arbiter.specs.Granting.{kept, grantTo, granted, arbiterAfter}
@@ -24,12 +29,16 @@ use Rattle.fabric_bytes.specs.Moving.{move}
 use Rattle.fabric_bytes.specs.Bytes.{postedWords, enabled, memoryIndex, written, fetched, carriedAccess}
 use Rattle.fabric_state.specs.Records.{noState}
 use Rattle.fabric_state.specs.Posting.{wrongBeats, unaligned, wrongLanes, unmapped, passesEnd, transferRefusalBy, transferRefusal}
-use Rattle.fabric_state.specs.Soundness.{requests, soundTransfer, soundOwner, soundRemaining, soundService, soundRest, soundSlotBy, soundSlot, sound}
-use Rattle.fabric_state.specs.Control.{grantAt, slotBy, slotGranted, slotAfterGrant, lineOf, waits, slotWaiting, slotAccessed, slotFinished, served, stepOf, lineAfter, slotAfter, finishes, finished, maskOf, transferAfter, stateAfter, linesOf}
+use Rattle.fabric_state.specs.Posting.{withTransfer}
+use Rattle.fabric_state.specs.Soundness.{requests, soundTransfer, soundOwner, soundRemaining, soundService, soundRest}
+use Rattle.fabric_state.specs.Soundness.{soundSlotBy, soundSlot, sound}
+use Rattle.fabric_state.specs.Control.{grantAt, slotBy, slotGranted, slotAfterGrant, lineOf, waits, slotWaiting, slotAccessed}
+use Rattle.fabric_state.specs.Control.{slotFinished, served, stepOf, lineAfter, slotAfter, finishes, finished, maskOf}
+use Rattle.fabric_state.specs.Control.{transferAfter, stateAfter, linesOf}
 use Rattle.fabric_state.specs.Carrying.{carriesOut, carried, carriedBy, storeAfter}
 use Rattle.fabric_state.specs.Resetting.{resetState, stateAtReset}
-use Rattle.fabric_state.specs.Posting.{withTransfer}
-use Rattle.fabric.specs.Calls.{reset, wrongWords, requestRefusal, postRefusalBy, postRefusal, post, bufferAfterPost, clockRefusal, clock, storeAfterClock, afterPost, afterClock}
+use Rattle.fabric.specs.Calls.{reset, wrongWords, requestRefusal, postRefusalBy, postRefusal, post, bufferAfterPost, clockRefusal}
+use Rattle.fabric.specs.Calls.{clock, storeAfterClock, afterPost, afterClock}
 use Rattle.wait_turns.specs.Waits as quoted
 use Rattle.wait.specs.Calls.{quoteRefusal, quoteOf}
 use Rattle.wait.specs.Answers.{bytes64, pairBytes, pairRefusal, waitRefusal, waitOutput}
@@ -38,27 +47,36 @@ use Rattle.theorem_rows.specs.RowCalls.{runs, started, lineNow, phases, 
 use Rattle.theorem_rows.specs.Examples.{readAnswers, slaveAnswers, Examples}
 use Rattle.theorem_rows.specs.Rows.{boardText, sharesText, tableOutput, Rows}
 
--- one list of definitions for both tables
+-- one list of definitions for both tables, crate by crate
 proved : Rows × Examples
 unfolding
-    ones onesIn trailingZeros bytesOf bit member same gather table sum every some firstFrom first
-    push split isDigit scan shaped numberOf numberRefusal numberValue noNumbers withNumber collect numbersOf digitsIn digits fieldsText lineText
-    noBoard connected totalSpan startOf memoryLength
-    slaveValues meets overlaps masterRefusal slaveRefusal shareRefusal itemRefusal withMaster withSlave withShare withItem isShare
-    refused start taken step stepAll finish described masterItem slaveItem shareItem items boardRefusal
-    masterLine slaveLine shareLine itemOfFields itemOf unended itemsOfPieces itemsOf mostBytes reading readText
-    lowest adjacent legalLanes postLanes agrees selects targetOf
-    ratio accesses accessBytes firstByte accessOffset wordOffset writeLanes slaveLanes waitOf ownLength runLimit placeOf runOf
-    nextMaster tried firstRequester kept grantTo granted arbiterAfter move postedWords enabled memoryIndex written fetched carriedAccess
-    noState wrongBeats unaligned wrongLanes unmapped passesEnd transferRefusalBy transferRefusal
-    requests soundTransfer soundOwner soundRemaining soundService soundRest soundSlotBy soundSlot sound
-    grantAt slotBy slotGranted slotAfterGrant lineOf waits slotWaiting slotAccessed slotFinished served stepOf lineAfter slotAfter finishes
-    finished maskOf transferAfter stateAfter linesOf carriesOut carried carriedBy storeAfter
-    resetState stateAtReset reset wrongWords requestRefusal postRefusalBy postRefusal withTransfer post bufferAfterPost clockRefusal clock storeAfterClock
-    quoted.longestAccess quoted.mostBeats quoted.single quoted.serve quoted.turn quoted.otherTurn quoted.turnsOf quoted.quotedWait quoted.serveOf
-    heading pairLine pairLines tableText tableOf refusedText printed runs started afterPost afterClock lineNow phases grants
-    boardText sharesText tableOutput
-    itemText itemsText writeText bytes64 pairBytes pairRefusal waitRefusal waitOutput quoteRefusal quoteOf readAnswers slaveAnswers
+    ones onesIn trailingZeros
+    bytesOf bit member same gather table sum every some firstFrom first
+    push split isDigit scan shaped numberOf numberRefusal numberValue noNumbers withNumber collect numbersOf digitsIn digits
+    fieldsText lineText
+    noBoard connected totalSpan startOf memoryLength slaveValues meets overlaps masterRefusal slaveRefusal shareRefusal
+    itemRefusal withMaster withSlave withShare withItem isShare refused start taken step stepAll finish described masterItem
+    slaveItem shareItem items boardRefusal
+    itemText itemsText
+    writeText
+    masterLine slaveLine shareLine itemOfFields itemOf unended itemsOfPieces itemsOf
+    mostBytes reading readText
+    lowest adjacent legalLanes postLanes
+    agrees selects targetOf ratio accesses accessBytes firstByte accessOffset wordOffset writeLanes slaveLanes waitOf ownLength
+    runLimit placeOf runOf
+    nextMaster tried firstRequester kept grantTo granted arbiterAfter
+    move postedWords enabled memoryIndex written fetched carriedAccess
+    noState wrongBeats unaligned wrongLanes unmapped passesEnd transferRefusalBy transferRefusal withTransfer requests
+    soundTransfer soundOwner soundRemaining soundService soundRest soundSlotBy soundSlot sound grantAt slotBy slotGranted
+    slotAfterGrant lineOf waits slotWaiting slotAccessed slotFinished served stepOf lineAfter slotAfter finishes finished maskOf
+    transferAfter stateAfter linesOf carriesOut carried carriedBy storeAfter resetState stateAtReset
+    reset wrongWords requestRefusal postRefusalBy postRefusal post bufferAfterPost clockRefusal clock storeAfterClock afterPost
+    afterClock
+    quoted.longestAccess quoted.mostBeats quoted.single quoted.serve quoted.turn quoted.otherTurn quoted.turnsOf
+    quoted.quotedWait quoted.serveOf
+    quoteRefusal quoteOf bytes64 pairBytes pairRefusal waitRefusal waitOutput
+    heading pairLine pairLines tableText tableOf refusedText printed
+    runs started lineNow phases grants readAnswers slaveAnswers boardText sharesText tableOutput
 proved = (
   record {
     sixteen = refl;
