@@ -1,4 +1,4 @@
--- What demand 3 compares: lists of calls, the byte memory of the read claim, and the claim.
+-- What is claimed of every list of calls from a reset (rules 6.1 to 6.11): the list, the byte memory of its reads, the claim.
 -- Assumes nothing.
 use mathlib.Core.Path.{_≡_}
 use mathlib.Core.Bool.{Bool, true, false, cond, _&&_, _||_}
@@ -27,7 +27,7 @@ use Rattle.wait.specs.declared.Quoted.{Quoted}
 use Rattle.wait.specs.Calls.{quoteOf}
 use Rattle.theorem_history.specs.WaitCall.{WaitAnswered}
 
--- ---- the list
+-- ---- the list of calls (rules 6.1 and 6.2)
 
 -- a post or a clock, with everything it was handed
 pub data Call : Type 0 where
@@ -39,7 +39,7 @@ unfoldable pub numberAnswered : Call → ℕ
 numberAnswered (posts b st buffer q) = post b st buffer q .number
 numberAnswered (clocks b st d) = clock b st d .number
 
--- it was handed the description b, and state, memory and buffer as they stood
+-- rule 6.1: it was handed the board b and what stood before it
 unfoldable pub Handed : Board → World → Call → Type 0
 Handed b w (posts b′ st buffer q) = (b′ ≡ b) × (st ≡ w .state) × (buffer ≡ w .store .buffer)
 Handed b w (clocks b′ st d) = (b′ ≡ b) × (st ≡ w .state) × (d ≡ w .store)
@@ -53,43 +53,45 @@ leaves w (posts b st buffer q) =
     }
 leaves w (clocks b st d) = record { state = clock b st d .state; store = storeAfterClock b st d }
 
--- what the next call gets: "a refused one may have been handed anything else, and the next gets what stood before it"
+-- rule 6.1: what the next call is handed; behind a refused call that is what stood before it
 unfoldable pub next : World → Call → World
 next w c = cond (eqb (numberAnswered c) 0) (leaves w c) w
 
+-- what stands behind a list of calls
 unfoldable pub after : World → List Call → World
 after w [] = w
 after w (c ∷ cs) = after (next w c) cs
 
--- "Each post or clock gets the reset's description, and state, memory and buffer as the call before left them"
+-- rule 6.1: each call of the list was handed the board b and what stood before it, unless it was refused
 unfoldable pub History : Board → World → List Call → Type 0
 History b w [] = Unit {0}
 History b w (c ∷ cs) = ((numberAnswered c ≢ 0) ⊎ Handed b w c) × History b (next w c) cs
 
--- "A history starts at a reset not refused", whatever memory and buffer are lent
+-- rule 6.1: where a history begins, behind a reset that is not refused; memory and buffer may be any
 pub record Start (b : Board) (w : World) : Type 0 where
   pub accepted : reset b .number ≡ 0
   pub state : w .state ≡ reset b .state
 
--- the memory and the buffer lent are of their exact lengths
+-- rules 2.1 and 2.2: memory and buffer have the lengths that are asked of them
 pub record Lent (b : Board) (w : World) : Type 0 where
   pub memory : length (w .store .memory) ≡ memoryLength b
   pub buffer : length (w .store .buffer) ≡ bufferLength
 
--- "Only clocks not refused count.": what they answered, in order
+-- rule 6.2: what the clocks that count, those taken, answered, in order
 unfoldable pub answers : List Call → List Clocked
 answers [] = []
 answers (posts b st buffer q ∷ cs) = answers cs
 answers (clocks b st d ∷ cs) = cond (eqb (clock b st d .number) 0) (clock b st d ∷ answers cs) (answers cs)
 
--- "a slave line has phase 1 or 2 and its master as owner"
+-- rule 6.2: the line shows a cycle, waiting or access, of master m
 unfoldable pub owns : ℕ → Line → Bool
 owns m l = (eqb (l .phase) 1 || eqb (l .phase) 2) && eqb (l .owner) m
 
+-- some line of the answer does
 unfoldable pub shows : ℕ → Clocked → Bool
 shows m a = some (λ s. owns m (getD (a .lines) s noLine)) 16
 
--- "whose mask names the master"
+-- rule 6.2: the answer has master m among those finished
 unfoldable pub names : ℕ → Clocked → Bool
 names m a = bit (a .mask) m
 
@@ -98,7 +100,7 @@ unfoldable pub any : (Clocked → Bool) → List Clocked → Bool
 any test [] = false
 any test (a ∷ as′) = test a || any test as′
 
--- the slave of a request
+-- rule 3.6: the slave that a request is for
 unfoldable pub slaveFor : Board → Request → ℕ
 slaveFor b q = targetOf b (q .master) (q .address)
 
@@ -110,15 +112,15 @@ Accepted b w q = post b (w .state) (w .store .buffer) q .number ≡ 0
 unfoldable pub afterPosting : Board → World → Request → World
 afterPosting b w q = leaves w (posts b (w .state) (w .store .buffer) q)
 
--- "let w be the pair's quoted wait": the w of every part of the claim
+-- rule 6.3: the wait w of the request's master at its slave, the same w in every part of the claim
 unfoldable pub waitFor : Board → Request → ℕ
 waitFor b q = quotedWait b (q .master) (slaveFor b q)
 
--- "own length"
+-- rule 5.4: how many clocks the request's transfer takes by itself
 unfoldable pub lengthOf : Board → Request → ℕ
 lengthOf b q = ownLength (masterAt b (q .master)) (slaveAt b (slaveFor b q)) (transferOf q)
 
--- ---- the byte memory of the read claim
+-- ---- the byte memory (rules 6.7 and 6.8)
 
 -- the bytes; each master's last request, whether it still waits for its first cycle, and what its read gave
 pub record Reference : Type 0 where
@@ -127,10 +129,11 @@ pub record Reference : Type 0 where
   pub waiting : ℕ → Bool
   pub given : ℕ → List ℕ
 
+-- f, with x for m
 abbrev pub update : {X : Type 0} → (ℕ → X) → ℕ → X → ℕ → X
 update f m x k = cond (eqb k m) x (f k)
 
--- "The byte memory of the read claim starts as the memory at the reset."
+-- rule 6.7: at the reset, with the memory's own bytes
 unfoldable pub referenceAt : List ℕ → Reference
 referenceAt memory = record {
   bytes = memory;
@@ -139,26 +142,26 @@ referenceAt memory = record {
   given = λ m. [];
 }
 
--- "beats × master width bytes"
+-- how many bytes the request's transfer has
 unfoldable pub bytesIn : Board → Request → ℕ
 bytesIn b q = q .beats * masterAt b (q .master) .width
 
--- "Byte j of beat k lies at the slave's start in memory + address − base + k × master width + j."
+-- rule 6.8: the index in memory of its first byte; the others follow it, beat behind beat
 unfoldable pub indexInMemory : Board → Request → ℕ
 indexInMemory b q = memoryIndex (slaveAt b (slaveFor b q)) (transferOf q) (startOf b (slaveFor b q))
 
--- "A write puts its posted bytes there where lane j is 1; a read .. changes nothing."
+-- rule 6.8: the bytes behind its step: a write has stored its words' bytes of enabled lanes, a read nothing
 unfoldable pub bytesAfter : Board → Request → List ℕ → List ℕ
 bytesAfter b q bytes =
     cond (q .write)
     (move (enabled (masterAt b (q .master)) (transferOf q)) (q .words) 0 (indexInMemory b q) 0 (bytesIn b q) bytes)
     bytes
 
--- "a read gives all its bytes"
+-- rule 6.8: the bytes that a read's step gives
 unfoldable pub given : Board → Request → List ℕ → List ℕ
 given b q bytes = take (bytesIn b q) (drop (indexInMemory b q) bytes)
 
--- "each transfer that has had its first cycle is one whole step": the transfer of master m
+-- rule 6.7: the step, whole, of the transfer of master m
 unfoldable pub stepped : Board → ℕ → Reference → Reference
 stepped b m r = record {
   bytes = bytesAfter b (r .request m) (r .bytes);
@@ -167,7 +170,7 @@ stepped b m r = record {
   given = update (r .given) m (given b (r .request m) (r .bytes));
 }
 
--- the line is the first cycle of its owner's transfer
+-- rule 6.7: what one line makes of it: the step of its owner's transfer, where this is that one's first cycle
 unfoldable pub seen : Board → Line → Reference → Reference
 seen b l r = cond ((eqb (l .phase) 1 || eqb (l .phase) 2) && r .waiting (l .owner)) (stepped b (l .owner) r) r
 
@@ -176,7 +179,7 @@ unfoldable pub times : ℕ → List ℕ → ℕ
 times s [] = 0
 times s (k ∷ ks) = cond (eqb k s) (times s ks + 1) (times s ks)
 
--- "those of one clock are on different slaves and may be taken in any order": it has each slave number, 0 to 15, once, no other
+-- rule 6.7: an order in which the lines of one clock count: any that has each slave number, 0 to 15, once, and no other
 pub record Order : Type 0 where
   pub slaves : List ℕ
   pub once : (s : ℕ) → times s slaves ≡ cond (ltb s 16) 1 0
@@ -186,7 +189,7 @@ unfoldable pub seenAll : Board → List ℕ → List Line → Reference → Refe
 seenAll b [] lines r = r
 seenAll b (s ∷ ss) lines r = seenAll b ss lines (seen b (getD lines s noLine) r)
 
--- "It is fed the posts not refused, and from the clocks' answers only the order"
+-- rule 6.7: what it is told of a post that is taken
 unfoldable pub fedPost : Request → Reference → Reference
 fedPost q r = record {
   bytes = r .bytes;
@@ -195,7 +198,8 @@ fedPost q r = record {
   given = r .given;
 }
 
--- each clock has an order of its own: orders n is that of the clock which n calls of the list follow
+-- rule 6.7: what it is told of a list of calls. Each clock has an order of its own: orders n is that of the clock which n calls
+-- of the list follow
 unfoldable pub fed : Board → (ℕ → Order) → Reference → List Call → Reference
 fed b orders r [] = r
 fed b orders r (posts b′ st buffer q ∷ cs) =
@@ -206,8 +210,8 @@ fed b orders r (clocks b′ st d ∷ cs) =
 
 -- ---- the claim
 
--- a history in which a transfer of master m at slave s has its first cycle at clock w + 1, with the w of the claim, and none
--- before: it waits exactly w
+-- rule 6.5: a history in which a transfer of master m at slave s has its first cycle at clock w + 1, with the w of the claim, and
+-- none before: it waits exactly w
 pub record Exact (b : Board) (start : World) (m s : ℕ) : Type 0 where
   pub before : List Call
   pub request : Request
@@ -225,16 +229,16 @@ pub record Exact (b : Board) (start : World) (m s : ℕ) : Type 0 where
 abbrev pub quoteFor : Board → Request → Quoted
 quoteFor b q = quoteOf b (q .master) (slaveFor b q)
 
--- what the wait calls answer for that pair: `quote_of` on the board, `fabric_wait` on the writer's text of it
+-- rule 6.6: what the wait calls answer for that pair: `quote_of` on the board, `fabric_wait` on the writer's text of it
 pub record Figures (b : Board) (q : Request) : Type 0 where
   pub number : quoteFor b q .number ≡ 0
   pub wait : quoteFor b q .wait ≡ waitFor b q
-  -- "the longest transfer ("serve")": this one is no longer
+  -- the serve is no shorter than this transfer
   pub serve : lengthOf b q ≤ quoteFor b q .serve
   pub text : (out : List ℕ) → 16 ≤ length out
       → WaitAnswered (writeText b) (q .master) (slaveFor b q) (waitFor b q) (quoteFor b q .serve) out
 
--- a transfer of master m at slave s, taken where w stands, that is exactly as long as the serve
+-- rule 6.6: a transfer of master m at slave s, taken where w stands, that is exactly as long as the serve
 pub record Longest (b : Board) (w : World) (m s : ℕ) : Type 0 where
   pub request : Request
   pub accepted : Accepted b w request
@@ -242,32 +246,33 @@ pub record Longest (b : Board) (w : World) (m s : ℕ) : Type 0 where
   pub slave : slaveFor b request ≡ s
   pub lasts : lengthOf b request ≡ quoteFor b request .serve
 
+-- Demand 3: the claim of rules 6.1 to 6.11, whole, about the board b. A run of clocks comes under it by rule 6.11 (ClockRuns).
 pub record Demand3 (b : Board) : Type 0 where
-  -- "the first cycle is no later than clock w + 1 .. once the history has that clock"
+  -- rule 6.3: the first cycle comes at clock w + 1 or before, where the history goes so far
   pub within : (w : World) (before : List Call) (q : Request) (calls : List Call) → Start b w → History b w before
       → Accepted b (after w before) q → History b (afterPosting b (after w before) q) calls
       → waitFor b q + 1 ≤ length (answers calls)
       → any (shows (q .master)) (take (waitFor b q + 1) (answers calls)) ≡ true
-  -- "the finish no later than clock w + own length"
+  -- rule 6.4: likewise the finish, at clock w + own length or before
   pub finished : (w : World) (before : List Call) (q : Request) (calls : List Call) → Start b w → History b w before
       → Accepted b (after w before) q → History b (afterPosting b (after w before) q) calls
       → waitFor b q + lengthOf b q ≤ length (answers calls)
       → any (names (q .master)) (take (waitFor b q + lengthOf b q) (answers calls)) ≡ true
-  -- tight: each connected pair has a transfer that waits exactly w
+  -- rule 6.5: each connected pair has a transfer that waits exactly w
   pub exact : (w : World) (m s : ℕ) → Start b w → Lent b w → m < b .«master_count» → connected b m s ≡ true → Exact b w m s
-  -- "which the wait call answers": for every request that is accepted, wherever it is posted
+  -- rule 6.6: the wait calls answer w, for every request that is accepted, wherever it is posted
   pub quoted : (w : World) (q : Request) → Accepted b w q → Figures b q
-  -- each connected pair has a transfer that lasts exactly its serve
+  -- rule 6.6: each connected pair has a transfer that lasts exactly its serve
   pub longest : (w : World) (m s : ℕ) → Start b w → Lent b w → m < b .«master_count» → connected b m s ≡ true → Longest b w m s
-  -- "As the finishing clock leaves it, the front of its master's part .. equals what the read's step gave."
-  -- with any orders in the clocks before, and any order, last, in the finishing clock
+  -- rule 6.9: a clock that finishes a read leaves, in the first bytes of its master's part, those that the read's step gave; with
+  -- any orders in the clocks before, and any order, last, in this clock
   pub reads : (w : World) (calls : List Call) (orders : ℕ → Order) (last : Order) (m : ℕ) → Start b w → History b w calls
       → let u = after w calls in
       let a = clock b (u .state) (u .store) in
       let r = seenAll b (last .slaves) (a .lines) (fed b orders (referenceAt (w .store .memory)) calls) in
       names m a ≡ true → r .request m .write ≡ false
       → take (bytesIn b (r .request m)) (drop (partOf m) (storeAfterClock b (u .state) (u .store) .buffer)) ≡ r .given m
-  -- a call handed what the history left is refused for nothing of 2 to 9
+  -- rule 6.10: a call that is handed what the history left is refused for nothing of 2 to 9
   pub served : (w : World) (calls : List Call) (q : Request) → Start b w → Lent b w → History b w calls
       → let u = after w calls in
       (clock b (u .state) (u .store) .number ≡ 0)

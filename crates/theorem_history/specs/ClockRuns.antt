@@ -1,4 +1,4 @@
--- A run in a history: "one made of posts and clocks counts as those".
+-- A run of clocks (rule 4.15) in a history: it counts as its clocks (rule 6.11).
 -- Assumes nothing.
 use mathlib.Core.Path.{_≡_}
 use mathlib.Core.List.{List, [], _∷_}
@@ -18,8 +18,8 @@ clockCalls b w (suc n) = clocks b (w .state) (w .store) ∷ clockCalls b (afterC
 abbrev pub runCalls : Board → World → ℕ → List Call
 runCalls b w most = clockCalls b w (run b w most .clocks)
 
--- a run where w stands counts as its clocks: at most so many, a history of their own, none of them refused; what the run leaves
--- is what they leave
+-- rule 6.11: a run where w stands counts as its clocks: at most so many, a history of their own, none of them refused; what the
+-- run leaves is what they leave
 pub record Counts (b : Board) (w : World) (most : ℕ) : Type 0 where
   pub few : run b w most .clocks ≤ most
   pub history : History b w (runCalls b w most)

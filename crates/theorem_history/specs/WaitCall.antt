@@ -1,4 +1,4 @@
--- What the wait call answers for a text.
+-- What the wait call answers for a text (rule 5.8).
 -- Assumes nothing.
 use mathlib.Core.Path.{_≡_}
 use mathlib.Core.List.{List}

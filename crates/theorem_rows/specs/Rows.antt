@@ -1,4 +1,4 @@
--- The rows of document 01 that are marked P, as one table.
+-- The examples of rules 9.1 to 9.6, as one table.
 -- Assumes nothing.
 use mathlib.Core.Path.{_≡_}
 use mathlib.Core.Bool.{true, false}
@@ -16,7 +16,7 @@ use Rattle.fabric_state.specs.Posting.{Request}
 use Rattle.fabric.specs.Calls.{afterPost}
 use Rattle.theorem_rows.specs.RowCalls.{runs, started, phases, grants}
 
--- document 01's board
+-- the board of the examples, in rules section 9
 unfoldable pub boardText : List ℕ
 boardText = bytesOf "master,4,8\nmaster,2,1\nslave,4096,4096,2,8,1,0\nshare,0,0,2\nshare,1,0,3\n"
 
@@ -24,7 +24,7 @@ boardText = bytesOf "master,4,8\nmaster,2,1\nslave,4096,4096,2,8,1,0\nshare,0,0,
 unfoldable pub sharesText : List ℕ
 sharesText = bytesOf "master,4,8\nmaster,2,1\nslave,4096,4096,2,8,1,0\nshare,0,0,3\nshare,1,0,4\n"
 
--- what the table program prints for document 01's board
+-- rule 9.5: what the table program prints for it
 unfoldable pub tableOutput : List ℕ
 tableOutput = bytesOf "master,slave,wait,serve\n0,0,6,32\n1,0,36,2\n"
 
@@ -43,24 +43,29 @@ abbrev pub wordRead : ℕ → ℕ → Request
 wordRead m ones = record { master = m; write = false; address = 4096; lanes = ones; beats = 1; words = [] }
 
 pub record Rows : Type 0 where
-  -- "16 accesses, slave burst 8: runs 8, 8; 14: 8, 6; 16 with burst 1: sixteen of 1"
+  -- rule 9.1: 16 accesses, cut at a slave burst of 8
   pub sixteen : runs (masterWith 4) (slaveWith 4 8) (burstWith 15 16) ≡ 8 ∷ 8 ∷ []
+  -- rule 9.1: 14 accesses; the last run is shorter
   pub fourteen : runs (masterWith 4) (slaveWith 4 8) (burstWith 15 14) ≡ 8 ∷ 6 ∷ []
+  -- rule 9.1: 16 accesses at a slave burst of 1
   pub ones : runs (masterWith 4) (slaveWith 4 1) (burstWith 15 16) ≡ replicate 16 1
-  -- "width 4 master, 3 beats, width 2 slave, burst 4: runs 4, 2"
+  -- rule 9.2: the 6 accesses of 3 beats at a slave half as wide
   pub wider : runs (masterWith 4) (slaveWith 2 4) (burstWith 15 3) ≡ 4 ∷ 2 ∷ []
-  -- "lanes at width 4: binary 1100 legal, 0110 not, 1111 legal, 0000 not"
+  -- rule 9.3: the two upper lanes of four are legal
   pub upperHalf : legalLanes 4 0b1100 ≡ true
+  -- rule 9.3: the two in the middle are not: the lowest of them is no multiple of 2
   pub middle : legalLanes 4 0b0110 ≡ false
+  -- rule 9.3: all four are legal
   pub whole : legalLanes 4 0b1111 ≡ true
+  -- rule 9.3: none at all is not
   pub none : legalLanes 4 0b0000 ≡ false
-  -- "shares 3 and 4, both always posting singles from reset: 0,0,0,1,1,1,1,0"
+  -- rule 9.4: who is granted, with shares 3 and 4, in 21 clocks in which both masters always hold a single
   pub shares :
       grants (readText sharesText .board) (wordRead 0 0b1111) (wordRead 1 0b11) 21 (started (readText sharesText .board))
       ≡ 0 ∷ 0 ∷ 0 ∷ 1 ∷ 1 ∷ 1 ∷ 1 ∷ 0 ∷ []
-  -- "the two table lines"
+  -- rule 9.5: the table of the board
   pub lines : printed boardText ≡ tableOutput
-  -- "master 0 reads one word alone: phases 1, 2, 1, 2, finished at the fourth clock"
+  -- rule 9.6: a read of one word by master 0, alone: the phase and the mask of each clock
   pub alone :
       phases (readText boardText .board) 4
       (afterPost (readText boardText .board) (started (readText boardText .board)) (wordRead 0 0b1111))

@@ -1,1 +1,1 @@
-// The rows of document 01 that are proved about the definitions.
+// The examples of docs/RULES.md, section 9, proved about the definitions.

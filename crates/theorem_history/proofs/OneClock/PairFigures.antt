@@ -117,7 +117,7 @@ module _ (b : Board) (s : ℕ) (hs : s < b .«slave_count») where
           let e : suc a - 1 ≡ a = omega arith in
           rw (lt-ltb 0 (suc a) (omega arith), e, credit-suc)
 
-  -- the quoted wait is the sum of the turns of all others
+  -- rule 5.7: what the turns of the other masters add up to, as the theory has it
   pub wait-quoted : (m : ℕ) → waits.quotedWait b m s ≡ quoted (b .«master_count») (sharesOf b s) (singleOf b s) (longestOf b s) m
   unfolding waits.quotedWait waits.turnsOf
   wait-quoted m = sum-same _ _ (b .«master_count») (λ j h. other-turn m j)
