@@ -12,7 +12,7 @@ use borrow.Author.Tests.{eqb-true}
 use Rattle.description_board.specs.declared.Board.{Board}
 use Rattle.fabric.specs.Calls.{World, clockRefusal, afterClock}
 use Rattle.fabric.specs.Running.{Run, standing, clockMore, clockOn, run}
-use Rattle.fabric.proofs.RunLaws.{Sized, sized-after, clock-is, store-is, refusal-again}
+use Rattle.fabric.proofs.RunOfClocks.{Sized, sized-after, clock-is, store-is, refusal-again}
 use Rattle.fabric_state.specs.Posting.{Request, transferOf}
 use Rattle.fabric_state.specs.Resetting.{resetState, stateAtReset}
 use Rattle.fabric_state.proofs.StateLaws.{transfers-with, slots-with}

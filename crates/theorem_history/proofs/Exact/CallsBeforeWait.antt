@@ -27,7 +27,7 @@ use Rattle.fabric.specs.Calls.{World}
 use Rattle.fabric_state.proofs.StateLaws.{slot-after, transfer-with, transfer-with-other, transfer-reset, slot-reset}
 use Rattle.fabric_state.proofs.StepLaws.{grant-serving, grant-given, step-rests}
 use Rattle.fabric_state.proofs.SoundLaws.{grant-sound}
-use Rattle.fabric_state.proofs.DecodeLaws.{requests-not}
+use Rattle.fabric_state.proofs.RequestLaws.{requests-not}
 use Rattle.theorem_bounds.proofs.Order.{requester-nobody}
 use Rattle.theorem_history.specs.Claim.{Start, Lent}
 use Rattle.theorem_history.proofs.OneClock.AfterGrant.{leftIn, leftAt, leftNow, ServesNow}

@@ -29,7 +29,7 @@ use Rattle.fabric_state.specs.Records.{transferAt}
 use Rattle.fabric_state.specs.Soundness.{requests}
 use Rattle.fabric_state.specs.Posting.{Request, transferOf, wrongBeats, unaligned, wrongLanes, unmapped, passesEnd}
 use Rattle.fabric_state.specs.Posting.{transferRefusalBy, transferRefusal}
-use Rattle.fabric_state.proofs.DecodeLaws.{requests-of}
+use Rattle.fabric_state.proofs.RequestLaws.{requests-of}
 use Rattle.wait_turns.specs.Waits as waits
 use Rattle.theorem_history.specs.Claim.{slaveFor}
 use Rattle.theorem_history.proofs.OneClock.PairFigures.{singleOf, longestOf, most-some}

@@ -21,7 +21,7 @@ use Rattle.fabric_state.specs.Control.{stateAfter, linesOf}
 use Rattle.fabric_state.specs.Clocking.{clockedOf, refusedClock}
 use Rattle.fabric_state.specs.Carrying.{storeAfter}
 use Rattle.fabric.specs.Calls.{World, postRefusal, post, bufferAfterPost, clockRefusal, clock, storeAfterClock}
-use Rattle.fabric.proofs.RunLaws.{clock-is}
+use Rattle.fabric.proofs.RunOfClocks.{clock-is}
 use Rattle.theorem_history.specs.Claim.{Call, posts, clocks, numberAnswered, Handed, leaves, next, after, History, answers}
 use Rattle.theorem_history.specs.Claim.{names, Reference, Order, seenAll, fedPost, fed}
 

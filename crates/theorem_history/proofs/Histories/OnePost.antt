@@ -19,7 +19,7 @@ use Rattle.fabric.proofs.PostLaws as posts
 use Rattle.fabric_state.proofs.Sound.{Sound}
 use Rattle.fabric_state.proofs.CycleLaws.{leftOf, left-resting}
 use Rattle.fabric_state.proofs.StateLaws.{slot-with, transfer-with-other}
-use Rattle.fabric_state.proofs.DecodeLaws.{requests-held}
+use Rattle.fabric_state.proofs.RequestLaws.{requests-held}
 use Rattle.fabric_state.proofs.SoundLaws.{requests-same}
 use Rattle.theorem_history.proofs.OneClock.PairFigures.{potOf}
 use Rattle.theorem_history.proofs.OneClock.AfterGrant.{leftIn, leftAt}

@@ -22,7 +22,7 @@ use Rattle.fabric_state.proofs.Sound.{Sound}
 use Rattle.fabric_state.proofs.CycleLaws.{leftOf, left-resting, Cycle, cycle}
 use Rattle.fabric_state.proofs.StepLaws.{step-rests}
 use Rattle.fabric_state.proofs.StateLaws.{slot-after}
-use Rattle.fabric_state.proofs.DecodeLaws.{Accepted, accepted-at, requests-held, requests-selects}
+use Rattle.fabric_state.proofs.RequestLaws.{Accepted, accepted-at, requests-held, requests-selects}
 use Rattle.fabric_state.proofs.SoundLaws.{grant-sound, served-kept}
 use Rattle.theorem_bounds.proofs.Credit.{credit-zero}
 use Rattle.theorem_bounds.proofs.Potential.{some-grant, grant-turn, grant-falls, grant-next}

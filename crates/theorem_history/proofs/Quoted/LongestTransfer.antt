@@ -15,7 +15,7 @@ use Rattle.fabric_state.proofs.StateLaws.{transfer-reset}
 use Rattle.wait_turns.specs.Waits.{serveOf}
 use Rattle.wait.specs.declared.Quoted.{Quoted}
 use Rattle.wait.specs.Calls.{quoteOf}
-use Rattle.wait.proofs.AnswerLaws.{quote-connected}
+use Rattle.wait.proofs.LookUpLaws.{quote-connected}
 use Rattle.theorem_history.specs.Claim.{Start, Lent, Accepted, slaveFor, lengthOf, Longest}
 use Rattle.theorem_history.proofs.OneClock.PairFigures.{connected-pair}
 use Rattle.theorem_history.proofs.Histories.OnePost.{Taken}

@@ -15,7 +15,7 @@ use Rattle.fabric.specs.Calls.{World, post}
 use Rattle.wait_turns.specs.Waits.{quotedWait, serveOf}
 use Rattle.wait.specs.declared.Quoted.{Quoted}
 use Rattle.wait.specs.Calls.{quoteOf}
-use Rattle.wait.proofs.AnswerLaws.{quote-connected}
+use Rattle.wait.proofs.LookUpLaws.{quote-connected}
 use Rattle.theorem_history.specs.Claim.{Accepted, slaveFor, waitFor, lengthOf, Figures}
 use Rattle.theorem_history.proofs.OneClock.PairFigures.{accepted-long}
 use Rattle.theorem_history.proofs.Histories.OnePost.{Taken, post-taken}

@@ -24,7 +24,7 @@ use Rattle.fabric_state.specs.declared.Line.{Line}
 use Rattle.fabric_state.specs.Records.{transferAt, slotAt, noLine}
 use Rattle.fabric_state.specs.Control.{slotAfterGrant, lineOf, stepOf, linesOf}
 use Rattle.fabric_state.proofs.Sound.{Sound}
-use Rattle.fabric_state.proofs.DecodeLaws.{Accepted, accepted, requests-held, requests-target}
+use Rattle.fabric_state.proofs.RequestLaws.{Accepted, accepted, requests-held, requests-target}
 use Rattle.fabric_state.proofs.StateLaws.{line-after, line-after-past}
 use Rattle.fabric_state.proofs.StepLaws.{Outcome, rests, waiting, works, ends, outcome}
 use Rattle.fabric_state.proofs.SoundLaws.{grant-sound}

@@ -36,7 +36,7 @@ use Rattle.fabric_state.proofs.StateLaws.{slot-with}
 use Rattle.fabric_state.proofs.SoundLaws.{post-sound}
 use Rattle.theorem_history.specs.Claim.{Call, after, History, Start, Lent, names, Reference, referenceAt, bytesIn, Order}
 use Rattle.theorem_history.specs.Claim.{seenAll, fedPost, fed}
-use Rattle.fabric.proofs.RunLaws.{clock-is, store-is}
+use Rattle.fabric.proofs.RunOfClocks.{clock-is, store-is}
 use Rattle.theorem_history.proofs.Histories.CallCases.{TakesPost, TakesClock, withPost, withClock, named-taken, feeds}
 use Rattle.theorem_history.proofs.Histories.LentLengths.{clock-lent, lent-before}
 use Rattle.theorem_history.proofs.Histories.OnePost.{Taken, post-taken}

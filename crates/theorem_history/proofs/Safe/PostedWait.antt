@@ -17,7 +17,7 @@ use Rattle.fabric_state.specs.Records.{transferAt, slotAt}
 use Rattle.fabric_state.specs.Posting.{Request, transferOf, withTransfer}
 use Rattle.fabric.specs.Calls.{World}
 use Rattle.fabric_state.proofs.StateLaws.{transfer-with, slot-with}
-use Rattle.fabric_state.proofs.DecodeLaws.{Accepted, accepted, requests-of}
+use Rattle.fabric_state.proofs.RequestLaws.{Accepted, accepted, requests-of}
 use Rattle.theorem_bounds.proofs.Potential.{pot-quoted}
 use Rattle.theorem_history.specs.Claim.{slaveFor, waitFor, lengthOf}
 use Rattle.theorem_history.proofs.OneClock.PairFigures.{sharesOf, singleOf, longestOf, wait-quoted}
