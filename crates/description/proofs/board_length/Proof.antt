@@ -24,6 +24,13 @@ abbrev μ-loop : tie.MeasureT-loop
 entry-count-requires : tie.Need-entry-count-requires Inv-loop μ-loop
 entry-count-requires c κs = search needs
 
+-- where the call starts, of the loop's turn; that turn, of a place where a line was measured
+abbrev start : tie.At-loop Inv-loop μ-loop → tie.Start Inv-loop μ-loop
+start c = c .before .before
+
+abbrev turn : tie.After-item-length Inv-loop μ-loop → tie.At-loop Inv-loop μ-loop
+turn c = c .before .before .before
+
 loop-holds : tie.Need-loop-holds Inv-loop μ-loop
 unfolding linesTo gather itemsText
 loop-holds c = (omega arith, refl)
@@ -35,15 +42,15 @@ item-length-requires : tie.Need-item-length-requires Inv-loop μ-loop
 item-length-requires c κs = search needs
 
 add-sum : tie.Need-add-sum Inv-loop μ-loop
-add-sum c = let l = c .before .before .before .loop in
-    let b = boardIn (c .before .before .before .before .before .args .board .now) in
+add-sum c = let l = turn c .loop in
+    let b = boardIn (start (turn c) .args .board .now) in
     omega (
       arith,
       l .inv .1,
       lines-fit b (l .k),
       item-fits (c .before .line-at .result),
-      c .before .before .before .before .entry-count .ensures,
-      few-places b (c .before .before .before .before .before .pre),
+      turn c .before .entry-count .ensures,
+      few-places b (start (turn c) .pre),
     )
 
 add-k : tie.Need-add-k Inv-loop μ-loop
@@ -53,7 +60,7 @@ loop-less : tie.Need-loop-less Inv-loop μ-loop
 loop-less c = search needs
 
 loop-again : tie.Need-loop-again Inv-loop μ-loop
-loop-again c = let l = c .before .before .before .loop in
+loop-again c = let l = turn c .loop in
     let e = ap (λ x. length (itemText x)) (c .before .line-at .ensures) in (
       omega arith,
       omega (
@@ -61,8 +68,7 @@ loop-again c = let l = c .before .before .before .loop in
         l .inv .1,
         e,
         c .item-length .ensures,
-        length-next
-            (boardIn (c .before .before .before .before .before .args .board .now)) (l .k),
+        length-next (boardIn (start (turn c) .args .board .now)) (l .k),
       ),
     )
 

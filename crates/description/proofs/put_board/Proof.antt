@@ -23,6 +23,10 @@ abbrev μ-loop : tie.MeasureT-loop
 entry-count-requires : tie.Need-entry-count-requires Inv-loop μ-loop
 entry-count-requires c κs = search needs
 
+-- where the call starts, of the loop's turn
+abbrev start : tie.At-loop Inv-loop μ-loop → tie.Start Inv-loop μ-loop
+start c = c .before .before .before
+
 loop-holds : tie.Need-loop-holds Inv-loop μ-loop
 unfolding linesTo gather itemsText
 loop-holds c = (omega arith, put-none _ _)
@@ -31,8 +35,10 @@ line-at-requires : tie.Need-line-at-requires Inv-loop μ-loop
 line-at-requires c κs = search needs
 
 put-item-requires : tie.Need-put-item-requires Inv-loop μ-loop
-put-item-requires c κs = let l = c .before .before .before .loop in
-    let s = c .before .before .before .before .before .before in
+put-item-requires c κs =
+    let turn = c .before .before .before in
+    let l = turn .loop in
+    let s = start turn in
     let e = put-length (l .inv .1) in
     rw (c .before .line-at .ensures)
     (omega (
@@ -40,7 +46,7 @@ put-item-requires c κs = let l = c .before .before .before .loop in
       l .inv .1 .end,
       s .pre,
       room-next (boardIn (s .args .board .now)) (l .k)
-          (omega (arith, c .before .before .before .before .entry-count .ensures)),
+          (omega (arith, turn .before .entry-count .ensures)),
     ))
 
 add-k : tie.Need-add-k Inv-loop μ-loop
@@ -50,10 +56,14 @@ loop-less : tie.Need-loop-less Inv-loop μ-loop
 loop-less c = search needs
 
 loop-again : tie.Need-loop-again Inv-loop μ-loop
-loop-again c = let l = c .before .before .before .before .before .before .loop in
-    let b = boardIn (c .before .before .before .before .before .before .before .before .before .args .board .now) in
-    let item = c .before .before .before .before .line-at in
-    (omega arith, put-next b (l .k) (l .inv .1) (rw (item .ensures) at (c .before .before .put-item .ensures)))
+loop-again c =
+    let item = c .before .before .before .before in
+    let turn = item .before .before in
+    let l = turn .loop in
+    let b = boardIn (start turn .args .board .now) in (
+      omega arith,
+      put-next b (l .k) (l .inv .1) (rw (item .line-at .ensures) at (c .before .before .put-item .ensures)),
+    )
 
 same-length : tie.Need-same-length Inv-loop μ-loop
 same-length c = put-length (c .before .loop .inv .1)

@@ -16,8 +16,8 @@ copy-requires c κs = search needs
 
 returns-2 : tie.Need-returns-2
 returns-2 c =
-    read-taken _ _ _ (c .before .before .before .before .before .read-bounded .ensures) _ _
-    (c .before .before .before .if1 .left) (c .copy .ensures)
+    let taken = c .before .before .before in
+    read-taken _ _ _ (taken .before .before .read-bounded .ensures) _ _ (taken .if1 .left) (c .copy .ensures)
 
 pub read-spec : {M : Type 1} → statement M
 read-spec = tie.close (tie.spec read-bounded-requires returns copy-requires returns-2)

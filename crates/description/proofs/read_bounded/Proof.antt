@@ -30,9 +30,10 @@ step-requires c κs = search needs
 returns-2 : tie.Need-returns-2
 unfolding mostBytes
 returns-2 c =
-    let zeros = ap (readingOf _) (c .before .before .before .before .before .pre) ∙ c .before .start .ensures in
-    comes-long (c .before .before .before .before .before .args .text .now) _ _
-    (omega (arith, c .before .before .before .if1 .left))
+    let long = c .before .before .before in
+    let start = long .before .before in
+    let zeros = ap (readingOf _) (start .pre) ∙ c .before .start .ensures in
+    comes-long (start .args .text .now) _ _ (omega (arith, long .if1 .left))
     (c .step .ensures ∙ ap (λ (r : Reading). step r Malformed) zeros)
 
 pub read-bounded-spec : {M : Type 1} → statement M

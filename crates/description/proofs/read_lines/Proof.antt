@@ -20,6 +20,10 @@ abbrev μ-loop : tie.MeasureT-loop
 start-requires : tie.Need-start-requires Inv-loop μ-loop
 start-requires c κs = search needs
 
+-- the loop's turn in which a line was taken
+abbrev turn : tie.After-step Inv-loop μ-loop → tie.At-loop Inv-loop μ-loop
+turn c = c .before .before .before .before
+
 loop-holds : tie.Need-loop-holds Inv-loop μ-loop
 loop-holds c = counted-none _ _ (ap (readingOf _) (c .before .before .pre) ∙ c .start .ensures)
 
@@ -34,18 +38,20 @@ step-requires c κs = search needs
 
 returns : tie.Need-returns Inv-loop μ-loop
 unfolding readingOf
-returns c = let l = c .before .before .before .before .before .before .loop in
+returns c = let taken = c .before .before in
+    let l = turn taken .loop in
     whole-comes _ _ _ _ (counted-refused _ _ _ (l .line) (l .at) (l .inv) _ _
-    (c .before .before .before .before .line-from .ensures) (c .before .before .step .ensures) (c .if1 .taken))
+    (taken .before .before .line-from .ensures) (taken .step .ensures) (c .if1 .taken))
 
 loop-less : tie.Need-loop-less Inv-loop μ-loop
 loop-less c = let f = c .before .before .before .before .line-from .ensures in omega (arith, f .onward, f .within)
 
 loop-again : tie.Need-loop-again Inv-loop μ-loop
 unfolding readingOf
-loop-again c = let l = c .before .before .before .before .before .before .loop in
-    counted-next _ _ _ (l .line) (l .at) (l .inv) _ _ (c .before .before .before .before .line-from .ensures)
-    (c .before .before .step .ensures) (c .if1 .left)
+loop-again c = let taken = c .before .before in
+    let l = turn taken .loop in
+    counted-next _ _ _ (l .line) (l .at) (l .inv) _ _ (taken .before .before .line-from .ensures) (taken .step .ensures)
+    (c .if1 .left)
 
 finish-requires : tie.Need-finish-requires Inv-loop μ-loop
 finish-requires c κs = search needs

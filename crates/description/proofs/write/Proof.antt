@@ -38,9 +38,11 @@ board-length-requires c κs = search needs
 
 returns-2 : tie.Need-returns-2
 unfolding longest
-returns-2 c = let a = c .before .before .before .before .before .args in
+returns-2 c =
+    let judged = c .before .before .before in
+    let a = judged .before .before .args in
     let b = boardIn (a .board .now) in
-    let accepted = sym (c .before .before .before .board-refusal .ensures) ∙ c .before .before .if1 .left in
+    let accepted = sym (judged .board-refusal .ensures) ∙ c .before .before .if1 .left in
     promised b (a .out .now) _ (omega arith)
     (room-refused b _ accepted (omega (arith, c .before .board-length .ensures, c .if2 .taken)))
 
@@ -52,15 +54,17 @@ same-length c = search needs
 
 returns-3 : tie.Need-returns-3
 unfolding longest
-returns-3 c = let a = c .before .before .before .before .before .before .before .before .before .args in
+returns-3 c =
+    let room = c .before .before .before .before in
+    let judged = room .before .before .before in
+    let a = judged .before .before .args in
     let b = boardIn (a .board .now) in
-    let accepted = sym (c .before .before .before .before .before .before .before .board-refusal .ensures) ∙
-    c .before .before .before .before .before .before .if1 .left in
+    let accepted = sym (judged .board-refusal .ensures) ∙ room .before .before .if1 .left in
     promised b (a .out .now) _ (omega arith)
     (text-written b _ accepted _ _ (omega (
       arith,
-      c .before .before .before .before .before .board-length .ensures,
-      c .before .before .before .before .if2 .left,
+      room .before .board-length .ensures,
+      room .if2 .left,
     )) (c .before .before .put-board .ensures))
 
 pub write-spec : {M : Type 1} → statement M

@@ -45,11 +45,12 @@ shares-fit-requires c κs = search needs
 
 returns-5 : tie.Need-returns-5
 returns-5 c =
-    λ e. parts-accepted _ _ _ (c .before .before .before .before .before .before .before .before .master-count .ensures)
-    (c .before .before .before .before .before .before .before .slave-count .ensures)
-    (counted _ 8 (c .before .before .before .before .before .before .if1 .left))
-    (counted _ 16 (c .before .before .before .before .before .if2 .left))
-    (c .before .before .before .before .masters-fit .ensures (not-false _ (c .before .before .before .if3 .left)))
+    let masters = c .before .before .before .before in
+    let counts = masters .before in
+    let second = counts .before .before in
+    λ e. parts-accepted _ _ _ (second .before .master-count .ensures) (second .slave-count .ensures)
+    (counted _ 8 (counts .before .if1 .left)) (counted _ 16 (counts .if2 .left))
+    (masters .masters-fit .ensures (not-false _ (c .before .before .before .if3 .left)))
     (c .before .before .slaves-fit .ensures (not-false _ (c .before .if4 .left))) (c .shares-fit .ensures e)
 
 pub accepts-spec : {M : Type 1} → statement M

@@ -26,6 +26,10 @@ entry-count-requires c κs = search needs
 start-requires : tie.Need-start-requires Inv-loop μ-loop
 start-requires c κs = search needs
 
+-- the loop's turn in which a line was read and added
+abbrev turn : tie.After-add-entry Inv-loop μ-loop → tie.At-loop Inv-loop μ-loop
+turn c = c .before .before .before .before
+
 loop-holds : tie.Need-loop-holds Inv-loop μ-loop
 unfolding stepAll linesTo gather
 loop-holds c = (omega arith, c .start .ensures)
@@ -39,9 +43,10 @@ add-entry-requires c κs = search needs
 returns : tie.Need-returns Inv-loop μ-loop
 unfolding readingOf
 returns c =
-    check-stops _ _ _ (omega (arith, c .before .before .before .before .before .before .before .before .entry-count .ensures))
-    (run-next _ _ _ _ _ (c .before .before .before .before .before .before .loop .inv .1)
-    (c .before .before .before .before .line-at .ensures) (c .before .before .add-entry .ensures)) (c .if1 .taken)
+    let added = c .before .before in
+    check-stops _ _ _ (omega (arith, turn added .before .before .entry-count .ensures))
+    (run-next _ _ _ _ _ (turn added .loop .inv .1) (added .before .before .line-at .ensures) (added .add-entry .ensures))
+    (c .if1 .taken)
 
 add-k : tie.Need-add-k Inv-loop μ-loop
 add-k c = search needs
@@ -50,10 +55,9 @@ loop-less : tie.Need-loop-less Inv-loop μ-loop
 loop-less c = search needs
 
 loop-again : tie.Need-loop-again Inv-loop μ-loop
-loop-again c = (
+loop-again c = let added = c .before .before in (
   omega arith,
-  run-next _ _ _ _ _ (c .before .before .before .before .before .before .loop .inv .1)
-      (c .before .before .before .before .line-at .ensures) (c .before .before .add-entry .ensures),
+  run-next _ _ _ _ _ (turn added .loop .inv .1) (added .before .before .line-at .ensures) (added .add-entry .ensures),
 )
 
 finish-requires : tie.Need-finish-requires Inv-loop μ-loop
@@ -61,9 +65,10 @@ finish-requires c κs = search needs
 
 returns-2 : tie.Need-returns-2 Inv-loop μ-loop
 unfolding readingOf
-returns-2 c = let e = c .before .before .before .before .before .entry-count .ensures in
-    ap (λ (x : Reading). x .number) (c .finish .ensures) ∙ check-ends _ _ _ (omega (arith, e))
-    (c .before .before .before .loop .inv .1)
+returns-2 c =
+    let l = c .before .before .before in
+    let e = l .before .before .entry-count .ensures in
+    ap (λ (x : Reading). x .number) (c .finish .ensures) ∙ check-ends _ _ _ (omega (arith, e)) (l .loop .inv .1)
 
 pub board-refusal-by-lines-spec : {M : Type 1} → statement M
 board-refusal-by-lines-spec =

@@ -39,10 +39,10 @@ loop-less : tie.Need-loop-less Inv-loop μ-loop
 loop-less c = search needs
 
 loop-again : tie.Need-loop-again Inv-loop μ-loop
-loop-again c = (
+loop-again c = let read = c .before .before .before in (
   omega arith,
-  master-next _ _ _ _ _ (c .before .before .before .master-at .ensures) (c .before .before .width-fits .ensures)
-      (c .before .burst-fits .ensures) (c .if1 .left) (c .before .before .before .before .before .loop .inv .1),
+  master-next _ _ _ _ _ (read .master-at .ensures) (c .before .before .width-fits .ensures)
+      (c .before .burst-fits .ensures) (c .if1 .left) (read .before .before .loop .inv .1),
 )
 
 returns-2 : tie.Need-returns-2 Inv-loop μ-loop

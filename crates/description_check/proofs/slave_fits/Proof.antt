@@ -17,8 +17,9 @@ span-fits-requires c κs = search needs
 
 returns : tie.Need-returns
 returns c =
-    slave-passed (c .before .before .before .before .before .args .s) _ _ _ (omega arith) (c .span-fits .ensures)
-    (c .before .before .width-fits .ensures) (c .before .burst-fits .ensures)
+    let start = c .before .before .before .before .before in
+    slave-passed (start .args .s) _ _ _ (omega arith) (c .span-fits .ensures) (c .before .before .width-fits .ensures)
+    (c .before .burst-fits .ensures)
 
 pub slave-fits-spec : {M : Type 1} → statement M
 slave-fits-spec =

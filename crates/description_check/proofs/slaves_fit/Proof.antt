@@ -60,15 +60,15 @@ loop-less : tie.Need-loop-less Inv-loop μ-loop
 loop-less c = search needs
 
 loop-again : tie.Need-loop-again Inv-loop μ-loop
-loop-again c = (
-  omega arith,
-  so-far-next _ _ _ _ _ _ (c .before .before .before .before .before .before .before .before .slave-at .ensures)
-      (c .before .before .before .before .before .before .before .before .before .before .loop .inv .1)
-      (c .before .before .before .before .before .before .before .slave-fits .ensures
-      (not-false _ (c .before .before .before .before .before .before .if1 .left))) (omega arith)
-      (c .before .before .before .before .before .clear-of .ensures
-      (not-false _ (c .before .before .before .before .if2 .left))) (c .before .later .ensures),
-)
+loop-again c =
+    let clear = c .before .before .before .before in
+    let fits = clear .before .before in
+    let read = fits .before .before in (
+      omega arith,
+      so-far-next _ _ _ _ _ _ (read .slave-at .ensures) (read .before .before .loop .inv .1)
+          (fits .before .slave-fits .ensures (not-false _ (fits .if1 .left))) (omega arith)
+          (clear .before .clear-of .ensures (not-false _ (clear .if2 .left))) (c .before .later .ensures),
+    )
 
 returns-3 : tie.Need-returns-3 Inv-loop μ-loop
 returns-3 c = λ e. so-far-end _ _ _ _ _ (c .before .loop .inv .1) (omega arith) (leb-true _ _ e)

@@ -25,11 +25,12 @@ refused-requires c κs = search needs
 returns-2 : tie.Need-returns-2
 unfolding finish readingOf
 returns-2 c =
-    let none = eq-eqb _ _ (c .before .before .before .before .before .before .before .if1 .left) in
+    let counted = c .before .before .before in
+    let none = eq-eqb _ _ (counted .before .before .before .before .if1 .left) in
     rw (
       none,
-      ← c .before .before .before .before .before .master-count .ensures,
-      ← c .before .before .before .slave-count .ensures,
+      ← counted .before .before .master-count .ensures,
+      ← counted .slave-count .ensures,
       c .before .before .if2 .taken,
     )
     (c .refused .ensures)
@@ -37,8 +38,9 @@ returns-2 c =
 returns-3 : tie.Need-returns-3
 unfolding finish readingOf
 returns-3 c =
-    let none = eq-eqb _ _ (c .before .before .before .before .before .if1 .left) in
-    rw (none, ← c .before .before .before .master-count .ensures, ← c .before .slave-count .ensures, c .if2 .left)
+    let counted = c .before in
+    let none = eq-eqb _ _ (counted .before .before .before .before .if1 .left) in
+    rw (none, ← counted .before .before .master-count .ensures, ← counted .slave-count .ensures, c .if2 .left)
 
 pub finish-spec : {M : Type 1} → statement M
 finish-spec =

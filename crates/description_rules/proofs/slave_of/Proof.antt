@@ -19,10 +19,16 @@ cast-t5 : tie.Need-cast-t5
 cast-t5 c = let v = values-fit _ (c .before .before .before .before .pre) in omega arith
 
 cast-t6 : tie.Need-cast-t6
-cast-t6 c = let v = values-fit _ (c .before .before .before .before .before .pre) in omega arith
+cast-t6 c =
+    let start = c .before .before .before .before .before in
+    let v = values-fit _ (start .pre) in
+    omega arith
 
 cast-t7 : tie.Need-cast-t7
-cast-t7 c = let v = values-fit _ (c .before .before .before .before .before .before .pre) in omega arith
+cast-t7 c =
+    let start = c .before .before .before .before .before .before in
+    let v = values-fit _ (start .pre) in
+    omega arith
 
 returns : tie.Need-returns
 returns c = search needs

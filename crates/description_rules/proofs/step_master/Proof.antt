@@ -24,8 +24,9 @@ refused-requires c κs = search needs
 returns : tie.Need-returns
 unfolding itemRefusal readingOf
 returns c =
-    line-refused _ _ _ _ _ (c .before .before .before .before .before .pre)
-    (c .before .before .before .master-refusal .ensures) (c .before .before .if1 .taken) (c .refused .ensures)
+    let judged = c .before .before .before in
+    line-refused _ _ _ _ _ (judged .before .before .pre) (judged .master-refusal .ensures) (c .before .before .if1 .taken)
+    (c .refused .ensures)
 
 cast-put-master : tie.Need-cast-put-master
 cast-put-master c = let t = fits (c .before) in omega arith
@@ -38,8 +39,9 @@ put-master-requires c κs = fits (c .before) .room
 
 returns-2 : tie.Need-returns-2
 returns-2 c =
-    master-added _ _ _ _ _ (c .before .before .before .before .before .pre)
-    (c .before .before .before .master-refusal .ensures) (c .before .before .if1 .left) (c .put-master .ensures)
+    let judged = c .before .before .before in
+    master-added _ _ _ _ _ (judged .before .before .pre) (judged .master-refusal .ensures) (c .before .before .if1 .left)
+    (c .put-master .ensures)
 
 pub step-master-spec : {M : Type 1} → statement M
 step-master-spec =

@@ -14,11 +14,15 @@ use Rattle.description_layout.specs.Layout.{boardIn}
 use Rattle.description_rules.proofs.step_share.Statement.{statement}
 use Rattle.description_rules.proofs.step_share.Tie as tie
 
+-- where the call starts, of a place behind the test of the line
+abbrev start : tie.Else1 → tie.Start
+start c = c .before .before .before
+
 -- the line is not refused, and its share has a place
-fits : (c : tie.Else1) → let a = c .before .before .before .args in ShareTaken (boardIn (a .board .now)) (a .m) (a .s) (a .shares)
+fits : (c : tie.Else1) → let a = start c .args in ShareTaken (boardIn (a .board .now)) (a .m) (a .s) (a .shares)
 fits c = share-taken _ _ _ _ (sym (c .before .share-refusal .ensures) ∙ c .if1 .left)
 
-inside : (c : tie.Then2) → let a = c .before .before .before .before .before .args in 16 * a .m + a .s < 128
+inside : (c : tie.Then2) → let a = start (c .before .before) .args in 16 * a .m + a .s < 128
 inside c = ltb-true _ _ (sym (c .before .in-table .ensures) ∙ c .if2 .taken)
 
 share-refusal-requires : tie.Need-share-refusal-requires
@@ -30,8 +34,9 @@ refused-requires c κs = search needs
 returns : tie.Need-returns
 unfolding itemRefusal readingOf
 returns c =
-    line-refused _ _ _ _ _ (c .before .before .before .before .before .pre) (c .before .before .before .share-refusal .ensures)
-    (c .before .before .if1 .taken) (c .refused .ensures)
+    let judged = c .before .before .before in
+    line-refused _ _ _ _ _ (judged .before .before .pre) (judged .share-refusal .ensures) (c .before .before .if1 .taken)
+    (c .refused .ensures)
 
 in-table-requires : tie.Need-in-table-requires
 in-table-requires c κs = search needs
@@ -50,14 +55,16 @@ put-share-at-requires c κs = inside (c .before)
 
 returns-2 : tie.Need-returns-2
 returns-2 c =
-    share-added _ _ _ _ _ _ (c .before .before .before .before .before .before .before .pre)
-    (c .before .before .before .before .before .share-refusal .ensures) (c .before .before .before .before .if1 .left)
+    let taken = c .before .before .before .before in
+    let judged = taken .before in
+    share-added _ _ _ _ _ _ (judged .before .before .pre) (judged .share-refusal .ensures) (taken .if1 .left)
     (c .put-share-at .ensures)
 
 returns-3 : tie.Need-returns-3
 returns-3 c =
-    share-past _ _ _ _ _ (c .before .before .before .before .before .pre) (c .before .before .before .share-refusal .ensures)
-    (c .before .before .if1 .left) (ltb-false _ _ (sym (c .before .in-table .ensures) ∙ c .if2 .left))
+    let judged = c .before .before .before in
+    share-past _ _ _ _ _ (judged .before .before .pre) (judged .share-refusal .ensures) (c .before .before .if1 .left)
+    (ltb-false _ _ (sym (c .before .in-table .ensures) ∙ c .if2 .left))
 
 pub step-share-spec : {M : Type 1} → statement M
 step-share-spec =

@@ -23,8 +23,9 @@ refused-requires c κs = search needs
 returns : tie.Need-returns
 unfolding itemRefusal readingOf
 returns c =
-    line-refused _ _ _ _ _ (c .before .before .before .before .before .pre) (c .before .before .before .slave-refusal .ensures)
-    (c .before .before .if1 .taken) (c .refused .ensures)
+    let judged = c .before .before .before in
+    line-refused _ _ _ _ _ (judged .before .before .pre) (judged .slave-refusal .ensures) (c .before .before .if1 .taken)
+    (c .refused .ensures)
 
 slave-of-requires : tie.Need-slave-of-requires
 slave-of-requires c κs = fits (c .before) .values
@@ -34,8 +35,9 @@ put-slave-requires c κs = fits (c .before .before) .room
 
 returns-2 : tie.Need-returns-2
 returns-2 c =
-    slave-added _ _ _ _ _ (c .before .before .before .before .before .before .pre)
-    (c .before .before .before .before .slave-refusal .ensures) (c .before .before .before .if1 .left)
+    let taken = c .before .before .before in
+    let judged = taken .before in
+    slave-added _ _ _ _ _ (judged .before .before .pre) (judged .slave-refusal .ensures) (taken .if1 .left)
     (c .before .slave-of .ensures) (c .put-slave .ensures)
 
 pub step-slave-spec : {M : Type 1} → statement M

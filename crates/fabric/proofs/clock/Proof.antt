@@ -17,8 +17,15 @@ use Rattle.fabric.proofs.RunOfClocks.{accepted-board, keeps-rules}
 use Rattle.fabric.proofs.clock.Statement.{statement}
 use Rattle.fabric.proofs.clock.Tie as tie
 
+-- where the call starts; the place where nothing is refused, of the one where the masks are made, and that one, of the cycle's
 abbrev start : tie.After-ready → tie.Start
 start c = c .before .before .before .before .before
+
+abbrev legal : tie.After-request-masks → tie.Else1
+legal c = c .before .before .before
+
+abbrev masked : tie.After-cycle-arg4 → tie.After-request-masks
+masked c = c .before .before .before .before .before
 
 abbrev board : tie.Start → Board
 board c = boardIn (c .args .board .now)
@@ -60,8 +67,8 @@ request-masks-requires c κs = search needs
 
 cycle-requires : tie.Need-cycle-requires
 cycle-requires c κs =
-    let m = c .before .before .before .before .before in
-    let e = m .before .before .before in
+    let masks = masked c in
+    let e = legal masks in
     let r = e .before .before in
     let s = start r in
     let z = taken e in
@@ -69,7 +76,7 @@ cycle-requires c κs =
     let keeps = keeps-rules (board s) (stateIn (before s)) (bytes s) z in
     let exact = exact-lengths (board s) (stateIn (before s)) (bytes s) z in (
       record { board = ok; state = keeps },
-      m .request-masks .ensures ∙ ap (λ (ts : List ℕ). table (requestMask ts) 16) (r .ready .ensures .targets ok keeps),
+      masks .request-masks .ensures ∙ ap (λ (ts : List ℕ). table (requestMask ts) 16) (r .ready .ensures .targets ok keeps),
       exact .0,
       exact .1,
     )
@@ -82,9 +89,8 @@ same-length-2 c = search needs
 
 returns-2 : tie.Need-returns-2
 returns-2 c =
-    let k = c .before .before .before .before in
-    let e = k .before .before .before .before .before .before .before .before .before in
-    clock-taken _ _ _ _ (taken e) (k .cycle .ensures)
+    let cycled = c .before .before .before .before in
+    clock-taken _ _ _ _ (taken (legal (masked (cycled .before)))) (cycled .cycle .ensures)
 
 pub clock-spec : {M : Type 1} → statement M
 clock-spec =

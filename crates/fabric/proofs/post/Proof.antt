@@ -13,6 +13,10 @@ use Rattle.fabric.proofs.PostLaws.{Taken, taken, some-part, words-fit, 
 use Rattle.fabric.proofs.post.Statement.{statement}
 use Rattle.fabric.proofs.post.Tie as tie
 
+-- where the call starts, of the place behind the test of the refusal
+abbrev start : tie.Else1 → tie.Start
+start c = c .before .before .before .before .before
+
 post-refusal-by-requires : tie.Need-post-refusal-by-requires
 post-refusal-by-requires c κs = search needs
 
@@ -20,7 +24,7 @@ returns : tie.Need-returns
 unfolding postRefusal
 returns c = post-refused _ _ _ _ (c .before .post-refusal-by .ensures) (c .if1 .taken)
 
-fits : (c : tie.Else1) → let a = c .before .before .before .before .before .args in
+fits : (c : tie.Else1) → let a = start c .args in
     (boardRefusal (boardIn (a .board .now)) ≡ 0) × (length (a .buffer .now) ≡ bufferLength)
     × Taken (boardIn (a .board .now)) (stateIn (a .state .now)) (a .master)
     (record { held = true; write = a .write; address = a .address; lanes = a .lanes; beats = a .beats }) (length (a .words .now))
@@ -31,7 +35,9 @@ post-words-requires c κs = let f = fits (c .before) in (f .1, some-part _ _ _ (
 
 put-transfer-requires : tie.Need-put-transfer-requires
 put-transfer-requires c κs =
-    let f = fits (c .before .before .before .before .before) in some-part _ _ _ (f .0) (f .2)
+    let accepted = c .before .before .before .before .before in
+    let f = fits accepted in
+    some-part _ _ _ (f .0) (f .2)
 
 same-length : tie.Need-same-length
 same-length c = search needs
@@ -39,9 +45,10 @@ same-length c = search needs
 returns-2 : tie.Need-returns-2
 unfolding postRefusal
 returns-2 c =
-    let w = c .before .before .before .before in
-    let e = w .before .before in
-    post-taken _ _ _ _ (e .before .post-refusal-by .ensures) (e .if1 .left) (c .put-transfer .ensures) (w .post-words .ensures)
+    let words = c .before .before .before .before in
+    let accepted = words .before .before in
+    post-taken _ _ _ _ (accepted .before .post-refusal-by .ensures) (accepted .if1 .left) (c .put-transfer .ensures)
+    (words .post-words .ensures)
 
 pub post-spec : {M : Type 1} → statement M
 post-spec =

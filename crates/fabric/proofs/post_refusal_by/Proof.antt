@@ -19,8 +19,12 @@ use Rattle.fabric.proofs.PostLaws.{refusal-asked}
 use Rattle.fabric.proofs.post_refusal_by.Statement.{statement}
 use Rattle.fabric.proofs.post_refusal_by.Tie as tie
 
+-- where the call starts; the place behind the check of the board and the state, of one behind the test of the state
 abbrev start : tie.After-ready → tie.Start
 start c = c .before .before
+
+abbrev readied : tie.Else3 → tie.After-ready
+readied c = c .before .before .before .before .before
 
 ready-requires : tie.Need-ready-requires
 ready-requires c κs = search needs
@@ -54,7 +58,7 @@ master-count-requires : tie.Need-master-count-requires
 master-count-requires c κs = search needs
 
 asked : (c : tie.Else3)
-    → let a = start (c .before .before .before .before .before) .args in
+    → let a = start (readied c) .args in
     let b = boardIn (a .board .now) in
     let st = stateIn (a .state .now) in
     postRefusalBy b st (a .room) (a .m) (a .t) (a .length)
@@ -65,24 +69,24 @@ asked c = let e = c .before .before in
 
 -- the master is one of the board
 below : (c : tie.Else4)
-    → let a = start (c .before .before .before .before .before .before .before) .args in
+    → let a = start (readied (c .before .before)) .args in
     leb (boardIn (a .board .now) .«master_count») (a .m) ≡ false
 below c =
-    let a = start (c .before .before .before .before .before .before .before) .args in
+    let a = start (readied (c .before .before)) .args in
     let under : a .m < boardIn (a .board .now) .«master_count» = omega (arith, c .before .master-count .ensures, c .if4 .left) in
     lt-leb _ _ under
 
 returns-4 : tie.Need-returns-4
 returns-4 c =
-    let e = c .before .before in
-    let a = start (e .before .before .before .before .before) .args in
+    let keeps = c .before .before in
+    let a = start (readied keeps) .args in
     let above : boardIn (a .board .now) .«master_count» ≤ a .m = omega (arith, c .before .master-count .ensures, c .if4 .taken) in
-    rw (asked e, le-leb _ _ above)
+    rw (asked keeps, le-leb _ _ above)
 
 transfer-at-requires : tie.Need-transfer-at-requires
 transfer-at-requires c κs =
-    let e = c .before .before .before .before .before in
-    omega (arith, c .before .master-count .ensures, c .if4 .left, accepted-legal _ (accepted e) .fewMasters)
+    let keeps = c .before .before in
+    omega (arith, c .before .master-count .ensures, c .if4 .left, accepted-legal _ (accepted (keeps .before .before .before)) .fewMasters)
 
 returns-5 : tie.Need-returns-5
 returns-5 c =
@@ -92,9 +96,9 @@ returns-5 c =
 
 request-refusal-requires : tie.Need-request-refusal-requires
 request-refusal-requires c κs =
-    let f = c .before .before in
-    let e = f .before .before .before .before .before in
-    (accepted e, omega (arith, f .before .master-count .ensures, f .if4 .left))
+    let known = c .before .before in
+    let keeps = known .before .before in
+    (accepted (keeps .before .before .before), omega (arith, known .before .master-count .ensures, known .if4 .left))
 
 returns-6 : tie.Need-returns-6
 returns-6 c =

@@ -33,8 +33,15 @@ Inv-loop board state₀ memory₀ buffer₀ lines₀ most number requests left�
 abbrev μ-loop : tie.MeasureT-loop
 μ-loop board state₀ memory₀ buffer₀ lines₀ most number requests left₀ state memory buffer lines left = left
 
+-- where the call starts; the turn of a clock, and that clock's cycle, of the place behind it
 abbrev start : tie.After-ready Inv-loop μ-loop → tie.Start Inv-loop μ-loop
 start c = c .before .before .before .before .before
+
+abbrev turn : tie.After-cycle-arg4 Inv-loop μ-loop → tie.In-loop Inv-loop μ-loop
+turn c = c .before .before .before .before .before
+
+abbrev cycled : tie.After-slice-known4 Inv-loop μ-loop → tie.After-cycle Inv-loop μ-loop
+cycled c = c .before .before .before .before
 
 abbrev board : tie.Start Inv-loop μ-loop → Board
 board c = boardIn (c .args .board .now)
@@ -99,7 +106,7 @@ loop-holds c =
 
 cycle-requires : tie.Need-cycle-requires Inv-loop μ-loop
 cycle-requires c κs =
-    let i = c .before .before .before .before .before .before .loop .inv in
+    let i = turn c .before .loop .inv in
     let n = passing-lengths _ _ _ _ (i .0) (i .1) in
     (passing-accepts _ _ _ _ (i .0) (i .1), i .1 .asked, n .0, n .1)
 
@@ -121,8 +128,8 @@ same-length-2 c = search needs
 returns-2 : tie.Need-returns-2 Inv-loop μ-loop
 returns-2 c =
     let e = c .before in
-    let k = e .before .before .before .before .before in
-    let t = k .before .before .before .before .before .before in
+    let k = cycled (e .before) in
+    let t = turn (k .before) in
     let i = t .before .loop .inv in
     rw (c .run-answer2 .ensures)
     (passing-finished _ _ _ _ (i .0) (i .1) (t .loop-test .taken) _ _ (k .cycle .ensures) (e .if2 .taken))
@@ -132,8 +139,8 @@ loop-less c = search needs
 
 loop-again : tie.Need-loop-again Inv-loop μ-loop
 loop-again c =
-    let k = c .before .before .before .before .before in
-    let t = k .before .before .before .before .before .before in
+    let k = cycled (c .before) in
+    let t = turn (k .before) in
     let i = t .before .loop .inv in (
       i .0,
       passing-next _ _ _ _ (i .0) (i .1) (t .loop-test .taken) _ _ (k .cycle .ensures) (c .if2 .left),

@@ -8,6 +8,10 @@ use borrow.Author.Needs.{needs}
 use Rattle.fabric_bytes.proofs.carry_access.Statement.{statement}
 use Rattle.fabric_bytes.proofs.carry_access.Tie as tie
 
+-- where the call starts, of a place where the access's first byte is known
+abbrev start : tie.After-first-byte → tie.Start
+start c = c .before .before .before .before .before
+
 sub-place : tie.Need-sub-place
 sub-place c = search needs
 
@@ -28,9 +32,8 @@ cast-count c = search needs
 
 write-access-requires : tie.Need-write-access-requires
 write-access-requires c κs =
-    let call = c .before .before .before .before in
-    writes _ _ _ _ _ _ _ (call .first-byte .ensures) (c .before .before .before .access-bytes .ensures)
-    (call .before .before .before .before .before .pre)
+    let first = c .before .before .before .before in
+    writes _ _ _ _ _ _ _ (first .first-byte .ensures) (c .before .before .before .access-bytes .ensures) (start first .pre)
 
 same-length : tie.Need-same-length
 same-length c = search needs
@@ -46,9 +49,8 @@ returns c =
 
 read-access-requires : tie.Need-read-access-requires
 read-access-requires c κs =
-    let call = c .before .before .before .before in
-    reads _ _ _ _ _ _ _ (call .first-byte .ensures) (c .before .before .before .access-bytes .ensures)
-    (call .before .before .before .before .before .pre)
+    let first = c .before .before .before .before in
+    reads _ _ _ _ _ _ _ (first .first-byte .ensures) (c .before .before .before .access-bytes .ensures) (start first .pre)
 
 same-length-3 : tie.Need-same-length-3
 same-length-3 c = search needs

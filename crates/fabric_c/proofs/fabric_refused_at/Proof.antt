@@ -20,7 +20,8 @@ element-write-line c = search needs
 
 returns : tie.Need-returns
 returns c =
-    let line = c .before .before .before .before .before .args .line .now in
+    let start = c .before .before .before .before .before in
+    let line = start .args .line .now in
     let one : length line ≡ 1 = search needs in
     let put = getD-set-same line 0 (c .refused-at .result .line) 0 (omega (arith, one)) in (
       ap (λ (r : Refusal). r .number) (c .refused-at .ensures),

@@ -8,6 +8,10 @@ use borrow.Author.Needs.{needs}
 use Rattle.fabric_c.proofs.fabric_run.Statement.{statement}
 use Rattle.fabric_c.proofs.fabric_run.Tie as tie
 
+-- where the call starts, of the place behind the run
+abbrev start : tie.After-run → tie.Start
+start c = c .before .before .before .before .before .before .before .before .before .before .before .before .before
+
 count-requires : tie.Need-count-requires
 count-requires c κs = search needs
 
@@ -31,17 +35,16 @@ same-length-2 c = search needs
 
 returns : tie.Need-returns
 returns c =
-    let k = c .before .before .before .before in
-    let a = k .before .before .before .before .before .before .before .before .before .before .before .before .before .args in
-    let clocks = a .clocks .now in
-    let mask = a .mask .now in
+    let passed = c .before .before .before .before in
+    let clocks = start passed .args .clocks .now in
+    let mask = start passed .args .mask .now in
     let one : length clocks ≡ 1 = search needs in
     let other : length mask ≡ 1 = search needs in
     rw (
-      getD-set-same clocks 0 (k .run .result .clocks) 0 (omega (arith, one)),
-      getD-set-same mask 0 (k .run .result .mask) 0 (omega (arith, other)),
+      getD-set-same clocks 0 (passed .run .result .clocks) 0 (omega (arith, one)),
+      getD-set-same mask 0 (passed .run .result .mask) 0 (omega (arith, other)),
     )
-    (k .run .ensures)
+    (passed .run .ensures)
 
 pub fabric-run-spec : {M : Type 1} → statement M
 fabric-run-spec =

@@ -52,6 +52,7 @@ owner-in c = omega (arith, c .before .if1 .left, turn c .before .before .before 
 owner-known : (c : tie.After-struct-known2 Inv-loop μ-loop) → c .before .before .before .slot-at .result .owner < 8
 owner-known c = omega (arith, owner-in c, accepted-legal _ (starting c .pre .board) .fewMasters)
 
+-- the place where that slave's parts are read, of the test of its slot
 abbrev known : tie.After-sound-slot-by Inv-loop μ-loop → tie.After-struct-known2 Inv-loop μ-loop
 known c = c .before .before .before .before .before .before
 
@@ -100,7 +101,7 @@ master-at-requires : tie.Need-master-at-requires Inv-loop μ-loop
 master-at-requires c κs = owner-known (c .before)
 
 slave-at-requires : tie.Need-slave-at-requires Inv-loop μ-loop
-slave-at-requires c κs = place-in (c .before .before .before .before .before .before)
+slave-at-requires c κs = place-in (turn (c .before .before))
 
 transfer-at-requires : tie.Need-transfer-at-requires Inv-loop μ-loop
 transfer-at-requires c κs = owner-known (c .before .before .before)
@@ -113,8 +114,9 @@ element-copy-out-sound-slot-by c = owner-known (c .before .before .before .befor
 
 sound-slot-by-requires : tie.Need-sound-slot-by-requires Inv-loop μ-loop
 sound-slot-by-requires c κs =
-    let k = c .before .before .before .before .before in
-    legal-widths _ (starting k .pre .board) _ _ (owner-in k) (slave-in (turn k)) (c .before .before .before .master-at .ensures)
+    let master = c .before .before .before in
+    let k = master .before .before in
+    legal-widths _ (starting k .pre .board) _ _ (owner-in k) (slave-in (turn k)) (master .master-at .ensures)
     (c .before .before .slave-at .ensures)
 
 returns-2 : tie.Need-returns-2 Inv-loop μ-loop

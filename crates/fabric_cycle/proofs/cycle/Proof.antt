@@ -25,15 +25,15 @@ abbrev μ-loop : tie.MeasureT-loop
 μ-loop board st₀ requests lines₀ memory₀ buffer₀ count finished₀ start₀ s₀ st lines memory buffer finished start s =
     boardIn board .«slave_count» - s
 
--- from a turn back to the function's start, and from its end back to its beginning
+-- from a turn back to the function's start, from the call of the turn back to its beginning, and from its end back to that call
 abbrev start : tie.In-loop Inv-loop μ-loop → tie.Start Inv-loop μ-loop
 start c = c .before .before .before .before .before
 
 abbrev turned : tie.After-struct-known Inv-loop μ-loop → tie.After-turn Inv-loop μ-loop
 turned c = c .before .before .before .before .before .before
 
-abbrev top : tie.After-turn Inv-loop μ-loop → tie.In-loop Inv-loop μ-loop
-top c = c .before .before .before .before .before .before
+abbrev top : tie.After-turn-arg5 Inv-loop μ-loop → tie.In-loop Inv-loop μ-loop
+top c = c .before .before .before .before .before
 
 abbrev board : tie.Start Inv-loop μ-loop → Board
 board c = boardIn (c .args .board .now)
@@ -69,14 +69,14 @@ element-copy-out-turn : tie.Need-element-copy-out-turn Inv-loop μ-loop
 element-copy-out-turn c = place-in (c .before)
 
 turn-requires : tie.Need-turn-requires Inv-loop μ-loop
-turn-requires c κs = let a = c .before .before .before .before .before in
+turn-requires c κs = let a = top c in
     let o = start a in
     pass-ready _ _ (transfers-length _) (slots-length _) (o .pre .0) _ (slave-in a) _ _ (a .before .loop .inv) _ (mask-is a)
     (o .pre .2) (o .pre .3)
 
 add-finished : tie.Need-add-finished Inv-loop μ-loop
 add-finished c = let t = c .before .before .before .before in
-    let a = top t in
+    let a = top (t .before) in
     omega (
       arith,
       pass-fits _ _ (transfers-length _) (slots-length _) (start a .pre .0) _ (slave-in a) _ _ (a .before .loop .inv) _
@@ -84,13 +84,13 @@ add-finished c = let t = c .before .before .before .before in
     )
 
 slave-at-requires : tie.Need-slave-at-requires Inv-loop μ-loop
-slave-at-requires c κs = place-in (top (c .before .before .before .before))
+slave-at-requires c κs = let t = c .before .before .before .before in place-in (top (t .before))
 
 cast-start : tie.Need-cast-start Inv-loop μ-loop
 cast-start c = search needs
 
 add-start : tie.Need-add-start Inv-loop μ-loop
-add-start c = let a = top (turned c) in
+add-start c = let a = top (turned c .before) in
     omega (
       arith,
       start-fits _ _ (transfers-length _) (slots-length _) (start a .pre .0) _ (slave-in a) _ _ (a .before .loop .inv) _
@@ -98,14 +98,14 @@ add-start c = let a = top (turned c) in
     )
 
 add-s : tie.Need-add-s Inv-loop μ-loop
-add-s c = omega (arith, place-in (top (turned c)))
+add-s c = omega (arith, place-in (top (turned c .before)))
 
 loop-less : tie.Need-loop-less Inv-loop μ-loop
-loop-less c = omega (arith, slave-in (top (turned c)))
+loop-less c = omega (arith, slave-in (top (turned c .before)))
 
 loop-again : tie.Need-loop-again Inv-loop μ-loop
 loop-again c = let t = turned c in
-    let a = top t in
+    let a = top (t .before) in
     let k = t .turn .kept .1 .1 .1 .1 .1 .1 in
     pass-next _ _ (transfers-length _) (slots-length _) (start a .pre .0) _ (slave-in a) _ _ (a .before .loop .inv) _ (mask-is a)
     _ (t .turn .ensures) (c .before .slave-at .ensures) (k .0) (k .1 .0)

@@ -5,12 +5,15 @@ use borrow.Author.Needs.{needs}
 use Rattle.fabric_cycle.proofs.serve_at.Statement.{statement}
 use Rattle.fabric_cycle.proofs.serve_at.Tie as tie
 
--- from the step back to the start, and from the end of the turn back to the step
+-- from the step back to the start, from the put of the slot back to the step, and from the end of the turn back to that put
 abbrev start : tie.After-serve → tie.Start
 start c = c .before .before .before .before .before .before .before .before .before .before
 
 abbrev stepped : tie.After-put-slot-arg → tie.After-serve
 stepped c = c .before .before .before .before .before .before .before
+
+abbrev put : tie.After-end-transfer → tie.After-put-slot
+put c = c .before .before .before .before
 
 cast-o : tie.Need-cast-o
 cast-o c = search needs
@@ -40,7 +43,7 @@ end-transfer-requires : tie.Need-end-transfer-requires
 end-transfer-requires c κs = start (stepped (c .before .before .before .before)) .pre .owner
 
 weight-of-requires : tie.Need-weight-of-requires
-weight-of-requires c κs = start (stepped (c .before .before .before .before .before)) .pre .owner
+weight-of-requires c κs = start (stepped (put c .before)) .pre .owner
 
 same-length : tie.Need-same-length
 same-length c = search needs
@@ -49,10 +52,12 @@ same-length-2 : tie.Need-same-length-2
 same-length-2 c = search needs
 
 returns : tie.Need-returns
-returns c = let a = stepped (c .before .before .before .before .before .before) in
-    let t = a .before .before .before in
+returns c =
+    let slot = put (c .before) in
+    let step = stepped (slot .before) in
+    let t = step .before .before .before in
     turned-serving _ _ _ _ _ _ (t .before .before .before .master-at .ensures) (t .before .before .slave-at .ensures)
-    (t .transfer-at .ensures) _ _ _ _ _ _ (a .serve .ensures) (c .before .before .before .before .before .put-slot .ensures)
+    (t .transfer-at .ensures) _ _ _ _ _ _ (step .serve .ensures) (slot .put-slot .ensures)
     (c .before .before .before .put-line .ensures) (c .before .end-transfer .ensures) (c .weight-of .ensures)
 
 pub serve-at-spec : {M : Type 1} → statement M

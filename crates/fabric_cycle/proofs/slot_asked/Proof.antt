@@ -83,15 +83,18 @@ slot-granted-requires-3 : tie.Need-slot-granted-requires-3
 slot-granted-requires-3 c κs = search needs
 
 returns-2 : tie.Need-returns-2
-returns-2 c = let a = c .before .before .before .before .before in
+returns-2 c =
+    let told = c .before .before .before in
+    let a = told .before .before in
     asked-again _ _ _ _ (own a) (off a) (masters a) (last a) (a .winner-of .ensures) _
-    (c .before .before .before .enum-told .given .1) (c .before .beats-at .ensures) (c .slot-granted .ensures)
+    (told .enum-told .given .1) (c .before .beats-at .ensures) (c .slot-granted .ensures)
 
 returns-3 : tie.Need-returns-3
-returns-3 c = let a = c .before .before .before .before .before .before in
+returns-3 c =
+    let won = c .before .before .before .before in
+    let a = won .before .before in
     asked-first _ _ _ _ (own a) (off a) (masters a) (last a) (a .winner-of .ensures) _
-    (c .before .before .before .before .w .given .1) (c .before .before .shares-at .ensures)
-    (c .before .beats-at2 .ensures) (c .slot-granted2 .ensures)
+    (won .w .given .1) (c .before .before .shares-at .ensures) (c .before .beats-at2 .ensures) (c .slot-granted2 .ensures)
 
 returns-4 : tie.Need-returns-4
 returns-4 c = let a = c .before .before .before in

@@ -9,9 +9,10 @@ slot-asked-requires : tie.Need-slot-asked-requires
 slot-asked-requires c κs = let o = c .before .before .before in (o .pre .slave, o .pre .small)
 
 serve-at-requires : tie.Need-serve-at-requires
-serve-at-requires c κs = let a = c .before .before .before .before in
-    let g = a .before in
-    serving-as _ _ _ _ (g .slot-asked .ensures) _ (g .before .before .before .before .pre .serves) (a .if1 .taken)
+serve-at-requires c κs =
+    let test = c .before .before .before .before in
+    let asked = test .before in
+    serving-as _ _ _ _ (asked .slot-asked .ensures) _ (asked .before .before .before .before .pre .serves) (test .if1 .taken)
 
 same-length : tie.Need-same-length
 same-length c = search needs
@@ -20,8 +21,10 @@ same-length-2 : tie.Need-same-length-2
 same-length-2 c = search needs
 
 returns : tie.Need-returns
-returns c = let a = c .before .before .before .before in
-    turned-as _ _ _ _ (a .before .before .before .before .before .before .slot-asked .ensures) _ _ _ _ _ _ (a .serve-at .ensures)
+returns c =
+    let served = c .before .before .before .before in
+    let asked = served .before .before .before .before .before .before in
+    turned-as _ _ _ _ (asked .slot-asked .ensures) _ _ _ _ _ _ (served .serve-at .ensures)
 
 put-slot-requires : tie.Need-put-slot-requires
 put-slot-requires c κs = search needs
@@ -30,9 +33,10 @@ put-line-requires : tie.Need-put-line-requires
 put-line-requires c κs = search needs
 
 returns-2 : tie.Need-returns-2
-returns-2 c = let a = c .before .before .before .before in
-    turned-as _ _ _ _ (a .before .slot-asked .ensures) _ _ _ _ _ _
-    (turned-resting _ _ _ _ _ _ _ _ _ (a .if1 .left) (c .before .before .put-slot .ensures) (c .put-line .ensures))
+returns-2 c =
+    let test = c .before .before .before .before in
+    turned-as _ _ _ _ (test .before .slot-asked .ensures) _ _ _ _ _ _
+    (turned-resting _ _ _ _ _ _ _ _ _ (test .if1 .left) (c .before .before .put-slot .ensures) (c .put-line .ensures))
 
 pub turn-spec : {M : Type 1} → statement M
 turn-spec =

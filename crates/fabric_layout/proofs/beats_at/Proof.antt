@@ -18,7 +18,7 @@ element-copy-out-result : tie.Need-element-copy-out-result
 element-copy-out-result c = search needs
 
 returns : tie.Need-returns
-returns c = beats-read _ _ (c .before .pre)
+returns c = beats-read _ _ (search needs)
 
 pub beats-at-spec : {M : Type 1} → statement M
 beats-at-spec =

@@ -63,7 +63,7 @@ element-write-lines-6 : tie.Need-element-write-lines-6
 element-write-lines-6 c = search needs
 
 returns : tie.Need-returns
-returns c = line-put _ (search needs) _ _ (c .before .before .before .pre)
+returns c = line-put _ (search needs) _ _ (search needs)
 
 pub put-line-spec : {M : Type 1} → statement M
 put-line-spec =

@@ -60,7 +60,7 @@ element-write-st-5 : tie.Need-element-write-st-5
 element-write-st-5 c = search needs
 
 returns : tie.Need-returns
-returns c = slot-put _ (search needs) _ _ (c .before .before .before .before .pre) (c .mark-of .ensures)
+returns c = slot-put _ (search needs) _ _ (search needs) (c .mark-of .ensures)
 
 pub put-slot-spec : {M : Type 1} → statement M
 put-slot-spec =

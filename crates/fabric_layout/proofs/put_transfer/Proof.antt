@@ -60,9 +60,7 @@ element-write-st-5 : tie.Need-element-write-st-5
 element-write-st-5 c = search needs
 
 returns : tie.Need-returns
-returns c =
-    let start = c .before .before .before .before .before in
-    transfer-put _ (search needs) _ _ (start .pre) (c .before .mark-of .ensures) (c .mark-of2 .ensures)
+returns c = transfer-put _ (search needs) _ _ (search needs) (c .before .mark-of .ensures) (c .mark-of2 .ensures)
 
 pub put-transfer-spec : {M : Type 1} → statement M
 put-transfer-spec =

@@ -54,7 +54,7 @@ element-copy-out-t28 : tie.Need-element-copy-out-t28
 element-copy-out-t28 c = search needs
 
 returns : tie.Need-returns
-returns c = slot-read _ _ (c .before .before .before .before .before .pre)
+returns c = slot-read _ _ (search needs)
 
 pub slot-at-spec : {M : Type 1} → statement M
 slot-at-spec =

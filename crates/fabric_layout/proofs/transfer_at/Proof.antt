@@ -51,7 +51,7 @@ element-copy-out-t29 : tie.Need-element-copy-out-t29
 element-copy-out-t29 c = search needs
 
 returns : tie.Need-returns
-returns c = transfer-read _ _ (c .before .before .before .before .before .pre)
+returns c = transfer-read _ _ (search needs)
 
 pub transfer-at-spec : {M : Type 1} → statement M
 transfer-at-spec =

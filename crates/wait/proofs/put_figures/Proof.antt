@@ -28,10 +28,11 @@ same-length c = search needs
 
 returns : tie.Need-returns
 returns c =
-    let b = c .before .before in
-    let a = b .before .before .before .before .before in
-    let n = a .before .before .before in
-    figures-put _ _ (n .before .bytes64 .ensures) (n .bytes642 .ensures) (a .put-bytes .ensures) (b .put-bytes2 .ensures)
+    let second = c .before .before in
+    let first = second .before .before .before .before .before in
+    let bytes = first .before .before .before in
+    figures-put _ _ (bytes .before .bytes64 .ensures) (bytes .bytes642 .ensures) (first .put-bytes .ensures)
+    (second .put-bytes2 .ensures)
 
 pub put-figures-spec : {M : Type 1} → statement M
 put-figures-spec =

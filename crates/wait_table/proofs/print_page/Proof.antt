@@ -36,9 +36,9 @@ put-line-requires c κs =
 returns-2 : tie.Need-returns-2
 unfolding bytesOf longestTable
 returns-2 c =
-    let e = c .before .before .before .before .before in
-    let p = e .before .before in
-    page-refused _ _ _ (p .print-table .ensures) (lit≤ tt) (search needs) (e .if1 .left) (c .put-line .ensures)
+    let refused = c .before .before .before .before .before in
+    let printed = refused .before .before in
+    page-refused _ _ _ (printed .print-table .ensures) (lit≤ tt) (search needs) (refused .if1 .left) (c .put-line .ensures)
 
 pub print-page-spec : {M : Type 1} → statement M
 print-page-spec =

@@ -20,12 +20,14 @@ slice-aggregate-put-fields c = search needs
 
 put-fields-requires : tie.Need-put-fields-requires
 unfolding quoteLine
-put-fields-requires c κs = let a = c .before .before .before .before .before .before .before .args in
+put-fields-requires c κs = let start = c .before .before .before .before .before .before .before in
+    let a = start .args in
     omega (arith, line-length (digits (a .m)) (a .s ∷ a .q .wait ∷ a .q .serve ∷ []))
 
 put-end-requires : tie.Need-put-end-requires
 unfolding quoteLine
-put-end-requires c κs = let a = c .before .before .before .before .before .before .before .before .before .before .before .args in
+put-end-requires c κs = let start = c .before .before .before .before .before .before .before .before .before .before .before in
+    let a = start .args in
     omega (arith, line-length (digits (a .m)) (a .s ∷ a .q .wait ∷ a .q .serve ∷ []))
 
 same-length : tie.Need-same-length
@@ -33,10 +35,10 @@ same-length c = search needs
 
 returns : tie.Need-returns
 unfolding quoteLine lineText
-returns c = let e = c .before .before in
-    let f = e .before .before .before .before in
-    let n = f .before .before .before .before .before in
-    put-then (n .put-number .ensures) (put-then (f .put-fields .ensures) (e .put-end .ensures))
+returns c = let end = c .before .before in
+    let fields = end .before .before .before .before in
+    let number = fields .before .before .before .before .before in
+    put-then (number .put-number .ensures) (put-then (fields .put-fields .ensures) (end .put-end .ensures))
 
 pub put-quote-spec : {M : Type 1} → statement M
 put-quote-spec =

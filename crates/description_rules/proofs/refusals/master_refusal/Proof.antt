@@ -5,6 +5,10 @@ use Rattle.description_board.specs.Rules.{masterRefusal}
 use Rattle.description_rules.proofs.refusals.master_refusal.Statement.{statement}
 use Rattle.description_rules.proofs.refusals.master_refusal.Tie as tie
 
+-- the way out behind the first tests, of what comes later
+abbrev ordered : tie.After-member2 → tie.Else1
+ordered c = c .before .before .before .before
+
 master-count-requires : tie.Need-master-count-requires
 master-count-requires c κs = search needs
 
@@ -29,25 +33,29 @@ member-requires-2 c κs = search needs
 
 returns-2 : tie.Need-returns-2
 unfolding masterRefusal
-returns-2 c = rw (
-  ← c .before .before .before .before .before .before .before .master-count .ensures,
-  ← c .before .before .before .before .before .before .slave-count .ensures,
-  c .before .before .before .before .before .if1 .left,
-  ← c .before .before .before .member .ensures,
-  ← c .before .member2 .ensures,
-  c .if2 .taken,
-)
+returns-2 c =
+    let order = ordered (c .before) in
+    rw (
+      ← order .before .before .master-count .ensures,
+      ← order .before .slave-count .ensures,
+      order .if1 .left,
+      ← c .before .before .before .member .ensures,
+      ← c .before .member2 .ensures,
+      c .if2 .taken,
+    )
 
 returns-3 : tie.Need-returns-3
 unfolding masterRefusal
-returns-3 c = rw (
-  ← c .before .before .before .before .before .before .before .master-count .ensures,
-  ← c .before .before .before .before .before .before .slave-count .ensures,
-  c .before .before .before .before .before .if1 .left,
-  ← c .before .before .before .member .ensures,
-  ← c .before .member2 .ensures,
-  c .if2 .left,
-)
+returns-3 c =
+    let order = ordered (c .before) in
+    rw (
+      ← order .before .before .master-count .ensures,
+      ← order .before .slave-count .ensures,
+      order .if1 .left,
+      ← c .before .before .before .member .ensures,
+      ← c .before .member2 .ensures,
+      c .if2 .left,
+    )
 
 pub master-refusal-spec : {M : Type 1} → statement M
 master-refusal-spec =

@@ -19,6 +19,10 @@ Inv-loop board n base span i₀ i = let slaves = boardIn board .slaves in
 abbrev μ-loop : tie.MeasureT-loop
 μ-loop board n base span i₀ i = n - i
 
+-- the loop's turn in which two spans were compared
+abbrev turn : tie.After-meets Inv-loop μ-loop → tie.At-loop Inv-loop μ-loop
+turn c = c .before .before .before
+
 loop-holds : tie.Need-loop-holds Inv-loop μ-loop
 loop-holds c = (search needs, refl)
 
@@ -29,8 +33,9 @@ meets-requires : tie.Need-meets-requires Inv-loop μ-loop
 meets-requires c κs = search needs
 
 returns : tie.Need-returns Inv-loop μ-loop
-returns c = let l = c .before .before .before .before .loop in
-    let a = c .before .before .before .before .before .args in
+returns c = let at = turn (c .before) in
+    let l = at .loop in
+    let a = at .before .args in
     let g = slaves-length (a .board .now) in
     let there = ap (meets (a .base) (a .span)) (sym (c .before .before .slave-at .ensures)) in
     let met = there ∙ sym (c .before .meets .ensures) ∙ c .if1 .taken in
@@ -44,8 +49,9 @@ loop-less : tie.Need-loop-less Inv-loop μ-loop
 loop-less c = search needs
 
 loop-again : tie.Need-loop-again Inv-loop μ-loop
-loop-again c = let l = c .before .before .before .before .loop in
-    let a = c .before .before .before .before .before .args in
+loop-again c = let at = turn (c .before) in
+    let l = at .loop in
+    let a = at .before .args in
     let g = slaves-length (a .board .now) in
     let there = ap (meets (a .base) (a .span)) (sym (c .before .before .slave-at .ensures)) in
     let apart = there ∙ sym (c .before .meets .ensures) ∙ c .if1 .left in

@@ -11,6 +11,10 @@ use Rattle.description_layout.specs.Layout.{boardIn}
 use Rattle.description_rules.proofs.refusals.share_refusal.Statement.{statement}
 use Rattle.description_rules.proofs.refusals.share_refusal.Tie as tie
 
+-- where the call starts, of a place behind the test of the share's value
+abbrev start : tie.Else2 → tie.Start
+start c = c .before .before .before .before
+
 master-count-requires : tie.Need-master-count-requires
 master-count-requires c κs = search needs
 
@@ -29,21 +33,22 @@ cast-if3 : tie.Need-cast-if3
 cast-if3 c = search needs
 
 -- what is left of the definition behind the share's value, and behind the counts
-legal : (c : tie.Else2) → let a = c .before .before .before .before .args in
+legal : (c : tie.Else2) → let a = start c .args in
     let b = boardIn (a .board .now) in
     shareRefusal b (a .m) (a .s) (a .shares)
     ≡ cond (leb (b .«master_count») (a .m) || (leb (b .«slave_count») (a .s) || ltb 0 (sharesAt b (a .m) (a .s)))) 7 0
 unfolding shareRefusal
 legal c = rw (← c .before .before .slave-count .ensures, ne-eqb _ _ (c .before .if1 .left), c .if2 .left)
 
-there : (c : tie.Else4) → let a = c .before .before .before .before .before .before .args in
+there : (c : tie.Else4) → let a = start (c .before .before) .args in
     let b = boardIn (a .board .now) in
     shareRefusal b (a .m) (a .s) (a .shares) ≡ cond (ltb 0 (sharesAt b (a .m) (a .s))) 7 0
 there c =
+    let valued = c .before .before in
     rw (
-      legal (c .before .before),
-      ← c .before .before .before .before .before .master-count .ensures,
-      ← c .before .before .before .before .slave-count .ensures,
+      legal valued,
+      ← valued .before .before .before .master-count .ensures,
+      ← valued .before .before .slave-count .ensures,
       lt-leb _ _ (c .before .if3 .left),
       lt-leb _ _ (c .if4 .left),
     )
@@ -55,13 +60,15 @@ cast-if4 : tie.Need-cast-if4
 cast-if4 c = search needs
 
 returns-4 : tie.Need-returns-4
-returns-4 c = rw (
-  legal (c .before .before),
-  ← c .before .before .before .before .before .master-count .ensures,
-  ← c .before .before .before .before .slave-count .ensures,
-  lt-leb _ _ (c .before .if3 .left),
-  le-leb _ _ (c .if4 .taken),
-)
+returns-4 c =
+    let valued = c .before .before in
+    rw (
+      legal valued,
+      ← valued .before .before .before .master-count .ensures,
+      ← valued .before .before .slave-count .ensures,
+      lt-leb _ _ (c .before .if3 .left),
+      le-leb _ _ (c .if4 .taken),
+    )
 
 mul-share-or-none : tie.Need-mul-share-or-none
 mul-share-or-none c = search needs

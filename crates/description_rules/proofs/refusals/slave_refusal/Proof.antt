@@ -16,6 +16,13 @@ use Rattle.description_layout.specs.Layout.{boardIn}
 use Rattle.description_rules.proofs.refusals.slave_refusal.Statement.{statement}
 use Rattle.description_rules.proofs.refusals.slave_refusal.Tie as tie
 
+-- where the call starts, of a place behind the test of the values; that place, of one where the overlap is looked for
+abbrev start : tie.Else2 → tie.Start
+start c = c .before .before .before .before .before
+
+abbrev valued : tie.After-struct-known3 → tie.Else2
+valued c = c .before .before .before .before
+
 -- the number of slaves, and the values, once they passed their tests
 room : (c : tie.Else1) → boardIn (c .before .before .before .args .board .now) .«slave_count» < 16
 room c =
@@ -25,11 +32,11 @@ room c =
     let l : slaves < 16 = leb-false 16 slaves (neither (c .before .before .before .args .sharing) _ (order .1) .1) in
     omega (arith, c .before .slave-count .ensures)
 
-fits : (c : tie.Else2) → Values (c .before .before .before .before .before .args .n)
+fits : (c : tie.Else2) → Values (start c .args .n)
 fits c = values-fit _ (sym (c .before .slave-values .ensures) ∙ not-false _ (c .if2 .left))
 
 -- what is left of the definition behind the values, and behind the overlap
-legal : (c : tie.Else2) → let a = c .before .before .before .before .before .args in
+legal : (c : tie.Else2) → let a = start c .args in
     let b = boardIn (a .board .now) in
     let earlier = take (b .«slave_count») (b .slaves) in
     slaveRefusal b (a .sharing) (a .n)
@@ -47,15 +54,16 @@ legal c =
     )
 
 apart : (c : tie.Else4) →
-    let a = c .before .before .before .before .before .before .before .before .before .before .before .args in
+    let a = start (valued (c .before .before)) .args in
     let b = boardIn (a .board .now) in
     slaveRefusal b (a .sharing) (a .n)
     ≡ cond (ltb 65536 (totalSpan (take (b .«slave_count») (b .slaves)) + a .n .span)) 6 0
 apart c =
+    let values = valued (c .before .before) in
     rw (
-      legal (c .before .before .before .before .before .before),
+      legal values,
       eq-eqb _ _ (c .before .before .before .before .if3 .left),
-      ← c .before .before .before .before .before .before .before .before .before .slave-count .ensures,
+      ← values .before .before .before .slave-count .ensures,
       ← c .before .overlaps .ensures,
       c .if4 .left,
     )
@@ -96,38 +104,42 @@ cast-overlaps-2 : tie.Need-cast-overlaps-2
 cast-overlaps-2 c = let v = fits (c .before .before .before) in omega arith
 
 cast-overlaps-3 : tie.Need-cast-overlaps-3
-cast-overlaps-3 c = let v = fits (c .before .before .before .before) in omega arith
+cast-overlaps-3 c = let v = fits (valued c) in omega arith
 
 overlaps-requires : tie.Need-overlaps-requires
-overlaps-requires c κs = let l = room (c .before .before .before .before .before .before) in omega arith
+overlaps-requires c κs = let l = room (valued c .before .before) in omega arith
 
 returns-4 : tie.Need-returns-4
-returns-4 c = rw (
-  legal (c .before .before .before .before .before .before),
-  eq-eqb _ _ (c .before .before .before .before .if3 .left),
-  ← c .before .before .before .before .before .before .before .before .before .slave-count .ensures,
-  ← c .before .overlaps .ensures,
-  c .if4 .taken,
-)
+returns-4 c =
+    let values = valued (c .before .before) in
+    rw (
+      legal values,
+      eq-eqb _ _ (c .before .before .before .before .if3 .left),
+      ← values .before .before .before .slave-count .ensures,
+      ← c .before .overlaps .ensures,
+      c .if4 .taken,
+    )
 
 cast-total-span : tie.Need-cast-total-span
 cast-total-span c = search needs
 
 cast-total-span-2 : tie.Need-cast-total-span-2
-cast-total-span-2 c = let v = fits (c .before .before .before .before .before .before .before) in omega arith
+cast-total-span-2 c = let v = fits (valued (c .before .before .before)) in omega arith
 
 total-span-requires : tie.Need-total-span-requires
-total-span-requires c κs = let l = room (c .before .before .before .before .before .before .before .before .before) in omega arith
+total-span-requires c κs = let l = room (valued (c .before .before .before) .before .before) in omega arith
 
 returns-5 : tie.Need-returns-5
 returns-5 c =
-    let count = c .before .before .before .before .before .before .before .before .before .before .before .before .slave-count in
-    rw (apart (c .before .before .before), ← count .ensures, ← c .before .total-span .ensures, lt-ltb _ _ (c .if5 .taken))
+    let clear = c .before .before .before in
+    let count = valued (clear .before .before) .before .before .before .slave-count in
+    rw (apart clear, ← count .ensures, ← c .before .total-span .ensures, lt-ltb _ _ (c .if5 .taken))
 
 returns-6 : tie.Need-returns-6
 returns-6 c =
-    let count = c .before .before .before .before .before .before .before .before .before .before .before .before .slave-count in
-    rw (apart (c .before .before .before), ← count .ensures, ← c .before .total-span .ensures, le-ltb _ _ (c .if5 .left))
+    let clear = c .before .before .before in
+    let count = valued (clear .before .before) .before .before .before .slave-count in
+    rw (apart clear, ← count .ensures, ← c .before .total-span .ensures, le-ltb _ _ (c .if5 .left))
 
 pub slave-refusal-spec : {M : Type 1} → statement M
 slave-refusal-spec =

@@ -26,8 +26,8 @@ member-requires-3 c κs = search needs
 returns : tie.Need-returns
 unfolding slaveValues
 returns c =
-    let l = c .before .before .before .before .before in
-    rw (l .before .before .member .ensures, l .member2 .ensures, c .member3 .ensures)
+    let second = c .before .before .before .before .before in
+    rw (second .before .before .member .ensures, second .member2 .ensures, c .member3 .ensures)
 
 pub slave-values-spec : {M : Type 1} → statement M
 slave-values-spec =

@@ -13,49 +13,63 @@ use Rattle.fabric_check.proofs.RefusalLaws.{width-some, width-most, byt
 use Rattle.fabric_check.proofs.transfers.transfer_refusal_by.Statement.{statement}
 use Rattle.fabric_check.proofs.transfers.transfer_refusal_by.Tie as tie
 
+-- where the call starts, of a place behind the test of the beats; that place, of one where the address is tested; the place
+-- behind the tests up to the slave's, of one where the burst's bytes are counted
+abbrev start : tie.Else1 → tie.Start
+start c = c .before .before .before .before
+
+abbrev counted : tie.After-struct-known5 → tie.Else1
+counted c = c .before .before
+
+abbrev selected : tie.After-struct-known7 → tie.Else4
+selected c = c .before .before
+
+abbrev starting : tie.After-struct-known7 → tie.Start
+starting c = start (counted (selected c .before .before .before .before))
+
 returns : tie.Need-returns
 unfolding transferRefusalBy wrongBeats
 returns c = rw (c .if1 .taken)
 
 sub-if2 : tie.Need-sub-if2
-sub-if2 c = width-some _ (c .before .before .before .before .before .pre)
+sub-if2 c = width-some _ (start (c .before) .pre)
 
 -- what is left of the definition behind the beats, the address, the lanes and the slave
-some-beats : (c : tie.Else1) → let a = c .before .before .before .before .args in
+some-beats : (c : tie.Else1) → let a = start c .args in
     transferRefusalBy (a .ma) (a .sl) (a .t) (a .target) (a .count)
     ≡ cond (unaligned (a .ma) (a .t)) 14
     (cond (wrongLanes (a .ma) (a .t)) 15 (cond (eqb (a .target) (a .count)) 16 (cond (passesEnd (a .ma) (a .sl) (a .t)) 17 0)))
 unfolding transferRefusalBy wrongBeats unmapped
 some-beats c = rw (c .if1 .left)
 
-aligned : (c : tie.Else2) → let a = c .before .before .before .before .before .before .before .args in
+aligned : (c : tie.Else2) → let a = start (counted (c .before)) .args in
     transferRefusalBy (a .ma) (a .sl) (a .t) (a .target) (a .count)
     ≡ cond (wrongLanes (a .ma) (a .t)) 15 (cond (eqb (a .target) (a .count)) 16 (cond (passesEnd (a .ma) (a .sl) (a .t)) 17 0))
 unfolding unaligned
 aligned c =
-    let start = c .before .before .before .before .before .before .before in
-    let a = start .args in
-    let e = sym (over-width (a .t .address) (a .ma .width) (start .pre)) ∙ c .if2 .left in
-    rw (some-beats (c .before .before .before), eq-eqb (a .t .address % a .ma .width) 0 e)
+    let some = counted (c .before) in
+    let a = start some .args in
+    let e = sym (over-width (a .t .address) (a .ma .width) (start some .pre)) ∙ c .if2 .left in
+    rw (some-beats some, eq-eqb (a .t .address % a .ma .width) 0 e)
 
-lanes : (c : tie.Else3) → let a = c .before .before .before .before .before .before .before .before .before .args in
+lanes : (c : tie.Else3) → let a = start (counted (c .before .before .before)) .args in
     transferRefusalBy (a .ma) (a .sl) (a .t) (a .target) (a .count)
     ≡ cond (eqb (a .target) (a .count)) 16 (cond (passesEnd (a .ma) (a .sl) (a .t)) 17 0)
 unfolding wrongLanes
 lanes c = rw (aligned (c .before .before), ← c .before .post-lanes .ensures, c .if3 .left)
 
-mapped : (c : tie.Else4) → let a = c .before .before .before .before .before .before .before .before .before .before .args in
+mapped : (c : tie.Else4) → let a = start (counted (c .before .before .before .before)) .args in
     transferRefusalBy (a .ma) (a .sl) (a .t) (a .target) (a .count) ≡ cond (passesEnd (a .ma) (a .sl) (a .t)) 17 0
 mapped c = rw (lanes (c .before), ne-eqb _ _ (c .if4 .left))
 
 returns-2 : tie.Need-returns-2
 unfolding unaligned
 returns-2 c =
-    let start = c .before .before .before .before .before .before .before in
-    rw (some-beats (c .before .before .before), ne-eqb _ _ (λ e. c .if2 .taken (over-width _ _ (start .pre) ∙ e)))
+    let some = counted (c .before) in
+    rw (some-beats some, ne-eqb _ _ (λ e. c .if2 .taken (over-width _ _ (start some .pre) ∙ e)))
 
 post-lanes-requires : tie.Need-post-lanes-requires
-post-lanes-requires c κs = width-most _ (c .before .before .before .before .before .before .before .pre)
+post-lanes-requires c κs = width-most _ (start (counted (c .before)) .pre)
 
 returns-3 : tie.Need-returns-3
 unfolding wrongLanes
@@ -70,13 +84,10 @@ cast-bytes c = search needs
 cast-bytes-2 : tie.Need-cast-bytes-2
 cast-bytes-2 c = search needs
 
-abbrev starting : tie.After-struct-known7 → tie.Start
-starting c = c .before .before .before .before .before .before .before .before .before .before .before .before
-
 mul-bytes : tie.Need-mul-bytes
 mul-bytes c =
-    let start = starting c in
-    omega (arith, bytes-most (start .args .t .beats) (start .args .ma .width) (omega arith) (start .pre))
+    let call = starting c in
+    omega (arith, bytes-most (call .args .t .beats) (call .args .ma .width) (omega arith) (call .pre))
 
 cast-if5 : tie.Need-cast-if5
 cast-if5 c = search needs
@@ -92,16 +103,16 @@ cast-if5-3 c = search needs
 
 add-if5-2 : tie.Need-add-if5-2
 add-if5-2 c =
-    let start = starting (c .before .before .before) in
-    omega (arith, bytes-most (start .args .t .beats) (start .args .ma .width) (omega arith) (start .pre))
+    let call = starting (c .before .before .before) in
+    omega (arith, bytes-most (call .args .t .beats) (call .args .ma .width) (omega arith) (call .pre))
 
 returns-5 : tie.Need-returns-5
 unfolding passesEnd
-returns-5 c = rw (mapped (c .before .before .before .before .before .before), lt-ltb _ _ (c .if5 .taken))
+returns-5 c = rw (mapped (selected (c .before .before .before .before)), lt-ltb _ _ (c .if5 .taken))
 
 returns-6 : tie.Need-returns-6
 unfolding passesEnd
-returns-6 c = rw (mapped (c .before .before .before .before .before .before), le-ltb _ _ (c .if5 .left))
+returns-6 c = rw (mapped (selected (c .before .before .before .before)), le-ltb _ _ (c .if5 .left))
 
 pub transfer-refusal-by-spec : {M : Type 1} → statement M
 transfer-refusal-by-spec =

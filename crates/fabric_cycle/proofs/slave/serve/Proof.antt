@@ -6,16 +6,23 @@ use borrow.Author.Needs.{needs}
 use Rattle.fabric_cycle.proofs.slave.serve.Statement.{statement}
 use Rattle.fabric_cycle.proofs.slave.serve.Tie as tie
 
+-- from the test of the wait back to the start, and from the place behind the bytes back to that test
+abbrev start : tie.After-waits → tie.Start
+start c = c .before .before .before
+
+abbrev tested : tie.After-carry-from → tie.After-waits
+tested c = c .before .before .before
+
 waits-requires : tie.Need-waits-requires
 waits-requires c κs = search needs
 
 carry-from-requires : tie.Need-carry-from-requires
-carry-from-requires c κs = let a = c .before .before in
-    let o = a .before .before .before in (a .waits .ensures, o .pre .serving, o .pre .reached)
+carry-from-requires c κs = let w = c .before .before in
+    (w .waits .ensures, start w .pre .serving, start w .pre .reached)
 
 served-requires : tie.Need-served-requires
-served-requires c κs = let a = c .before .before .before .before .before .before .before in
-    (a .before .before .before .pre .placed, a .waits .ensures)
+served-requires c κs = let w = tested (c .before .before .before .before) in
+    (start w .pre .placed, w .waits .ensures)
 
 same-length : tie.Need-same-length
 same-length c = search needs
@@ -24,11 +31,11 @@ same-length-2 : tie.Need-same-length-2
 same-length-2 c = search needs
 
 returns : tie.Need-returns
-returns c = let a = c .before .before .before .before .before in
-    let o = a .before .before .before .before .before .before in
+returns c =
+    let carried = c .before .before .before .before .before in
     record {
-      step = c .served .ensures ∙ from-serving _ _ _ _ (o .pre .serving);
-      store = a .carry-from .ensures;
+      step = c .served .ensures ∙ from-serving _ _ _ _ (start (tested carried) .pre .serving);
+      store = carried .carry-from .ensures;
     }
 
 pub serve-spec : {M : Type 1} → statement M
