@@ -68,7 +68,8 @@ module _ {X : Type 0} (f : ℕ → X) (d : X) (n : ℕ) where
       go k h false q = let m = ltb-false k i q in b k m h ∙ sym (front-blank i k m h)
 
   pub front-none : replicate n d ≡ front f d n 0
-  front-none = front-is (replicate n d) 0 (length-replicate n d) (λ k h l. absurd (omega arith)) (λ k h l. getD-replicate-all n k d)
+  front-none =
+      front-is (replicate n d) 0 (length-replicate n d) (λ k h l. absurd (omega arith)) (λ k h l. getD-replicate-all n k d)
 
   pub front-next : (i : ℕ) → i < n → set (front f d n i) i (f i) ≡ front f d n (i + 1)
   front-next i h =

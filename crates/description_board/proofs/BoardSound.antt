@@ -21,7 +21,8 @@ use Rattle.description_board.specs.declared.Item.the-variants.{Malformed
 use Rattle.description_board.specs.declared.Reading.{Reading}
 use Rattle.description_board.specs.Records.{noMaster, noSlave, noBoard, masterAt, slaveAt, totalSpan, startOf, memoryLength}
 use Rattle.description_board.specs.Rules.{slaveValues, slaveOf, meets}
-use Rattle.description_board.specs.Rules.{masterRefusal, slaveRefusal, shareRefusal, itemRefusal, withMaster, withSlave, withShare}
+use Rattle.description_board.specs.Rules.{masterRefusal, slaveRefusal, shareRefusal}
+use Rattle.description_board.specs.Rules.{itemRefusal, withMaster, withSlave, withShare}
 use Rattle.description_board.specs.Rules.{withItem, refused, start, taken, step, stepAll, finish, described}
 use Rattle.description_board.specs.Legal.{LegalMaster, LegalSlave, Legal}
 use Rattle.description_board.proofs.RuleLaws.{values-fit, master-taken, slave-taken, share-taken}
@@ -91,7 +92,8 @@ sound-master b w u e k =
       apart = k .apart;
       total = k .total;
       shares = λ i l n. let p = k .shares i l n in (p .0, omega arith, p .2);
-      masterEnd = λ m l. getD-set-other (b .masters) (b .«master_count») m _ noMaster (omega arith) ∙ k .masterEnd m (omega arith);
+      masterEnd = λ m l.
+          getD-set-other (b .masters) (b .«master_count») m _ noMaster (omega arith) ∙ k .masterEnd m (omega arith);
       slaveEnd = k .slaveEnd;
     }
 

@@ -54,7 +54,8 @@ module _ (b : Board) where
       rw (front-none (masterAt b) noMaster 8, front-none (slaveAt b) noSlave 16, front-none (λ i. getD (b .shares) i 0) 0 128)
 
   -- at the end: the board, trimmed
-  pub read-all : readTo b (b .«master_count») (b .«slave_count») 128 ≡ record { number = 0; sharing = shared b; board = trimmed b }
+  pub read-all : readTo b (b .«master_count») (b .«slave_count») 128
+      ≡ record { number = 0; sharing = shared b; board = trimmed b }
   unfolding readTo shared trimmed front
   read-all = rw (← front-all (λ i. getD (b .shares) i 0) 0 128)
 
@@ -86,7 +87,13 @@ module _ (b : Board) where
         let i : 16 * (k / 16) + k % 16 ≡ k = omega arith in
         rw (share-line b k z)
         (sym (step-taken _ _ refl refl e)
-        ∙ rw (i, front-next (λ i. getD (b .shares) i 0) 0 128 k h, add-one k, lt-ltb 0 (getD (b .shares) k 0) (omega arith), or-true))
+        ∙ rw (
+          i,
+          front-next (λ i. getD (b .shares) i 0) 0 128 k h,
+          add-one k,
+          lt-ltb 0 (getD (b .shares) k 0) (omega arith),
+          or-true,
+        ))
 
 -- lines that lead from one reading to another, and a line that is not refused, where E tells that none was refused
 record Leads (E : Reading → Type 0) (o : Reading) (xs : List Item) (p : Reading) : Type 0 where

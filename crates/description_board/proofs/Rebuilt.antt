@@ -13,7 +13,8 @@ use Rattle.description_board.specs.Rules.{described}
 use Rattle.description_board.specs.Items.{masterItem, slaveItem, shareItem, items, boardRefusal}
 use Rattle.description_board.specs.Rebuilt.{trimmed, shared}
 use Rattle.description_board.proofs.BoardSound.{Sound, described-sound, described-legal}
-use Rattle.description_board.proofs.Accepted.{trimmed-master, trimmed-slave, trimmed-share, accepted-legal, legal-described, legal-accepted}
+use Rattle.description_board.proofs.Accepted.{trimmed-master, trimmed-slave, trimmed-share}
+use Rattle.description_board.proofs.Accepted.{accepted-legal, legal-described, legal-accepted}
 
 module _ (b : Board) (e : boardRefusal b ≡ 0) where
   pub rebuilt : described (items b) ≡ record { number = 0; sharing = shared b; board = trimmed b }
@@ -41,10 +42,13 @@ trimmed-sound : (b : Board) → Sound b → trimmed b ≡ b
 unfolding trimmed front
 trimmed-sound b k =
     rw (
-      ← front-is (masterAt b) noMaster 8 (b .masters) (b .«master_count») (k .masterPlaces) (λ m l h. refl) (λ m l h. k .masterEnd m l),
-      ← front-is (slaveAt b) noSlave 16 (b .slaves) (b .«slave_count») (k .slavePlaces) (λ s l h. refl) (λ s l h. k .slaveEnd s l),
+      ← front-is (masterAt b) noMaster 8 (b .masters) (b .«master_count») (k .masterPlaces) (λ m l h. refl)
+          (λ m l h. k .masterEnd m l),
+      ← front-is (slaveAt b) noSlave 16 (b .slaves) (b .«slave_count») (k .slavePlaces) (λ s l h. refl)
+          (λ s l h. k .slaveEnd s l),
       ← front-all (λ i. getD (b .shares) i 0) 0 128,
-      ← front-is (λ i. getD (b .shares) i 0) 0 128 (b .shares) 128 (k .sharePlaces) (λ i l h. refl) (λ i l h. absurd (omega arith)),
+      ← front-is (λ i. getD (b .shares) i 0) 0 128 (b .shares) 128 (k .sharePlaces) (λ i l h. refl)
+          (λ i l h. absurd (omega arith)),
     )
 
 -- lines that are not refused: the check accepts their board, and its own lines describe it again

@@ -22,7 +22,8 @@ use Rattle.fabric.specs.Calls.{clockRefusal}
 use Rattle.fabric.specs.Running.{Run, standing, clockOn, run}
 use Rattle.fabric.specs.Lent.{Runs}
 use Rattle.fabric.proofs.ClockLaws.{exact-lengths}
-use Rattle.fabric.proofs.RunOfClocks.{Sized, reached, accepted-board, keeps-rules, refusal-again, on-next, on-spent, on-finished}
+use Rattle.fabric.proofs.RunOfClocks.{Sized, reached, accepted-board, keeps-rules}
+use Rattle.fabric.proofs.RunOfClocks.{refusal-again, on-next, on-spent, on-finished}
 
 pub sized : (l : List ℕ) → Sized (stateIn l)
 sized l = record { transfers = transfers-length l; slots = slots-length l }

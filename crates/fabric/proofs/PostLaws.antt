@@ -22,7 +22,8 @@ use Rattle.fabric_accesses.specs.Decoding.{targetOf}
 use Rattle.fabric_bytes.specs.Bytes.{bufferLength, postedWords}
 use Rattle.fabric_state.specs.declared.State.{State}
 use Rattle.fabric_state.specs.Records.{transferAt}
-use Rattle.fabric_state.specs.Posting.{Request, transferOf, wrongBeats, unaligned, wrongLanes, unmapped, passesEnd, transferRefusalBy, transferRefusal, withTransfer}
+use Rattle.fabric_state.specs.Posting.{Request, transferOf, wrongBeats, unaligned, wrongLanes, unmapped}
+use Rattle.fabric_state.specs.Posting.{passesEnd, transferRefusalBy, transferRefusal, withTransfer}
 use Rattle.fabric_state.specs.Soundness.{sound}
 use Rattle.fabric_state.proofs.RequestLaws.{accepted}
 use Rattle.fabric_layout.specs.Layout.{stateIn}
@@ -108,7 +109,12 @@ module _ (b : Board) (m : ℕ) (t : Transfer) where
       unfolding requestRefusal wrongWords
       not-refused x =
           refusal-asked
-          ∙ rw (lt-leb (b .«master_count») m (x .master), x .free, eq-eqb (transferRefusal b m t) 0 (x .fits), eq-eqb bytes _ (x .words))
+          ∙ rw (
+            lt-leb (b .«master_count») m (x .master),
+            x .free,
+            eq-eqb (transferRefusal b m t) 0 (x .fits),
+            eq-eqb bytes _ (x .words),
+          )
 
       pub refused-late : Late (postRefusalBy b st room m t bytes)
       unfolding requestRefusal

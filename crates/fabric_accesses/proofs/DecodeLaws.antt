@@ -24,7 +24,8 @@ span-pos s = rw (s .power) (pow-pos (s .log))
 pub span-eight : {n : ℕ} → Span n → n % 8 ≡ 0
 span-eight s =
     let e : s .log - 3 + 3 ≡ s .log = omega (arith, s .least) in
-    ap (λ (x : ℕ). x % 8) (s .power ∙ ap (λ (x : ℕ). 2 ^ x) (sym e) ∙ pow-add 2 (s .log - 3) 3) ∙ mul-mod-left (2 ^ (s .log - 3)) 8
+    ap (λ (x : ℕ). x % 8) (s .power ∙ ap (λ (x : ℕ). 2 ^ x) (sym e) ∙ pow-add 2 (s .log - 3) 3)
+    ∙ mul-mod-left (2 ^ (s .log - 3)) 8
 
 module _ (sl : Slave) (address : ℕ) (span : Span (sl .span)) (aligned : sl .base % sl .span ≡ 0) where
   pub agrees-within : agrees sl address ≡ true → (sl .base ≤ address) × (address < sl .base + sl .span)

@@ -27,7 +27,8 @@ use Rattle.fabric_state.specs.declared.Slot.{Slot}
 use Rattle.fabric_state.specs.declared.State.{State}
 use Rattle.fabric_state.specs.Records.{transferAt, slotAt}
 use Rattle.fabric_state.specs.Posting.{transferRefusal}
-use Rattle.fabric_state.specs.Soundness.{soundTransfer, soundOwner, soundRemaining, soundService, soundRest, soundSlotBy, soundSlot}
+use Rattle.fabric_state.specs.Soundness.{soundTransfer, soundOwner, soundRemaining}
+use Rattle.fabric_state.specs.Soundness.{soundService, soundRest, soundSlotBy, soundSlot}
 use Rattle.fabric_check.specs.Code.Targets.{heldTarget, targetIn, targetsIn}
 use Rattle.fabric_check.specs.Code.Checks.{soundHeld, Held, Decoded}
 use Rattle.fabric_check.proofs.TargetLaws.{target-requests}

@@ -36,7 +36,8 @@ bytes-most beats width h e = product-le beats width 4294967295 8 h (width-most w
 
 -- a transfer for no slave is not refused for its slave: 16 stands before 17
 refusal-slave : (ma : Master) (slaves : List Slave) (t : Transfer) (target count : ℕ) → target ≤ count → count ≤ 16
-    → transferRefusalBy ma (getD slaves (target % 16) noSlave) t target count ≡ transferRefusalBy ma (getD slaves target noSlave) t target count
+    → transferRefusalBy ma (getD slaves (target % 16) noSlave) t target count
+    ≡ transferRefusalBy ma (getD slaves target noSlave) t target count
 unfolding transferRefusalBy unmapped
 refusal-slave ma slaves t target count h l = go (eqb target count) refl
   where

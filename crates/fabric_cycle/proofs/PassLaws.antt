@@ -148,7 +148,8 @@ module _ (b : Board) (v : State) (s : ℕ) (x : Slot) where
   unfolding stateTurned endedTransfer withTransfer withSlot
   turned-slots = go (stepAt b v s x .finished)
     where
-      go : (c : Bool) → endedTransfer (withSlot v s (stepAt b v s x .slot)) (x .owner) c .slots ≡ set (v .slots) s (stepAt b v s x .slot)
+      go : (c : Bool) → endedTransfer (withSlot v s (stepAt b v s x .slot)) (x .owner) c .slots
+          ≡ set (v .slots) s (stepAt b v s x .slot)
       go true = refl
       go false = refl
 

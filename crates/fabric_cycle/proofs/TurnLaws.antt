@@ -64,9 +64,9 @@ module _ (b : Board) (st : State) (s mask : ℕ) {x : Slot} (own : x ≡ slotAt 
   unfolding slotAsked
   asked-by off e q = q ∙ rw (e, own, rw own at off)
 
-  -- the winnerOf w among n masters, on the record a
-  module _ (off : x .serving ≡ false) {n : ℕ} {a : Arbiter} {w : Winner} (masters : n ≡ b .«master_count») (last : a ≡ arbiterOf x)
-      (won : w ≡ winnerOf n (bit mask) a) where
+  -- the winner w among n masters, on the arbiter a
+  module _ (off : x .serving ≡ false) {n : ℕ} {a : Arbiter} {w : Winner} (masters : n ≡ b .«master_count»)
+      (last : a ≡ arbiterOf x) (won : w ≡ winnerOf n (bit mask) a) where
     chosen : w ≡ winnerOf (b .«master_count») (bit mask) (arbiterOf x)
     chosen = rw (← masters, ← last) won
 
@@ -81,15 +81,16 @@ module _ (b : Board) (st : State) (s mask : ℕ) {x : Slot} (own : x ≡ slotAt 
         → r ≡ slotGranted x (grantBy (arbiterOf x) (First m) y v) → r ≡ slotAsked b st s mask
     asked-first m {y} {v} q f g e =
         asked-by off
-        (first-wins (b .«master_count») (bit mask) (λ m. sharesAt b m s) (λ m. transferAt st m .beats) (arbiterOf x) chosen m y v q
-        f g)
+        (first-wins (b .«master_count») (bit mask) (λ m. sharesAt b m s) (λ m. transferAt st m .beats) (arbiterOf x) chosen m y v
+        q f g)
         (e ∙ ap (λ (z : Winner). slotGranted x (grantBy (arbiterOf x) z y v)) (sym q))
 
     pub asked-none : (y v : ℕ) {r : Slot} → w ≡ NoOne → r ≡ slotGranted x (grantBy (arbiterOf x) w y v)
         → r ≡ slotAsked b st s mask
     asked-none y v q e =
         asked-by off
-        (none-wins (b .«master_count») (bit mask) (λ m. sharesAt b m s) (λ m. transferAt st m .beats) (arbiterOf x) chosen y v q) e
+        (none-wins (b .«master_count») (bit mask) (λ m. sharesAt b m s) (λ m. transferAt st m .beats) (arbiterOf x) chosen y v q)
+        e
 
 -- ---- rules 2 and 3
 

@@ -175,7 +175,8 @@ module _ (l : List ℕ) where
           table-same _ _ 16
               (λ s g. slot-same l (sets l p vs) (40 + 5 * s) (sets-apart vs l p (40 + 5 * s) 5 (inr (omega arith)))),
           table-put (λ i. transferFrom l (5 * i)) _ 8 m t (transfer-here l p t held write (rw k (omega arith)) eh ew)
-              (λ i w. transfer-same l (sets l p vs) (5 * i) (sets-apart vs l p (5 * i) 5 (simp zero-add at (records-apart 0 5 i m w)))),
+              (λ i w.
+              transfer-same l (sets l p vs) (5 * i) (sets-apart vs l p (5 * i) 5 (simp zero-add at (records-apart 0 5 i m w)))),
         )
 
   pub line-put : length l ≡ 96 → (s : ℕ) (x : Line) → s < 16

@@ -34,8 +34,8 @@ unfolding leftOf
 left-serving ma sl t slot e = rw e
 
 -- at its grant all of it is left
-pub left-whole : (ma : Master) (sl : Slave) (t : Transfer) (slot : Slot) → slot .serving ≡ true → slot .done ≡ 0 → slot .waited ≡ 0
-    → leftOf ma sl t slot ≡ ownLength ma sl t
+pub left-whole : (ma : Master) (sl : Slave) (t : Transfer) (slot : Slot) → slot .serving ≡ true → slot .done ≡ 0
+    → slot .waited ≡ 0 → leftOf ma sl t slot ≡ ownLength ma sl t
 unfolding clocksLeft ownLength
 left-whole ma sl t slot e d v = left-serving ma sl t slot e ∙ rw (d, v, sub-zero, sub-zero)
 

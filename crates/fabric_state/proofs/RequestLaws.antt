@@ -18,7 +18,8 @@ use Rattle.fabric_accesses.proofs.SelectLaws.{target-first, selects-facts, sele
 use Rattle.fabric_accesses.proofs.AccessLaws.{width-pos, accesses-pos}
 use Rattle.fabric_state.specs.declared.State.{State}
 use Rattle.fabric_state.specs.Records.{transferAt}
-use Rattle.fabric_state.specs.Posting.{wrongBeats, unaligned, wrongLanes, unmapped, passesEnd, transferRefusalBy, transferRefusal}
+use Rattle.fabric_state.specs.Posting.{wrongBeats, unaligned, wrongLanes, unmapped}
+use Rattle.fabric_state.specs.Posting.{passesEnd, transferRefusalBy, transferRefusal}
 use Rattle.fabric_state.specs.Soundness.{requests}
 
 -- a requester holds a transfer whose address selects the slave

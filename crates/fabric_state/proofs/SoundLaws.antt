@@ -27,7 +27,8 @@ use Rattle.fabric_state.specs.Records.{transferAt, slotAt}
 use Rattle.fabric_state.specs.Posting.{transferRefusal}
 use Rattle.fabric_state.specs.Soundness.{requests, soundTransfer, soundSlotBy, soundSlot, sound}
 use Rattle.fabric_state.specs.Soundness.{soundOwner, soundRemaining, soundService, soundRest}
-use Rattle.fabric_state.specs.Control.{grantAt, slotBy, slotGranted, slotAfterGrant, slotWaiting, slotAccessed, slotFinished}
+use Rattle.fabric_state.specs.Control.{grantAt, slotBy, slotGranted, slotAfterGrant}
+use Rattle.fabric_state.specs.Control.{slotWaiting, slotAccessed, slotFinished}
 use Rattle.fabric_state.specs.Control.{stepOf, finished, stateAfter}
 use Rattle.fabric_state.specs.Resetting.{resetState, stateAtReset}
 use Rattle.fabric_state.specs.Posting.{withTransfer}

@@ -28,9 +28,8 @@ carried-one b st s d = go (carriesOut b st s (slotAfterGrant b st s))
     -- the access of this clock, or none
     then : Bool → Store
     then c =
-        cond c
-        (carriedAccess (masterAt b (slot .owner)) (slaveAt b s) (transferAt st (slot .owner)) (slot .owner) (startOf b s) (slot .done) d)
-        d
+        let m = slot .owner in
+        cond c (carriedAccess (masterAt b m) (slaveAt b s) (transferAt st m) m (startOf b s) (slot .done) d) d
 
     go : (c : Bool) → SameLengths (then c) d
     go true = (length-memory _ _ _ _ _ _ d, length-buffer _ _ _ _ _ _ d)

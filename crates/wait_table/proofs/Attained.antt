@@ -7,7 +7,8 @@ use Rattle.common_laws.specs.Lists.{member, gather, table, sum}
 use Rattle.common_text.specs.Digits.{digitsIn, digits, fieldsText, lineText}
 use Rattle.description_board.specs.Records.{noBoard, connected, totalSpan, startOf, memoryLength}
 use Rattle.description_board.specs.Rules.{slaveValues, meets, overlaps, masterRefusal, slaveRefusal, shareRefusal, itemRefusal}
-use Rattle.description_board.specs.Rules.{withMaster, withSlave, withShare, withItem, isShare, refused, start, taken, step, stepAll, finish}
+use Rattle.description_board.specs.Rules.{withMaster, withSlave, withShare, withItem, isShare}
+use Rattle.description_board.specs.Rules.{refused, start, taken, step, stepAll, finish}
 use Rattle.description_board.specs.Rules.{described}
 use Rattle.description_board.specs.Items.{masterItem, slaveItem, shareItem, items, boardRefusal}
 use Rattle.fabric_accesses.specs.Accesses.{ratio}

@@ -23,7 +23,8 @@ use Rattle.description.specs.Reader.{readText}
 use Rattle.description.proofs.Trip.{read-legal}
 use Rattle.wait_table.specs.declared.Printed.{Printed}
 use Rattle.wait_turns.specs.Waits.{quotedWait, serveOf}
-use Rattle.wait_table.specs.Tables.{heading, pairLine, pairLines, tableText, tableOf, printRefusal, printAnswer, printOutput}
+use Rattle.wait_table.specs.Tables.{heading, pairLine, pairLines, tableText, tableOf}
+use Rattle.wait_table.specs.Tables.{printRefusal, printAnswer, printOutput}
 use Rattle.wait_table.specs.Tables.{refusedText, printed, Page}
 use Rattle.wait_table.specs.Longest.{longestTable}
 use Rattle.wait_turns.proofs.SumLaws.{gather-le}

@@ -3,7 +3,8 @@
 use mathlib.Core.Path.{_≡_, ap, sym}
 use mathlib.Core.List.{List, _++_, append-assoc, append-nil}
 use Prim.Native.Nat.{ℕ, zero, suc, _+_, _*_, _/_, _%_, _≤_, _<_}
-use native.Mathlib.Nat.{zero-mul, suc-mul, add-comm, add-zero, zero-add, add-suc, add-mul-div-right, add-mul-mod-self-right, div-eq-of-lt, mod-eq-of-lt, eq-or-lt-of-le, le-of-suc-le-suc}
+use native.Mathlib.Nat.{zero-mul, suc-mul, add-comm, add-zero, zero-add, add-suc, add-mul-div-right}
+use native.Mathlib.Nat.{add-mul-mod-self-right, div-eq-of-lt, mod-eq-of-lt, eq-or-lt-of-le, le-of-suc-le-suc}
 use native.Mathlib.Omega.{arith}
 use mathlib.Core.Logic.{⊎-elim}
 use lib.ListN.{length, length-append}

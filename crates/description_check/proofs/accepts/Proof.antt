@@ -1,4 +1,5 @@
--- `description_check::accepts` meets its contract. What the tests say together makes the board legal, and a legal board is accepted.
+-- `description_check::accepts` meets its contract.
+-- What the tests say together makes the board legal, and a legal board is accepted.
 -- Assumes nothing.
 use mathlib.Core.Bool.{false≢true}
 use borrow.Author.Tests.{not-false}

@@ -1,4 +1,5 @@
--- `description_check::board_refusal_by_lines` meets its contract. The loop's invariant: p and own are the reading of the lines of the first k places.
+-- `description_check::board_refusal_by_lines` meets its contract.
+-- The loop's invariant: p and own are the reading of the lines of the first k places.
 -- Assumes nothing.
 use mathlib.Core.Path.{_≡_, _∙_, ap}
 use Prim.Native.Nat.{_≤_, _-_}

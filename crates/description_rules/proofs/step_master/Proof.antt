@@ -1,4 +1,5 @@
--- `description_rules::step_master` meets its contract. The numbers fit their fields, and there is room, as the line is not refused.
+-- `description_rules::step_master` meets its contract.
+-- The numbers fit their fields, and there is room, as the line is not refused.
 -- Assumes nothing.
 use mathlib.Core.Path.{_∙_, sym}
 use native.Mathlib.Omega.{arith}

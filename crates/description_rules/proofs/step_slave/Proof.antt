@@ -1,4 +1,5 @@
--- `description_rules::step_slave` meets its contract. The values passed their test, and there is room, as the line is not refused.
+-- `description_rules::step_slave` meets its contract.
+-- The values passed their test, and there is room, as the line is not refused.
 -- Assumes nothing.
 use mathlib.Core.Path.{_∙_, sym}
 use borrow.Author.Needs.{needs}

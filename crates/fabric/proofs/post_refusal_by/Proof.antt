@@ -86,7 +86,8 @@ returns-4 c =
 transfer-at-requires : tie.Need-transfer-at-requires
 transfer-at-requires c κs =
     let keeps = c .before .before in
-    omega (arith, c .before .master-count .ensures, c .if4 .left, accepted-legal _ (accepted (keeps .before .before .before)) .fewMasters)
+    let ok = accepted (keeps .before .before .before) in
+    omega (arith, c .before .master-count .ensures, c .if4 .left, accepted-legal _ ok .fewMasters)
 
 returns-5 : tie.Need-returns-5
 returns-5 c =

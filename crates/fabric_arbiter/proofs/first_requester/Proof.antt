@@ -7,7 +7,8 @@ use Rattle.fabric_arbiter.proofs.first_requester.Statement.{statement}
 use Rattle.fabric_arbiter.proofs.first_requester.Tie as tie
 
 abbrev Inv-loop : tie.InvT-loop
-Inv-loop requests n owner m₀ left₀ m left = tried (bit requests) n (nextMaster n owner) n ≡ tried (bit requests) n (nextMaster n m) left
+Inv-loop requests n owner m₀ left₀ m left =
+    tried (bit requests) n (nextMaster n owner) n ≡ tried (bit requests) n (nextMaster n m) left
 
 abbrev μ-loop : tie.MeasureT-loop
 μ-loop requests n owner m₀ left₀ m left = left

@@ -1,5 +1,5 @@
--- `fabric_bytes::carry_access` meets its contract. The first byte and the count of the access are those of the definitions, so each
--- branch ends in what its callee ensures.
+-- `fabric_bytes::carry_access` meets its contract.
+-- The first byte and the count of the access are those of the definitions, so each branch ends in what its callee ensures.
 -- Assumes nothing.
 use mathlib.Core.Path.{refl}
 use native.Mathlib.Omega.{arith}

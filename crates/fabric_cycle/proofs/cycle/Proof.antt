@@ -12,7 +12,8 @@ use Rattle.fabric_layout.specs.Layout.{stateIn, linesIn}
 use Rattle.fabric_layout.proofs.StatePutLaws.{transfers-length, slots-length, lines-length}
 use Rattle.fabric_check.specs.Code.Targets.{targetsIn, requestMask}
 use Rattle.fabric_check.proofs.TargetLaws.{mask-at}
-use Rattle.fabric_cycle.proofs.PassLaws.{Pass, runs-legal, pass-begin, pass-ready, pass-fits, start-fits, pass-next, pass-end}
+use Rattle.fabric_cycle.proofs.PassLaws.{Pass, runs-legal, pass-begin, pass-ready}
+use Rattle.fabric_cycle.proofs.PassLaws.{pass-fits, start-fits, pass-next, pass-end}
 use Rattle.fabric_cycle.proofs.cycle.Statement.{statement}
 use Rattle.fabric_cycle.proofs.cycle.Tie as tie
 

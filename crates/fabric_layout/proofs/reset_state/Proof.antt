@@ -1,5 +1,5 @@
--- `fabric_layout::reset_state` meets its contract. The loop's invariant: no transfer is held, and the first s slots are those of a
--- reset.
+-- `fabric_layout::reset_state` meets its contract.
+-- The loop's invariant: no transfer is held, and the first s slots are those of a reset.
 -- Assumes nothing.
 use mathlib.Core.Path.{_≡_, _∙_}
 use Prim.Native.Nat.{_≤_, _-_}

@@ -36,7 +36,8 @@ returns-2 c =
     let put = c .before .before in
     let q = put .before .before in
     let share = q .before .before in
-    rw (line-some _ _ _ (share .before .before .pre .0) (share .shares-at .ensures) (q .before .if1 .left) (q .figures-of .ensures))
+    let legal = share .before .before .pre .0 in
+    rw (line-some _ _ _ legal (share .shares-at .ensures) (q .before .if1 .left) (q .figures-of .ensures))
     (put .put-quote .ensures)
 
 pub put-pair-spec : {M : Type 1} → statement M

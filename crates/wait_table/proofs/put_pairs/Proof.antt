@@ -9,7 +9,8 @@ use Rattle.common_laws.specs.Lists.{gather}
 use Rattle.common_text.proofs.Puts.{put-none, put-length}
 use Rattle.common_text.specs.Code.Scanning.{Put}
 use Rattle.description_layout.specs.Layout.{boardIn}
-use Rattle.wait_table.proofs.TableLines.{pairAt, pairs-all, some-slave, pairs-are, pairs-few, pair-of, pair-room, pair-next}
+use Rattle.wait_table.proofs.TableLines.{pairAt, pairs-all, some-slave, pairs-are}
+use Rattle.wait_table.proofs.TableLines.{pairs-few, pair-of, pair-room, pair-next}
 use Rattle.wait_table.proofs.put_pairs.Statement.{statement}
 use Rattle.wait_table.proofs.put_pairs.Tie as tie
 

@@ -1,4 +1,5 @@
--- `description_rules::refusals::member` meets its contract. The loop's invariant: x is in the list just if it is in what is left of it.
+-- `description_rules::refusals::member` meets its contract.
+-- The loop's invariant: x is in the list just if it is in what is left of it.
 -- Assumes nothing.
 use Prim.Native.Nat.{_≤_, _-_}
 use native.Mathlib.Omega.{arith}

@@ -1,5 +1,5 @@
--- `description_rules::refusals::total_span` meets its contract. The loop's invariant: the total so far and the spans that are left make
--- the whole; the bound keeps the sum in a u64.
+-- `description_rules::refusals::total_span` meets its contract.
+-- The loop's invariant: the total so far and the spans that are left make the whole; the bound keeps the sum in a u64.
 -- Assumes nothing.
 use mathlib.Core.Path.{_≡_, ap}
 use Prim.Native.Nat.{_≤_, _-_, _+_, _*_}

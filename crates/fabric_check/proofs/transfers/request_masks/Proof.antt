@@ -1,5 +1,5 @@
--- `fabric_check::transfers::request_masks` meets its contract. The loop's invariant: the masks are those of the first m masters. Every bit has
--- its own weight, so a sum fits a byte.
+-- `fabric_check::transfers::request_masks` meets its contract.
+-- The loop's invariant: the masks are those of the first m masters. Every bit has its own weight, so a sum fits a byte.
 -- Assumes nothing.
 use mathlib.Core.Path.{_≡_}
 use mathlib.Core.List.{List}

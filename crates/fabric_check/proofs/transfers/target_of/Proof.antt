@@ -1,4 +1,5 @@
--- `fabric_check::transfers::target_of` meets its contract. The loop's invariant: the target is the first slave selected from s on.
+-- `fabric_check::transfers::target_of` meets its contract.
+-- The loop's invariant: the target is the first slave selected from s on.
 -- Assumes nothing.
 use mathlib.Core.Bool.{false}
 use mathlib.Core.Logic.{⊎-elim}
