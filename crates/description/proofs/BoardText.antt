@@ -1,4 +1,4 @@
--- A board's lines writeAnswer one behind another, and how many bytes they take.
+-- A board's lines written one behind another, and how many bytes they take.
 -- Assumes nothing.
 use mathlib.Core.List.{List, [], _∷_, _++_}
 use mathlib.Core.Path.{_≡_, refl, ap}

@@ -89,7 +89,7 @@ after-silent a g e = rw e
 -- ---- both steps together are rule 1
 
 module _ (n : ℕ) (requests : ℕ → Bool) (shares beats : ℕ → ℕ) (a : Arbiter) where
-  -- a winnerOf w, and the grant that the rule gives
+  -- a winner w, and the grant that the rule gives
   Rules : Winner → Grant → Type 0
   Rules w g = (y x : ℕ) → (w ≡ Again → x ≡ beats (a .owner)) → ((m : ℕ) → w ≡ First m → (y ≡ shares m) × (x ≡ beats m))
       → grantBy a w y x ≡ g
@@ -114,7 +114,7 @@ module _ (n : ℕ) (requests : ℕ → Bool) (shares beats : ℕ → ℕ) (a : A
       go true = again-rules
       go false = first-rules (firstRequester requests n (a .owner))
 
-  -- the grant of whoever is firstRequester, by the shares y and the beats x of that master, is the one of rule 1
+  -- the grant of whoever is chosen, by the shares y and the beats x of that master, is the one of rule 1
   module _ {w : Winner} (e : w ≡ winnerOf n requests a) where
     wins : (y x : ℕ) → (w ≡ Again → x ≡ beats (a .owner)) → ((m : ℕ) → w ≡ First m → (y ≡ shares m) × (x ≡ beats m))
         → grantBy a w y x ≡ granted n requests shares beats a

@@ -97,7 +97,7 @@ module _ (test now : ℕ → Bool) (o n : ℕ) (on : Bool) (low : o < n) (fresh 
           (λ m k. ap (λ (c : Bool). cond c (2 ^ m) 0) (g m ∙ or-false (test m))) in
           omega (arith, same)
 
--- a transfer endedTransfer before now, or now
+-- a transfer ended before now, or now
 ended-now : {X : Type 0} (before on : Bool) (d x : X) → cond on d (cond before d x) ≡ cond (before || (on && true)) d x
 ended-now true true d x = refl
 ended-now true false d x = refl

@@ -45,7 +45,7 @@ bit-low mask m h e = go (ltb m 8) refl
     go true q = ltb-true m 8 q
     go false q = absurd (true≢false (sym e ∙ bit-above 8 mask m h (ltb-false m 8 q)))
 
--- so the winnerOf by such a mask is one of 8 masters
+-- so the winner by such a mask is one of 8 masters
 module _ (mask : ℕ) (small : mask < 256) (n : ℕ) (a : Arbiter) {w : Winner} (won : w ≡ winnerOf n (bit mask) a) where
   pub again-low : w ≡ Again → a .owner < 8
   again-low q = bit-low mask (a .owner) small (winner-again n (bit mask) a (sym won ∙ q))

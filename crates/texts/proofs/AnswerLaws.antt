@@ -19,7 +19,7 @@ use Rattle.description.specs.Writer.{writeText, writeRefusal, writeAnswer}
 pub line-short : (word : List ℕ) (n : ℕ) → length word ≡ 4 → length (lineText word (n ∷ [])) ≤ 26
 line-short word n e = omega (arith, line-length word (n ∷ []), fields-long (n ∷ []))
 
--- what is writeAnswer is no longer than the output
+-- what is written is no longer than the output
 written-within : (b : Board) (out : List ℕ) → writeAnswer b out .length ≤ length out
 unfolding writeAnswer writeRefusal
 written-within b out = go (boardRefusal b) (eqb (boardRefusal b) 0) (ltb (length out) (length (writeText b))) refl refl

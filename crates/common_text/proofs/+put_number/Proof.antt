@@ -1,4 +1,4 @@
--- `text::put_number`, which calls itself, meets its contract: one digit, or the last digit behind those of n / 10.
+-- `common_text::put_number`, which calls itself, meets its contract: one digit, or the last digit behind those of n / 10.
 -- The measure is n. Assumes nothing.
 use mathlib.Core.Path.{refl}
 use Prim.Native.Nat.{ℕ, _<_, _≤_}

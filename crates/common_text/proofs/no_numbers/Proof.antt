@@ -1,4 +1,4 @@
--- `text::no_numbers` meets its contract: the record is the definition's. Assumes nothing.
+-- `common_text::no_numbers` meets its contract: the record is the definition's. Assumes nothing.
 use borrow.Author.Needs.{needs}
 use Rattle.common_text.specs.Fields.{noNumbers}
 use Rattle.common_text.proofs.no_numbers.Statement.{statement}

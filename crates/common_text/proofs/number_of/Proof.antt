@@ -1,4 +1,4 @@
--- `text::parse_number` meets its contract: each return by one law of a field's shape. Assumes nothing.
+-- `common_text::number_of` meets its contract: each return by one law of a field's shape. Assumes nothing.
 use mathlib.Core.Path.{sym, _∙_}
 use native.Mathlib.Omega.{arith}
 use borrow.Author.Needs.{needs}

@@ -1,4 +1,4 @@
--- `text::put_bytes` meets its contract. The loop's invariant: the first i bytes are stored, and the length is as it was.
+-- `common_text::put_bytes` meets its contract. The loop's invariant: the first i bytes are stored, and the length is as it was.
 -- The measure is what is left of s. Assumes nothing.
 use mathlib.Core.Path.{_≡_, ap, _∙_}
 use Prim.Native.Nat.{_-_, _≤_}

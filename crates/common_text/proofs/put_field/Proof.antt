@@ -1,4 +1,4 @@
--- `text::put_field` meets its contract: the comma, and the digits behind it. Assumes nothing.
+-- `common_text::put_field` meets its contract: the comma, and the digits behind it. Assumes nothing.
 use mathlib.Core.Path.{ap, _∙_}
 use Prim.Native.Nat.{ℕ}
 use native.Mathlib.Numerals.{add-one}

@@ -1,4 +1,4 @@
--- `text::put_fields` meets its contract. The loop's invariant: the fields of the first i numbers are stored.
+-- `common_text::put_fields` meets its contract. The loop's invariant: the fields of the first i numbers are stored.
 -- The measure is how many are left. Assumes nothing.
 use mathlib.Core.Path.{_≡_}
 use Prim.Native.Nat.{_-_, _≤_}

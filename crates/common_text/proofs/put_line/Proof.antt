@@ -1,4 +1,4 @@
--- `text::put_line` meets its contract: three texts, one behind another. Assumes nothing.
+-- `common_text::put_line` meets its contract: three texts, one behind another. Assumes nothing.
 use native.Mathlib.Omega.{arith}
 use borrow.Author.Needs.{needs}
 use Rattle.common_text.specs.Digits.{lineText}

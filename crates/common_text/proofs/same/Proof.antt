@@ -1,4 +1,4 @@
--- `text::same_bytes` meets its contract. The loop's invariant: the texts are the same where what is left of them is.
+-- `common_text::same` meets its contract. The loop's invariant: the texts are the same where what is left of them is.
 -- The measure is what is left. Assumes nothing.
 use mathlib.Core.Path.{_≡_, sym, _∙_}
 use Prim.Native.Nat.{_≤_, _-_}

@@ -1,4 +1,4 @@
--- `text::scan_digits` meets its contract. The loop's invariant: the value of i digits is below 10 ^ i, and the number is what the
+-- `common_text::scan` meets its contract. The loop's invariant: the value of i digits is below 10 ^ i, and the number is what the
 -- digits left spell behind it. The measure is what is left of the field. Assumes nothing.
 use mathlib.Core.Path.{_≡_, refl, ap, sym, _∙_}
 use Prim.Native.Nat.{ℕ, _+_, _-_, _*_, _^_, _≤_, _<_}

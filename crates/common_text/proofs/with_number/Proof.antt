@@ -1,4 +1,4 @@
--- `text::with_number` meets its contract: the record is the definition's. Assumes nothing.
+-- `common_text::with_number` meets its contract: the record is the definition's. Assumes nothing.
 use borrow.Author.Needs.{needs}
 use Rattle.common_text.specs.Fields.{withNumber}
 use Rattle.common_text.proofs.with_number.Statement.{statement}

@@ -1,4 +1,4 @@
--- `lines::parse_line` meets its contract: the first word that the first field is, or none. Assumes nothing.
+-- `description_lines::item_of` meets its contract: the first word that the first field is, or none. Assumes nothing.
 use mathlib.Core.Path.{ap, sym, _∙_}
 use lib.Seq.{length-take-le}
 use borrow.Author.Needs.{needs}

@@ -1,4 +1,4 @@
--- `lines::line_from` meets its contract: a line that lacks its line feed, or one that has it. Assumes nothing.
+-- `description_lines::line_from` meets its contract: a line that lacks its line feed, or one that has it. Assumes nothing.
 use native.Mathlib.Omega.{arith}
 use mathlib.Core.Path.{sym}
 use lib.Seq.{length-take-le}

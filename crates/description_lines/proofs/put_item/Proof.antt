@@ -1,4 +1,4 @@
--- `lines::put_item` meets its contract, kind by kind. Assumes nothing.
+-- `description_lines::put_item` meets its contract, kind by kind. Assumes nothing.
 use mathlib.Core.Path.{refl}
 use borrow.Author.Needs.{needs}
 use Rattle.common_laws.specs.Bytes.{bytesOf}
