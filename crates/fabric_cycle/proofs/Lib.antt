@@ -1,6 +1,6 @@
 pub mod SlotGrantLaws
 pub mod ServeLaws
 pub mod ReachLaws
-pub mod TurnLaws
+pub mod SlaveClockLaws
 pub mod PassLaws
 pub mod AgainLaws

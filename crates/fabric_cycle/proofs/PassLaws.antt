@@ -1,4 +1,4 @@
--- The pass over the slaves that makes one clock: why the state may be changed in place, and the turns of the loop.
+-- The pass over the slaves that makes one clock: why the state may be changed in place, and the steps of the loop.
 -- Assumes nothing.
 use mathlib.Core.Path.{_≡_, refl, sym, ap, _∙_, fun-ext}
 use mathlib.Core.Bool.{Bool, true, false, cond, _&&_, _||_}
@@ -49,7 +49,7 @@ use Rattle.fabric_cycle.specs.Code.Serving.{stepFrom, carriedFrom}
 use Rattle.fabric_cycle.proofs.ServeLaws.{from-resting, carried-resting, step-is, carried-is}
 use Rattle.fabric_cycle.proofs.ReachLaws.{start-next, grant-placed, grant-reached}
 use Rattle.fabric_cycle.specs.Code.Cycles.{Passes, Clocks}
-use Rattle.fabric_cycle.specs.Code.Turns.{slotAsked, stepAt, carriedAt, endedTransfer, stateTurned, Serving, Ready, Turned}
+use Rattle.fabric_cycle.specs.Code.SlaveClocks.{slotAsked, stepAt, carriedAt, endedTransfer, stateStepped, Serving, Ready, SlaveClocked}
 
 -- ---- a mask with one number more, and a list with one place more
 
@@ -130,7 +130,7 @@ module _ {X : Type 0} (test : ℕ → ℕ → Bool) (d : X) (f : ℕ → X) (n i
 
 -- ---- the state in the midst of the pass
 
--- the first s slaves have had their turns: v was u, shown was lines, and the bytes e were d
+-- the first s slaves have had their clock: v was u, shown was lines, and the bytes e were d
 pub record Pass (b : Board) (u v : State) (s start : ℕ) (lines shown : List Line) (done : ℕ) (d e : Store) : Type 0 where
   pub within : s ≤ b .«slave_count»
   pub slots : v .slots ≡ filled (λ i. stepOf b u i .slot) (slotAt u) 16 s
@@ -142,21 +142,21 @@ pub record Pass (b : Board) (u v : State) (s start : ℕ) (lines shown : List Li
   pub buffer : length (e .buffer) ≡ length (d .buffer)
   pub bytes : e ≡ carriedBy b u s d
 
--- what a turn changes of the state
+-- what one slave's clock changes of the state
 module _ (b : Board) (v : State) (s : ℕ) (x : Slot) where
-  turned-slots : stateTurned b v s x .slots ≡ set (v .slots) s (stepAt b v s x .slot)
-  unfolding stateTurned endedTransfer withTransfer withSlot
-  turned-slots = go (stepAt b v s x .finished)
+  stepped-slots : stateStepped b v s x .slots ≡ set (v .slots) s (stepAt b v s x .slot)
+  unfolding stateStepped endedTransfer withTransfer withSlot
+  stepped-slots = go (stepAt b v s x .finished)
     where
       go : (c : Bool) → endedTransfer (withSlot v s (stepAt b v s x .slot)) (x .owner) c .slots
           ≡ set (v .slots) s (stepAt b v s x .slot)
       go true = refl
       go false = refl
 
-  turned-transfers : stateTurned b v s x .transfers
+  stepped-transfers : stateStepped b v s x .transfers
       ≡ set (v .transfers) (x .owner) (cond (stepAt b v s x .finished) noTransfer (getD (v .transfers) (x .owner) noTransfer))
-  unfolding stateTurned endedTransfer withTransfer withSlot
-  turned-transfers = go (stepAt b v s x .finished)
+  unfolding stateStepped endedTransfer withTransfer withSlot
+  stepped-transfers = go (stepAt b v s x .finished)
     where
       go : (c : Bool) → endedTransfer (withSlot v s (stepAt b v s x .slot)) (x .owner) c .transfers
           ≡ set (v .transfers) (x .owner) (cond c noTransfer (getD (v .transfers) (x .owner) noTransfer))
@@ -171,7 +171,7 @@ module _ (b : Board) (u : State) (l : length (u .transfers) ≡ 8) (k : length (
   pub runs-sound : Sound b u
   runs-sound = sound-facts b u l k (runs-legal .fewSlaves) (r .state)
 
-  -- the slave s, whose turn it is
+  -- the slave s, whose clock it is
   module _ (s : ℕ) (h : s < b .«slave_count») where
     -- who requests it is finished by no other slave
     not-ended : (m : ℕ) → requests b u s m ≡ true → some (finishes b u m) s ≡ false
@@ -294,7 +294,7 @@ module _ (b : Board) (u : State) (l : length (u .transfers) ≡ 8) (k : length (
                 sym (carried-resting _ _ _ (slotAfterGrant b u s) (startOf b s) d off)
                 ∙ carried-resting _ _ _ (slotAfterGrant b u s) (startOf b s) d off
 
-    -- a turn of the loop
+    -- a pass of the loop
     module _ {v : State} {start : ℕ} {lines shown : List Line} {done : ℕ} (d c : Store)
         (p : Pass b u v s start lines shown done d c) (mask : ℕ) (e : mask ≡ requestMask (targetsIn b (u .transfers)) s) where
       pub pass-ready : length (d .memory) ≡ memoryLength b → length (d .buffer) ≡ bufferLength → Ready b v s mask start c
@@ -302,7 +302,7 @@ module _ (b : Board) (u : State) (l : length (u .transfers) ≡ 8) (k : length (
           ready v (p .slots) (p .transfers) mask e (p .begins) c (p .memory ∙ m) (p .buffer ∙ q)
 
       module _ {w : State} {after : List Line} {weight : ℕ} (f : Store)
-          (t : Turned b v w s (slotAsked b v s mask) start shown after weight c f) where
+          (t : SlaveClocked b v w s (slotAsked b v s mask) start shown after weight c f) where
         asked : slotAsked b v s mask ≡ slotAfterGrant b u s
         asked = asked-same v (p .slots) (p .transfers) mask e
 
@@ -311,12 +311,12 @@ module _ (b : Board) (u : State) (l : length (u .transfers) ≡ 8) (k : length (
 
         slots-next : w .slots ≡ filled (λ i. stepOf b u i .slot) (slotAt u) 16 (s + 1)
         slots-next =
-            ap (λ (x : State). x .slots) (t .state) ∙ turned-slots b v s (slotAsked b v s mask)
+            ap (λ (x : State). x .slots) (t .state) ∙ stepped-slots b v s (slotAsked b v s mask)
             ∙ filled-next (λ i. stepOf b u i .slot) (slotAt u) 16 s (p .slots) (ap (λ (y : Step). y .slot) stepped)
 
         transfers-next : w .transfers ≡ table (λ m. cond (some (finishes b u m) (s + 1)) noTransfer (transferAt u m)) 8
         transfers-next =
-            ap (λ (x : State). x .transfers) (t .state) ∙ turned-transfers b v s (slotAsked b v s mask)
+            ap (λ (x : State). x .transfers) (t .state) ∙ stepped-transfers b v s (slotAsked b v s mask)
             ∙ rw (stepped, asked)
             (ended-next (finishes b u) noTransfer (transferAt u) 8 s (slotAfterGrant b u s .owner) (stepOf b u s .finished)
             owner-low (p .transfers) finishes-owner refl)

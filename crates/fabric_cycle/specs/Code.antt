@@ -1,3 +1,3 @@
 pub mod Cycles
 pub mod Serving
-pub mod Turns
+pub mod SlaveClocks

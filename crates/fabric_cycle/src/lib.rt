@@ -21,7 +21,7 @@ ghost use Rattle.description_layout.specs.Layout.{boardIn};
 ghost use Rattle.fabric_layout.specs.Layout.{stateIn, linesIn};
 ghost use Rattle.fabric_check.specs.Code.Targets.{targetsIn, requestMask};
 ghost use Rattle.fabric_cycle.specs.Code.Cycles.{Passes, Clocks};
-ghost use Rattle.fabric_cycle.specs.Code.Turns.{slotAsked, endedTransfer, Ready, Serving, Turned};
+ghost use Rattle.fabric_cycle.specs.Code.SlaveClocks.{slotAsked, endedTransfer, Ready, Serving, SlaveClocked};
 
 // Rule 1 at slave s (rules 4.3 to 4.7), by a mask of who requests it: shares and beats are read once it is known whose.
 fn slot_asked(board: &[u32; BOARD_NUMBERS], st: &[u32; STATE_NUMBERS], s: usize, mask: u32) -> Slot
@@ -75,7 +75,7 @@ fn serve_at(
 ) -> u32
     requires { ⌜ Serving (boardIn (now board)) (stateIn (now st)) s slot start
         (record { memory = now memory; buffer = now buffer }) ⌝ }
-    ensures { λ r. ⌜ Turned (boardIn (now (board .entry))) (stateIn (now (st .entry))) (stateIn (now (st .exit))) s slot start
+    ensures { λ r. ⌜ SlaveClocked (boardIn (now (board .entry))) (stateIn (now (st .entry))) (stateIn (now (st .exit))) s slot start
         (linesIn (now (lines .entry))) (linesIn (now (lines .exit))) r
         (record { memory = now (memory .entry); buffer = now (buffer .entry) })
         (record { memory = now (memory .exit); buffer = now (buffer .exit) }) ⌝ }
@@ -95,7 +95,7 @@ fn serve_at(
 
 // Slave s in one clock (rules 4.3 to 4.9); its span starts at `start`. Answers the bit of the master that it finishes. A slave
 // that does not serve shows nothing (rule 4.13).
-fn turn(
+fn clock_slave(
     board: &[u32; BOARD_NUMBERS],
     st: &mut [u32; STATE_NUMBERS],
     s: usize,
@@ -107,7 +107,7 @@ fn turn(
 ) -> u32
     requires { ⌜ Ready (boardIn (now board)) (stateIn (now st)) s mask start
         (record { memory = now memory; buffer = now buffer }) ⌝ }
-    ensures { λ r. ⌜ Turned (boardIn (now (board .entry))) (stateIn (now (st .entry))) (stateIn (now (st .exit))) s
+    ensures { λ r. ⌜ SlaveClocked (boardIn (now (board .entry))) (stateIn (now (st .entry))) (stateIn (now (st .exit))) s
         (slotAsked (boardIn (now (board .entry))) (stateIn (now (st .entry))) s mask) start
         (linesIn (now (lines .entry))) (linesIn (now (lines .exit))) r
         (record { memory = now (memory .entry); buffer = now (buffer .entry) })
@@ -146,7 +146,7 @@ pub fn cycle(
     let mut start: usize = 0;
     let mut s: usize = 0;
     while s < count {
-        finished += turn(board, st, s, requests[s], start, lines, memory, buffer);
+        finished += clock_slave(board, st, s, requests[s], start, lines, memory, buffer);
         let sl = description_layout::slave_at(board, s);
         start += sl.span as usize;
         s += 1;

@@ -33,12 +33,12 @@ Inv-loop board state₀ memory₀ buffer₀ lines₀ most number requests left�
 abbrev μ-loop : tie.MeasureT-loop
 μ-loop board state₀ memory₀ buffer₀ lines₀ most number requests left₀ state memory buffer lines left = left
 
--- where the call starts; the turn of a clock, and that clock's cycle, of the place behind it
+-- where the call starts; the pass of a clock, and that clock's cycle, of the place behind it
 abbrev start : tie.After-ready Inv-loop μ-loop → tie.Start Inv-loop μ-loop
 start c = c .before .before .before .before .before
 
-abbrev turn : tie.After-cycle-arg4 Inv-loop μ-loop → tie.In-loop Inv-loop μ-loop
-turn c = c .before .before .before .before .before
+abbrev pass : tie.After-cycle-arg4 Inv-loop μ-loop → tie.In-loop Inv-loop μ-loop
+pass c = c .before .before .before .before .before
 
 abbrev cycled : tie.After-slice-known4 Inv-loop μ-loop → tie.After-cycle Inv-loop μ-loop
 cycled c = c .before .before .before .before
@@ -106,7 +106,7 @@ loop-holds c =
 
 cycle-requires : tie.Need-cycle-requires Inv-loop μ-loop
 cycle-requires c κs =
-    let i = turn c .before .loop .inv in
+    let i = pass c .before .loop .inv in
     let n = passing-lengths _ _ _ _ (i .0) (i .1) in
     (passing-accepts _ _ _ _ (i .0) (i .1), i .1 .asked, n .0, n .1)
 
@@ -129,7 +129,7 @@ returns-2 : tie.Need-returns-2 Inv-loop μ-loop
 returns-2 c =
     let e = c .before in
     let k = cycled (e .before) in
-    let t = turn (k .before) in
+    let t = pass (k .before) in
     let i = t .before .loop .inv in
     rw (c .run-answer2 .ensures)
     (passing-finished _ _ _ _ (i .0) (i .1) (t .loop-test .taken) _ _ (k .cycle .ensures) (e .if2 .taken))
@@ -140,7 +140,7 @@ loop-less c = search needs
 loop-again : tie.Need-loop-again Inv-loop μ-loop
 loop-again c =
     let k = cycled (c .before) in
-    let t = turn (k .before) in
+    let t = pass (k .before) in
     let i = t .before .loop .inv in (
       i .0,
       passing-next _ _ _ _ (i .0) (i .1) (t .loop-test .taken) _ _ (k .cycle .ensures) (c .if2 .left),

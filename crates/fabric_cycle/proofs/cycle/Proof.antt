@@ -26,14 +26,14 @@ abbrev μ-loop : tie.MeasureT-loop
 μ-loop board st₀ requests lines₀ memory₀ buffer₀ count finished₀ start₀ s₀ st lines memory buffer finished start s =
     boardIn board .«slave_count» - s
 
--- from a turn back to the function's start, from the call of the turn back to its beginning, and from its end back to that call
+-- from a pass back to the function's start, from the call of its clock back to its beginning, and from its end back to that call
 abbrev start : tie.In-loop Inv-loop μ-loop → tie.Start Inv-loop μ-loop
 start c = c .before .before .before .before .before
 
-abbrev turned : tie.After-struct-known Inv-loop μ-loop → tie.After-turn Inv-loop μ-loop
-turned c = c .before .before .before .before .before .before
+abbrev stepped : tie.After-struct-known Inv-loop μ-loop → tie.After-clock-slave Inv-loop μ-loop
+stepped c = c .before .before .before .before .before .before
 
-abbrev top : tie.After-turn-arg5 Inv-loop μ-loop → tie.In-loop Inv-loop μ-loop
+abbrev top : tie.After-clock-slave-arg5 Inv-loop μ-loop → tie.In-loop Inv-loop μ-loop
 top c = c .before .before .before .before .before
 
 abbrev board : tie.Start Inv-loop μ-loop → Board
@@ -42,7 +42,7 @@ board c = boardIn (c .args .board .now)
 abbrev before : tie.Start Inv-loop μ-loop → State
 before c = stateIn (c .args .st .now)
 
--- the slave of a turn is one of the board, and its mask is that of its requests
+-- the slave of a pass is one of the board, and its mask is that of its requests
 slave-in : (c : tie.In-loop Inv-loop μ-loop) → c .before .loop .s < board (start c) .«slave_count»
 slave-in c = omega (arith, c .loop-test .taken, c .before .before .slave-count .ensures)
 
@@ -63,14 +63,14 @@ cast-count c = search needs
 loop-holds : tie.Need-loop-holds Inv-loop μ-loop
 loop-holds c = pass-begin _ _ _ _ (transfers-length _) (slots-length _) (lines-length _)
 
-mul-turn : tie.Need-mul-turn Inv-loop μ-loop
-mul-turn c = search needs
+mul-clock-slave : tie.Need-mul-clock-slave Inv-loop μ-loop
+mul-clock-slave c = search needs
 
-element-copy-out-turn : tie.Need-element-copy-out-turn Inv-loop μ-loop
-element-copy-out-turn c = place-in (c .before)
+element-copy-out-clock-slave : tie.Need-element-copy-out-clock-slave Inv-loop μ-loop
+element-copy-out-clock-slave c = place-in (c .before)
 
-turn-requires : tie.Need-turn-requires Inv-loop μ-loop
-turn-requires c κs = let a = top c in
+clock-slave-requires : tie.Need-clock-slave-requires Inv-loop μ-loop
+clock-slave-requires c κs = let a = top c in
     let o = start a in
     pass-ready _ _ (transfers-length _) (slots-length _) (o .pre .0) _ (slave-in a) _ _ (a .before .loop .inv) _ (mask-is a)
     (o .pre .2) (o .pre .3)
@@ -81,7 +81,7 @@ add-finished c = let t = c .before .before .before .before in
     omega (
       arith,
       pass-fits _ _ (transfers-length _) (slots-length _) (start a .pre .0) _ (slave-in a) _ _ (a .before .loop .inv) _
-          (mask-is a) _ (t .turn .ensures),
+          (mask-is a) _ (t .clock-slave .ensures),
     )
 
 slave-at-requires : tie.Need-slave-at-requires Inv-loop μ-loop
@@ -91,7 +91,7 @@ cast-start : tie.Need-cast-start Inv-loop μ-loop
 cast-start c = search needs
 
 add-start : tie.Need-add-start Inv-loop μ-loop
-add-start c = let a = top (turned c .before) in
+add-start c = let a = top (stepped c .before) in
     omega (
       arith,
       start-fits _ _ (transfers-length _) (slots-length _) (start a .pre .0) _ (slave-in a) _ _ (a .before .loop .inv) _
@@ -99,17 +99,17 @@ add-start c = let a = top (turned c .before) in
     )
 
 add-s : tie.Need-add-s Inv-loop μ-loop
-add-s c = omega (arith, place-in (top (turned c .before)))
+add-s c = omega (arith, place-in (top (stepped c .before)))
 
 loop-less : tie.Need-loop-less Inv-loop μ-loop
-loop-less c = omega (arith, slave-in (top (turned c .before)))
+loop-less c = omega (arith, slave-in (top (stepped c .before)))
 
 loop-again : tie.Need-loop-again Inv-loop μ-loop
-loop-again c = let t = turned c in
+loop-again c = let t = stepped c in
     let a = top (t .before) in
-    let k = t .turn .kept .1 .1 .1 .1 .1 .1 in
+    let k = t .clock-slave .kept .1 .1 .1 .1 .1 .1 in
     pass-next _ _ (transfers-length _) (slots-length _) (start a .pre .0) _ (slave-in a) _ _ (a .before .loop .inv) _ (mask-is a)
-    _ (t .turn .ensures) (c .before .slave-at .ensures) (k .0) (k .1 .0)
+    _ (t .clock-slave .ensures) (c .before .slave-at .ensures) (k .0) (k .1 .0)
 
 first-lines-requires : tie.Need-first-lines-requires Inv-loop μ-loop
 first-lines-requires c κs = search needs
@@ -136,9 +136,9 @@ cycle-spec =
     slave-count-requires
     cast-count
     loop-holds
-    mul-turn
-    element-copy-out-turn
-    turn-requires
+    mul-clock-slave
+    element-copy-out-clock-slave
+    clock-slave-requires
     add-finished
     slave-at-requires
     cast-start

@@ -2,7 +2,7 @@
 -- Assumes nothing.
 use mathlib.Core.Path.{_∙_}
 use borrow.Author.Needs.{needs}
-use Rattle.fabric_cycle.specs.Code.Turns.{endedTransfer}
+use Rattle.fabric_cycle.specs.Code.SlaveClocks.{endedTransfer}
 use Rattle.fabric_cycle.proofs.end_transfer.Statement.{statement}
 use Rattle.fabric_cycle.proofs.end_transfer.Tie as tie
 

@@ -1,11 +1,11 @@
 -- `fabric_cycle::serve_at` meets its contract: the parts are read, the step and its bytes are made, and the parts are put.
 -- Assumes nothing.
-use Rattle.fabric_cycle.proofs.TurnLaws.{serves-as, turned-serving}
+use Rattle.fabric_cycle.proofs.SlaveClockLaws.{serves-as, stepped-serving}
 use borrow.Author.Needs.{needs}
 use Rattle.fabric_cycle.proofs.serve_at.Statement.{statement}
 use Rattle.fabric_cycle.proofs.serve_at.Tie as tie
 
--- from the step back to the start, from the put of the slot back to the step, and from the end of the turn back to that put
+-- from the step back to the start, from the put of the slot back to the step, and from the end of the call back to that put
 abbrev start : tie.After-serve → tie.Start
 start c = c .before .before .before .before .before .before .before .before .before .before
 
@@ -56,7 +56,7 @@ returns c =
     let slot = put (c .before) in
     let step = stepped (slot .before) in
     let t = step .before .before .before in
-    turned-serving _ _ _ _ _ _ (t .before .before .before .master-at .ensures) (t .before .before .slave-at .ensures)
+    stepped-serving _ _ _ _ _ _ (t .before .before .before .master-at .ensures) (t .before .before .slave-at .ensures)
     (t .transfer-at .ensures) _ _ _ _ _ _ (step .serve .ensures) (slot .put-slot .ensures)
     (c .before .before .before .put-line .ensures) (c .before .end-transfer .ensures) (c .weight-of .ensures)
 

@@ -5,7 +5,7 @@ use mathlib.Core.Bool.{false}
 use Rattle.description_layout.specs.Layout.{boardIn}
 use Rattle.fabric_state.specs.Records.{slotAt, arbiterOf}
 use Rattle.fabric_layout.specs.Layout.{stateIn}
-use Rattle.fabric_cycle.proofs.TurnLaws.{asked-serving, again-low, first-low, asked-again, asked-first, asked-none}
+use Rattle.fabric_cycle.proofs.SlaveClockLaws.{asked-serving, again-low, first-low, asked-again, asked-first, asked-none}
 use borrow.Author.Needs.{needs}
 use Rattle.fabric_cycle.proofs.slot_asked.Statement.{statement}
 use Rattle.fabric_cycle.proofs.slot_asked.Tie as tie

@@ -11,7 +11,7 @@ use borrow.Author.Needs.{needs}
 use Rattle.description_board.specs.declared.Board.{Board}
 use Rattle.description_board.specs.declared.Slave.{Slave}
 use Rattle.description_board.specs.Records.{totalSpan, startOf, memoryLength}
-use Rattle.description_layout.proofs.PlaceLaws.{slaves-length}
+use Rattle.description_layout.proofs.BoardLaws.{slaves-length}
 use Rattle.description_layout.specs.Layout.{boardIn}
 use Rattle.description_rules.proofs.refusals.memory_length.Statement.{statement}
 use Rattle.description_rules.proofs.refusals.memory_length.Tie as tie

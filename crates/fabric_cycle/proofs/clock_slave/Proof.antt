@@ -1,9 +1,9 @@
--- `fabric_cycle::turn` meets its contract: a slave that serves, and one that rests.
+-- `fabric_cycle::clock_slave` meets its contract: a slave that serves, and one that rests.
 -- Assumes nothing.
-use Rattle.fabric_cycle.proofs.TurnLaws.{turned-resting, serving-as, turned-as}
+use Rattle.fabric_cycle.proofs.SlaveClockLaws.{stepped-resting, serving-as, stepped-as}
 use borrow.Author.Needs.{needs}
-use Rattle.fabric_cycle.proofs.turn.Statement.{statement}
-use Rattle.fabric_cycle.proofs.turn.Tie as tie
+use Rattle.fabric_cycle.proofs.clock_slave.Statement.{statement}
+use Rattle.fabric_cycle.proofs.clock_slave.Tie as tie
 
 slot-asked-requires : tie.Need-slot-asked-requires
 slot-asked-requires c κs = let o = c .before .before .before in (o .pre .slave, o .pre .small)
@@ -24,7 +24,7 @@ returns : tie.Need-returns
 returns c =
     let served = c .before .before .before .before in
     let asked = served .before .before .before .before .before .before in
-    turned-as _ _ _ _ (asked .slot-asked .ensures) _ _ _ _ _ _ (served .serve-at .ensures)
+    stepped-as _ _ _ _ (asked .slot-asked .ensures) _ _ _ _ _ _ (served .serve-at .ensures)
 
 put-slot-requires : tie.Need-put-slot-requires
 put-slot-requires c κs = search needs
@@ -35,11 +35,11 @@ put-line-requires c κs = search needs
 returns-2 : tie.Need-returns-2
 returns-2 c =
     let test = c .before .before .before .before in
-    turned-as _ _ _ _ (test .before .slot-asked .ensures) _ _ _ _ _ _
-    (turned-resting _ _ _ _ _ _ _ _ _ (test .if1 .left) (c .before .before .put-slot .ensures) (c .put-line .ensures))
+    stepped-as _ _ _ _ (test .before .slot-asked .ensures) _ _ _ _ _ _
+    (stepped-resting _ _ _ _ _ _ _ _ _ (test .if1 .left) (c .before .before .put-slot .ensures) (c .put-line .ensures))
 
-pub turn-spec : {M : Type 1} → statement M
-turn-spec =
+pub clock-slave-spec : {M : Type 1} → statement M
+clock-slave-spec =
     tie.close
     (tie.spec
     slot-asked-requires

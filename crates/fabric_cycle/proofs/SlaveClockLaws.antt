@@ -1,4 +1,4 @@
--- One slave's turn: what each path of the code gives.
+-- One slave's clock: what each path of the code gives.
 -- Assumes nothing.
 use mathlib.Core.Path.{_≡_, refl, sym, ap, _∙_}
 use mathlib.Core.Bool.{Bool, true, false, cond}
@@ -33,7 +33,7 @@ use Rattle.fabric_state.specs.Control.{slotGranted}
 use Rattle.fabric_layout.specs.Code.Puts.{withSlot}
 use Rattle.fabric_cycle.specs.Code.Serving.{stepFrom, Serves, Served}
 use Rattle.fabric_cycle.proofs.ServeLaws.{from-resting, carried-resting}
-use Rattle.fabric_cycle.specs.Code.Turns.{slotAsked, stepAt, carriedAt, endedTransfer, stateTurned, Serving, Turned}
+use Rattle.fabric_cycle.specs.Code.SlaveClocks.{slotAsked, stepAt, carriedAt, endedTransfer, stateStepped, Serving, SlaveClocked}
 
 -- ---- rule 1
 
@@ -96,10 +96,10 @@ module _ (b : Board) (st : State) (s mask : ℕ) {x : Slot} (own : x ≡ slotAt 
 
 module _ (b : Board) (before after : State) (s : ℕ) (x : Slot) (start : ℕ) (lines shown : List Line) (d : Store) where
   -- a slave that rests
-  pub turned-resting : x .serving ≡ false → after ≡ withSlot before s x → shown ≡ set lines s noLine
-      → Turned b before after s x start lines shown 0 d d
-  unfolding stateTurned stepAt carriedAt endedTransfer
-  turned-resting off e f =
+  pub stepped-resting : x .serving ≡ false → after ≡ withSlot before s x → shown ≡ set lines s noLine
+      → SlaveClocked b before after s x start lines shown 0 d d
+  unfolding stateStepped stepAt carriedAt endedTransfer
+  stepped-resting off e f =
       let ma = masterAt b (x .owner) in
       let t = transferAt before (x .owner) in
       let q : _≡_ {A = Step} (record { slot = x; line = noLine; finished = false }) (stepFrom ma (slaveAt b s) t x)
@@ -118,11 +118,11 @@ serves-as x start d e f g p = rw (e, f, g) p
 
 module _ (b : Board) (before : State) (s : ℕ) (x : Slot) (start : ℕ) (d : Store) {ma : Master} {sl : Slave} {t : Transfer}
     (e : ma ≡ masterAt b (x .owner)) (f : sl ≡ slaveAt b s) (g : t ≡ transferAt before (x .owner)) where
-  pub turned-serving : (mid after : State) (lines shown : List Line) (y : Step) {r : ℕ} (c : Store) → Served ma sl t x start d c y
+  pub stepped-serving : (mid after : State) (lines shown : List Line) (y : Step) {r : ℕ} (c : Store) → Served ma sl t x start d c y
       → mid ≡ withSlot before s (y .slot) → shown ≡ set lines s (y .line) → after ≡ endedTransfer mid (x .owner) (y .finished)
-      → r ≡ cond (y .finished) (2 ^ x .owner) 0 → Turned b before after s x start lines shown r d c
-  unfolding stateTurned stepAt carriedAt
-  turned-serving mid after lines shown y c p u v w z =
+      → r ≡ cond (y .finished) (2 ^ x .owner) 0 → SlaveClocked b before after s x start lines shown r d c
+  unfolding stateStepped stepAt carriedAt
+  stepped-serving mid after lines shown y c p u v w z =
       let q : y ≡ stepFrom (masterAt b (x .owner)) (slaveAt b s) (transferAt before (x .owner)) x
       = p .step ∙ rw (e, f, g) in
       record {
@@ -137,6 +137,6 @@ module _ (b : Board) (st : State) (s start : ℕ) {x y : Slot} (e : x ≡ y) whe
   pub serving-as : (d : Store) → (y .serving ≡ true → Serving b st s y start d) → x .serving ≡ true → Serving b st s x start d
   serving-as d p on = rw e (p (rw e at on))
 
-  pub turned-as : (after : State) (lines shown : List Line) (r : ℕ) (c d : Store) → Turned b st after s x start lines shown r c d
-      → Turned b st after s y start lines shown r c d
-  turned-as after lines shown r c d p = rw e at p
+  pub stepped-as : (after : State) (lines shown : List Line) (r : ℕ) (c d : Store) → SlaveClocked b st after s x start lines shown r c d
+      → SlaveClocked b st after s y start lines shown r c d
+  stepped-as after lines shown r c d p = rw e at p

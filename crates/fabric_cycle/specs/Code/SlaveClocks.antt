@@ -42,8 +42,8 @@ unfoldable pub endedTransfer : State → ℕ → Bool → State
 endedTransfer st m finished = cond finished (withTransfer st m noTransfer) st
 
 -- the state with slave s after its step from x
-unfoldable pub stateTurned : Board → State → ℕ → Slot → State
-stateTurned b st s x = endedTransfer (withSlot st s (stepAt b st s x .slot)) (x .owner) (stepAt b st s x .finished)
+unfoldable pub stateStepped : Board → State → ℕ → Slot → State
+stateStepped b st s x = endedTransfer (withSlot st s (stepAt b st s x .slot)) (x .owner) (stepAt b st s x .finished)
 
 -- a slave that serves after rule 1
 pub record Serving (b : Board) (st : State) (s : ℕ) (x : Slot) (start : ℕ) (d : Store) : Type 0 where
@@ -58,9 +58,9 @@ pub record Ready (b : Board) (st : State) (s mask start : ℕ) (d : Store) : Typ
   pub serves : slotAsked b st s mask .serving ≡ true → Serving b st s (slotAsked b st s mask) start d
 
 -- slave s has had its clock from the slot x: the state, the lines, the bit answered and the bytes e left of d
-pub record Turned (b : Board) (before after : State) (s : ℕ) (x : Slot) (start : ℕ) (lines shown : List Line) (r : ℕ)
+pub record SlaveClocked (b : Board) (before after : State) (s : ℕ) (x : Slot) (start : ℕ) (lines shown : List Line) (r : ℕ)
     (d e : Store) : Type 0 where
-  pub state : after ≡ stateTurned b before s x
+  pub state : after ≡ stateStepped b before s x
   pub shows : shown ≡ set lines s (stepAt b before s x .line)
   pub weight : r ≡ cond (stepAt b before s x .finished) (2 ^ x .owner) 0
   pub store : e ≡ carriedAt b before s x start d
