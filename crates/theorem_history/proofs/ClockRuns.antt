@@ -42,7 +42,7 @@ module _ (b : Board) where
   unfolding leaves afterClock
   next-is w e = taken-next w (clockAt b w) (number-is w e)
 
-  -- no clock passes, also where a run is refused with the number n
+  -- no clock passes: the run is over, or refused
   none : (most : ℕ) (r q : Run) → q .clocks ≡ r .clocks → q .world ≡ r .world → Between b most r q
   unfolding clockCalls History answers after
   none most r q e f = record { passed = 0; few = omega arith; clocks = omega arith; history = tt; taken = refl; leaves = f }
@@ -61,7 +61,7 @@ module _ (b : Board) where
         leaves = x .leaves ∙ ap (λ (u : World). after u (clockCalls b (afterClock b w) (x .passed))) (sym n);
       }
 
-  -- nor is the next clock refused
+  -- behind a clock that is taken the next one is taken too
   more-sized : (r : Run) → TakesClock b (r .world) → Sized (clockMore b r .world .state)
   unfolding clockMore afterClock
   more-sized r e = rw (clock-is b (r .world .state) (r .world .store) e) (sized-after b (r .world .state))

@@ -1,4 +1,4 @@
--- A pair's figures as the theory of the wait takes them: singles, longest transfers, turns and their sum.
+-- The figures of a pair (rules 5.1 to 5.7) as theorem_bounds takes them, and how long an accepted transfer lasts at the most.
 -- Assumes nothing.
 use mathlib.Core.Path.{_≡_, refl, sym}
 use mathlib.Core.Bool.{Bool, true, false, cond, not, _&&_}
@@ -117,7 +117,7 @@ module _ (b : Board) (s : ℕ) (hs : s < b .«slave_count») where
           let e : suc a - 1 ≡ a = omega arith in
           rw (lt-ltb 0 (suc a) (omega arith), e, credit-suc)
 
-  -- rule 5.7: what the turns of the other masters add up to, as the theory has it
+  -- rule 5.7: what the turns of the other masters add up to, as theorem_bounds counts them
   pub wait-quoted : (m : ℕ) → waits.quotedWait b m s ≡ quoted (b .«master_count») (sharesOf b s) (singleOf b s) (longestOf b s) m
   unfolding waits.quotedWait waits.turnsOf
   wait-quoted m = sum-same _ _ (b .«master_count») (λ j h. other-turn m j)

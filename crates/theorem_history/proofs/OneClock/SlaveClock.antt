@@ -53,7 +53,7 @@ pub record Nearer (b : Board) (st : State) (s m K : ℕ) : Type 0 where
   pub some : 1 ≤ K
   pub bound : potAt b (stateAfter b st) s m ≤ K - 1
 
--- a slave that serves after rule 1 goes by rules 2 and 3
+-- a slave that serves after the grant goes by rules 4.8 and 4.9
 step-serving : (b : Board) (st : State) (s : ℕ) → slotAfterGrant b st s .serving ≡ true
     → let slot = slotAfterGrant b st s in
     stepOf b st s ≡ served (masterAt b (slot .owner)) (slaveAt b s) (transferAt st (slot .owner)) slot
@@ -83,7 +83,7 @@ module _ (b : Board) (legal : Legal b) (st : State) (sound : Sound b st) (s : �
   abbrev remaining : ℕ
   remaining = slotAt st s .remaining
 
-  -- the slot after rule 1
+  -- the slot after the grant
   abbrev now : Slot
   now = slotAfterGrant b st s
 
@@ -154,7 +154,7 @@ module _ (b : Board) (legal : Legal b) (st : State) (sound : Sound b st) (s : �
 
   -- ---- within the owner's turn
 
-  -- a slave that rests after rule 1 rests after the clock, with no grants
+  -- a slave that rests after the grant rests after the clock, with no grants
   rests-after : now .serving ≡ false → now .remaining ≡ 0
       → (slotAt (stateAfter b st) s .remaining ≡ 0) × (leftAt b (stateAfter b st) s ≡ 0)
   rests-after off none =

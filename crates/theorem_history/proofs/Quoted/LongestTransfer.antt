@@ -1,8 +1,9 @@
--- Each connected pair has a transfer exactly as long as its serve (rule 6.6): the last that the exact history would post.
+-- Each connected pair has a transfer exactly as long as its serve (rule 6.6): the one that its master posts for its last grant.
 -- Assumes nothing.
 use mathlib.Core.Path.{_≡_, refl, sym, ap, _∙_}
 use mathlib.Core.Bool.{true, false}
 use Prim.Native.Nat.{ℕ, _≤_, _<_}
+use native.Mathlib.Omega.{arith}
 use Rattle.description_board.specs.declared.Board.{Board}
 use Rattle.description_board.specs.Records.{masterAt, slaveAt, sharesAt, connected}
 use Rattle.description_board.specs.Items.{boardRefusal}
@@ -49,7 +50,8 @@ module _
     last-long : lengthOf b last ≡ serveOf b m s
     unfolding lengthOf serveOf requestFor transferFor
     last-long =
-        ap (λ (k : ℕ). ownLength (masterAt b m) (slaveAt b k) (transferFor b s m 0)) last-slave ∙ last-serve b s m 0 refl
+        let same = ap (λ (k : ℕ). ownLength (masterAt b m) (slaveAt b k) (transferFor b s m 0)) last-slave in
+        omega (arith, same, last-serve b s m 0 refl)
 
     quoted-serve : quoteOf b m (slaveFor b last) .serve ≡ serveOf b m s
     quoted-serve =

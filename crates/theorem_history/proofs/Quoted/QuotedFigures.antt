@@ -4,6 +4,7 @@
 use mathlib.Core.Path.{_≡_, refl, ap, _∙_}
 use mathlib.Core.Bool.{true}
 use Prim.Native.Nat.{_≤_}
+use native.Mathlib.Omega.{arith}
 use Rattle.common_laws.proofs.Tests.{both}
 use Rattle.description_board.specs.declared.Board.{Board}
 use Rattle.description_board.specs.Records.{connected}
@@ -43,7 +44,8 @@ module _ (b : Board) (legal : Legal b) (ok : boardRefusal b ≡ 0) (w : World) (
   length-within : lengthOf b q ≤ serveOf b (q .master) (slaveFor b q)
   unfolding lengthOf serveOf
   length-within =
-      accepted-long b legal (q .master) (taken .master) (transferOf q) (slaveFor b q) (fits b legal (w .state) q taken)
+      let fit = fits b legal (w .state) q taken in
+      omega (arith, accepted-long b legal (q .master) (taken .master) (transferOf q) (slaveFor b q) fit)
 
   pub figures : Figures b q
   figures =

@@ -46,7 +46,7 @@ module _ (test : Clocked → Bool) where
       go true q f = any-here a (take j xs) q
       go false q f = any-later a (take j xs) (f (sym (any-rest a (take i xs) q) ∙ e))
 
-  by-more : (i n : ℕ) (xs : List Clocked) → i ≤ n → By test i xs → By test n xs
+  pub by-more : (i n : ℕ) (xs : List Clocked) → i ≤ n → By test i xs → By test n xs
   by-more i n xs h f l = any-more i n xs h (f (omega arith))
 
   -- the first clock passes it, or one of the i after it

@@ -8,7 +8,7 @@ use Prim.Native.Nat.{ℕ, _+_, _*_, _≤_, _<_}
 use native.Mathlib.Nat.{mul-le-mul}
 use native.Mathlib.Omega.{arith}
 use Rattle.description_board.specs.declared.Board.{Board}
-use Rattle.description_board.specs.Records.{slaveAt}
+use Rattle.description_board.specs.Records.{masterAt, slaveAt}
 use Rattle.description_board.specs.Legal.{Legal}
 use Rattle.fabric_accesses.specs.declared.Transfer.{Transfer}
 use Rattle.fabric_accesses.specs.Accesses.{waitOf, ownLength}
@@ -29,17 +29,23 @@ use Rattle.theorem_history.proofs.Safe.WaitBounds.{Waiting}
 
 module _ (b : Board) (legal : Legal b) where
   module _ (st : State) (q : Request) (taken : Taken b st q) where
-    -- the request is for a slave of the board, and lasts a clock at least
+    -- the request is for a slave of the board
     pub fits : Accepted b (q .master) (transferOf q) (slaveFor b q)
     unfolding slaveFor
     fits = accepted b legal (q .master) (transferOf q) (taken .fits)
 
-    pub lasts : 1 ≤ lengthOf b q
-    unfolding lengthOf ownLength
+    -- its transfer lasts a clock at least, and no longer than rule 6.4 allows it
+    pub lasts : 1 ≤ ownLength (masterAt b (q .master)) (slaveAt b (slaveFor b q)) (transferOf q)
+    unfolding ownLength
     lasts =
-        let a : 1 ≤ 1 + waitOf (slaveAt b (slaveFor b q)) (transferOf q) = omega arith in
-        let p : 1 * 1 ≤ lengthOf b q = mul-le-mul (fits .accesses) a in
+        let sl = slaveAt b (slaveFor b q) in
+        let a : 1 ≤ 1 + waitOf sl (transferOf q) = omega arith in
+        let p : 1 * 1 ≤ ownLength (masterAt b (q .master)) sl (transferOf q) = mul-le-mul (fits .accesses) a in
         p
+
+    pub own-length : ownLength (masterAt b (q .master)) (slaveAt b (slaveFor b q)) (transferOf q) ≤ lengthOf b q
+    unfolding lengthOf
+    own-length = omega arith
 
   module _ (w : World) (x : Standing b w) (q : Request) (taken : Taken b (w .state) q) where
     abbrev st : State

@@ -18,8 +18,9 @@ use Rattle.theorem_history.proofs.Histories.CallCases.{TakesPost, withP
 use Rattle.theorem_history.proofs.Histories.LentLengths.{post-before, lent-before, counted-lent}
 use Rattle.theorem_history.proofs.Histories.OnePost.{Taken, post-taken}
 use Rattle.theorem_history.proofs.Histories.Standing.{Standing, post-stands, history-stands}
+use Rattle.theorem_history.proofs.Safe.ClockTests.{by-more}
 use Rattle.theorem_history.proofs.Safe.WaitBounds.{Bounds, bounds}
-use Rattle.theorem_history.proofs.Safe.PostedWait.{fits, lasts, posted-waits}
+use Rattle.theorem_history.proofs.Safe.PostedWait.{fits, lasts, own-length, posted-waits}
 
 module _
     (b : Board) (legal : Legal b) (w : World) (before : List Call) (q : Request) (calls : List Call) (start : Start b w)
@@ -49,7 +50,6 @@ module _
 
     bounded : (some : 1 ≤ length (answers calls))
         → Bounds b (q .master) (slaveFor b q) (transferOf q) (withPost here q .state) (answers calls)
-    unfolding lengthOf
     bounded some =
         bounds b legal (q .master) (taken .master) (slaveFor b q) (fits b legal (here .state) q taken .within) (transferOf q)
         (lasts b legal (here .state) q taken) calls (withPost here q) behind (post-stands b legal here q (stands some) taken)
@@ -63,7 +63,10 @@ module _
 
     pub finished : waitFor b q + lengthOf b q ≤ length (answers calls)
         → any (names (q .master)) (take (waitFor b q + lengthOf b q) (answers calls)) ≡ true
-    unfolding lengthOf
     finished l =
-        let some : 1 ≤ length (answers calls) = omega (arith, lasts b legal (here .state) q taken) in
-        bounded some .finish (waitFor b q) (posted-waits b legal here (stands some) q taken) l
+        let lasting = lasts b legal (here .state) q taken in
+        let enough = own-length b legal (here .state) q taken in
+        let some : 1 ≤ length (answers calls) = omega arith in
+        let k = waitFor b q in
+        by-more (names (q .master)) _ (k + lengthOf b q) (answers calls) (omega arith)
+        (bounded some .finish k (posted-waits b legal here (stands some) q taken)) l
