@@ -26,7 +26,7 @@ field-of n j k w h =
 pub multiple-trans : (x m b : ℕ) → x % m ≡ 0 → m % b ≡ 0 → x % b ≡ 0
 multiple-trans x m b p q = mod-eq-zero-of-dvd b (dvd-trans b (dvd-of-mod-eq-zero b q) (dvd-of-mod-eq-zero m p))
 
--- sums, differences and products of multiples of b
+-- sums and differences of multiples of b
 pub multiple-add : (x y b : ℕ) → x % b ≡ 0 → y % b ≡ 0 → (x + y) % b ≡ 0
 multiple-add x y b p q = mod-eq-zero-of-dvd b (dvd-add b (dvd-of-mod-eq-zero b p) (dvd-of-mod-eq-zero b q))
 

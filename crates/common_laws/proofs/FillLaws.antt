@@ -1,4 +1,4 @@
--- A list of f 0, f 1, .. that a loop fills place by place.
+-- A list of f 0, f 1, .. that a loop fills element by element.
 -- Assumes nothing.
 use mathlib.Core.Path.{_≡_, refl, sym, ap, _∙_}
 use mathlib.Core.Bool.{Bool, true, false, cond}
@@ -40,7 +40,7 @@ module _ {X : Type 0} where
           rw (eq-eqb k i e, e) (getD-set-same (table f n) i v v l)
       go k h (no e) = rw (ne-eqb k i e) (getD-set-other (table f n) i k v v e ∙ getD-table f n v k h)
 
--- of n places the first i are filled by f, the others are still g's
+-- of n elements the first i are f's, the others are still g's
 unfoldable pub filled : {X : Type 0} → (ℕ → X) → (ℕ → X) → ℕ → ℕ → List X
 filled f g n i = table (λ k. cond (ltb k i) (f k) (g k)) n
 
@@ -49,7 +49,7 @@ module _ {X : Type 0} (f g : ℕ → X) (n : ℕ) where
   unfolding filled
   filled-none d l e h = table-is _ n d l e (λ k i. h k i ∙ rw (le-ltb k 0 (omega arith)))
 
-  -- one place more: `l` is the list as it stands
+  -- one element more: `l` is the list as it stands
   pub filled-next : (i : ℕ) {l : List X} {v : X} → l ≡ filled f g n i → v ≡ f i → set l i v ≡ filled f g n (i + 1)
   unfolding filled
   filled-next i {l} {v} e q =
@@ -71,7 +71,7 @@ module _ {X : Type 0} (f g : ℕ → X) (n : ℕ) where
   unfolding filled
   filled-all i h e = e ∙ table-same _ _ n (λ k j. rw (lt-ltb k i (omega arith)))
 
--- a table in which only place s is another
+-- a table in which only the element at index s is another
 pub table-put : {X : Type 0} (f g : ℕ → X) (n s : ℕ) (x : X) → g s ≡ x → ((i : ℕ) → (i ≡ s → ⊥) → g i ≡ f i)
     → table g n ≡ set (table f n) s x
 table-put f g n s x e q = table-same _ _ n (λ i h. go i (ℕ-discrete i s)) ∙ sym (set-table f n s x)
@@ -80,7 +80,7 @@ table-put f g n s x e q = table-same _ _ n (λ i h. go i (ℕ-discrete i s)) ∙
     go i (yes w) = rw (eq-eqb i s w, w) e
     go i (no w) = rw (ne-eqb i s w) (q i w)
 
--- two different places of the same table
+-- two different indices: one of them is below the other
 pub below-above : (i s : ℕ) → (i ≡ s → ⊥) → (i < s) ⊎ (s < i)
 below-above i s w = go (ltb i s) refl
   where

@@ -1,4 +1,4 @@
--- Laws of lists: membership along a list, the first n elements from a place on, one more of the lists made of f 0, f 1, ..
+-- Laws of lists: membership along a list, the first n elements from an index on, one more of the lists made of f 0, f 1, ..
 -- Assumes nothing.
 use mathlib.Core.Path.{_≡_}
 use mathlib.Core.Bool.{Bool, true, false, _&&_}
@@ -14,7 +14,7 @@ use Rattle.common_laws.specs.Lists.{member, gather}
 use Rattle.common_laws.proofs.Members.{all, of-member}
 use Rattle.common_laws.proofs.Tests.{both-hold}
 
--- looking for x from place i on: it stands there, it does not, the list is at its end
+-- looking for x from index i on: it stands there, it does not, the list is at its end
 module _ (x : ℕ) (l : List ℕ) (i : ℕ) where
   pub member-here : i < length l → getD l i 0 ≡ x → member x (drop i l) ≡ true
   unfolding member
@@ -38,7 +38,7 @@ member-within lo hi x l t e =
     let p = both-hold (leb lo x) (leb x hi) (of-member (λ y. leb lo y && leb y hi) l t x e) in
     (leb→le lo x (p .0), leb→le x hi (p .1))
 
--- the first n elements from place i on: one more, or none
+-- the first n elements from index i on: one more, or none
 module _ {X : Type 0} (l : List X) (n i : ℕ) where
   pub drop-take-next : (d : X) → i < n → n ≤ length l → drop i (take n l) ≡ getD l i d ∷ drop (i + 1) (take n l)
   drop-take-next d h fit =

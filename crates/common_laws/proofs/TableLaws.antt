@@ -44,7 +44,7 @@ module _ {X : Type 0} (f : ℕ → X) where
   pub getD-table-past : (n : ℕ) (d : X) (i : ℕ) → n ≤ i → getD (table f n) i d ≡ d
   getD-table-past n d i h = List·getD-eq-default (table f n) d (rw (length-table n) h)
 
--- every place of n times a, and every place behind them
+-- at every index of n times a, and at every index behind them
 pub getD-replicate-all : {X : Type 0} (n i : ℕ) (a : X) → getD (replicate n a) i a ≡ a
 getD-replicate-all zero i a = refl
 getD-replicate-all (suc n) zero a = refl

@@ -82,7 +82,7 @@ pub member-one : (b x : ℕ) → (x ≡ b → ⊥) → member b (x ∷ []) ≡ f
 unfolding member
 member-one b x h = rw (ne-eqb x b h)
 
--- one run of stores behind another
+-- one row of stores behind another
 pub sets-append : (l : List ℕ) (i : ℕ) (vs ws : List ℕ) → sets l i (vs ++ ws) ≡ sets (sets l i vs) (i + length vs) ws
 sets-append l i [] ws = ap (λ (k : ℕ). sets l k ws) (omega arith)
 sets-append l i (v ∷ vs) ws =

@@ -1,4 +1,4 @@
--- The lines of a text, read and counted from a place of it on.
+-- The lines of a text, read and counted from a position of it on.
 -- Assumes nothing.
 use mathlib.Core.List.{List, _∷_}
 use mathlib.Core.Path.{_≡_, refl, ap, ap₂, sym, _∙_}

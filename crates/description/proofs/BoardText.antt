@@ -64,7 +64,7 @@ module _ (shares : List ℕ) (i : ℕ) where
   unfolding shareItem
   pair-some h = rw (ne-eqb _ _ h) (text-one (ShareLine (i / 16) (i % 16) (getD shares i 0)))
 
--- the text of a place: a place with no line has no bytes
+-- the text of an entry: an entry with no line has no bytes
 text-present : (x : Item) → itemsText (present x) ≡ itemText x
 unfolding present itemsText itemText
 text-present Malformed = refl
@@ -76,7 +76,7 @@ text-present (ShareLine m s n) = text-one (ShareLine m s n)
 pub few-places : (b : Board) → boardRefusal b ≡ 0 → entryCount b ≤ 152
 few-places b e = let l = accepted-legal b e in omega (arith, l .fewMasters, l .fewSlaves)
 
--- The text of a board place by place.
+-- The text of a board entry by entry.
 module _ (b : Board) where
   pub text-all : (k : ℕ) → k ≡ entryCount b → itemsText (linesTo b k) ≡ writeText b
   unfolding writeText

@@ -1,4 +1,4 @@
--- What `refused_at` says of a text: its number is `read`'s, and the line charged is the first that is refused.
+-- What `refused_at` says of a text: the line charged is the first that is refused (rule 8.3).
 -- Assumes nothing.
 use mathlib.Core.Bool.{Bool, true, false}
 use mathlib.Core.List.{List, [], _∷_}
@@ -49,7 +49,7 @@ first-behind n r (x ∷ xs) k h = go (eqb (step r x .number) 0) refl (λ e. firs
     go false e rest =
         let l = sym (first-refused n r (step r x) x xs refl (eqb-false _ _ e)) ∙ h in omega arith
 
--- The line at place k of xs is the first refused: with those before it r has no refusal, with it the refusal of all.
+-- The line at index k of xs is the first refused: with those before it r has no refusal, with it the refusal of all.
 pub record First (r : Reading) (xs : List Item) (k : ℕ) : Type 0 where
   pub within : k < length xs
   pub before : stepAll r (take k xs) .number ≡ 0

@@ -26,7 +26,7 @@ use Rattle.description.specs.Longest.{longest}
 use Rattle.description.proofs.TextLengths.{reading-short}
 use Rattle.description.proofs.LineTrip.{items-read, items-writable, items-short}
 
--- "Text, at most 8,192 bytes": no accepted board's text is near that
+-- a text may have 8,192 bytes (rule 1.2): no accepted board's text is near that
 pub longest-fits : longest ≤ mostBytes
 unfolding longest mostBytes
 longest-fits = omega arith
@@ -70,7 +70,7 @@ text-room b out h = go (eqb (boardRefusal b) 0) refl
         rw (le-ltb (length out) (length (writeText b)) g) (sym accepted)
     go false e = refl
 
--- "Two descriptions are the same when the writer's lines for them are": then they differ only behind their counts
+-- two boards for which the writer puts the same lines count as the same (rule 1.9): they differ only behind their counts
 pub same-boards :
     (b c : Board) → boardRefusal b ≡ 0 → boardRefusal c ≡ 0 → writeText b ≡ writeText c → trimmed b ≡ trimmed c
 same-boards b c p q e =

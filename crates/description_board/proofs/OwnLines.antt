@@ -25,7 +25,7 @@ use Rattle.description_board.specs.Rebuilt.{trimmed, shared}
 use Rattle.description_board.proofs.RuleLaws.{master-taken, slave-taken}
 use Rattle.description_board.proofs.StepAllLaws.{step-taken, run-append}
 
--- what has been read after b's first m masters, its first s slaves and the first k places of its shares
+-- what has been read after b's first m masters, its first s slaves and its first k shares
 unfoldable pub readTo : Board → ℕ → ℕ → ℕ → Reading
 readTo b m s k = record {
   number = 0;
@@ -39,7 +39,7 @@ readTo b m s k = record {
   };
 }
 
--- the line at place k of the shares, where the pair is connected
+-- the line of the share at index k, where the pair is connected
 abbrev pub shareLine : Board → ℕ → Item
 shareLine b k = ShareLine (k / 16) (k % 16) (getD (b .shares) k 0)
 
@@ -74,7 +74,7 @@ module _ (b : Board) where
       let l : s < 16 = slave-taken _ _ _ e .room in
       sym (step-taken _ _ refl refl e) ∙ rw (front-next (slaveAt b) noSlave 16 s l, add-one s)
 
-  -- one place of the shares more
+  -- one share more
   module _ (m s k : ℕ) (h : k < 128) where
     read-zero : getD (b .shares) k 0 ≡ 0 → stepAll (readTo b m s k) (shareItem (b .shares) k) ≡ readTo b m s (suc k)
     unfolding stepAll shareItem readTo some

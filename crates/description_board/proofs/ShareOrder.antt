@@ -18,7 +18,7 @@ use Rattle.description_board.proofs.RuleLaws.{ShareTaken, share-taken}
 use Rattle.description_board.proofs.StepAllLaws.{step-taken, run-append}
 use Rattle.description_board.proofs.BoardSound.{step-accepted, run-accepted, finish-accepted}
 
--- x put at i and y at j, where each place had a 0: the other way round too, and the list is the same
+-- x put at i and y at j, where a 0 stood at each index: the other way round too, and the list is the same
 exchange : (l : List ℕ) (i j x y : ℕ) → 1 ≤ x → getD l i 0 ≤ 0 → getD (set l i x) j 0 ≤ 0
     → (getD l j 0 ≤ 0) × (getD (set l j y) i 0 ≤ 0) × (set (set l j y) i x ≡ set (set l i x) j y)
 exchange [] i j x y h p q = (p, p, refl)

@@ -1,4 +1,4 @@
--- The lines of a board by place are the lines that the writer puts.
+-- The lines of a board entry by entry are the lines that the writer puts.
 -- Assumes nothing.
 use mathlib.Core.Bool.{Bool, true, false, cond}
 use mathlib.Core.List.{List, [], _∷_, _++_, append-assoc, append-nil}
@@ -36,7 +36,7 @@ pair-present shares i = go (eqb (getD shares i 0) 0)
     go true = refl
     go false = refl
 
--- the line at a place of each of the three parts
+-- the line of an entry of each of the three parts
 module _ (b : Board) where
   pub at-master : (k : ℕ) → k < b .«master_count» → lineAt b k ≡ masterItem (b .masters) k
   unfolding lineAt
@@ -76,7 +76,7 @@ module _ (b : Board) where
       let e : n + i - n ≡ i = omega arith in
       rw (at-pair (n + i) (omega arith), e) (pair-present (b .shares) i)
 
-  -- the lines of all places are the writer's
+  -- the lines of all entries are the writer's
   pub lines-all : linesTo b (entryCount b) ≡ items b
   unfolding linesTo items table
   lines-all =
@@ -89,7 +89,7 @@ module _ (b : Board) where
       ∙ ap₂ (λ (x y : List Item). x ++ y) (gather-same _ _ m master-present)
       (ap₂ (λ (x y : List Item). x ++ y) (gather-same _ _ s slave-present) (gather-same _ _ 128 (λ i _. share-present i)))
 
-  -- one place more
+  -- one entry more
   pub lines-next : (k : ℕ) → linesTo b (k + 1) ≡ linesTo b k ++ present (lineAt b k)
   unfolding linesTo
   lines-next k = gather-suc (λ j. present (lineAt b j)) k
@@ -102,7 +102,7 @@ module _ (b : Board) where
   unfolding linesTo
   lines-split j d n e = rw e (gather-add (λ k. present (lineAt b k)) j d)
 
-  -- a refusal after j places is the board's; after all of them the end is still to be tested
+  -- a refusal after j entries is the board's; after all of them the end is still to be tested
   pub check-stops : (q : Reading) (j : ℕ) → j ≤ entryCount b → q ≡ stepAll start (linesTo b j) → (q .number ≡ 0 → ⊥)
       → q .number ≡ boardRefusal b
   unfolding boardRefusal described

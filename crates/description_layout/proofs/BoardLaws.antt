@@ -1,4 +1,4 @@
--- A board's records at their places of an array of numbers: what is read, how many there are, and the array of zeros.
+-- A board's records at their indices in an array of numbers: what is read, how many there are, and the array of zeros.
 -- Assumes nothing.
 use mathlib.Core.Path.{_≡_, refl, sym, _∙_}
 use mathlib.Core.List.{List}

@@ -53,7 +53,7 @@ module _ (p : Progress) (l : List ℕ) where
   share-added i j k m none e h b =
       rw (b, share-put-at (boardIn l) i j k) (step-taken (readingOf p l) (ShareLine i j k) none e h)
 
-  -- past the 128 places a share changes nothing
+  -- past the 128 shares of a board a share line changes nothing
   pub share-past : (i j k : ℕ) {n : ℕ} → p .number ≡ 0 → n ≡ shareRefusal (boardIn l) i j k → n ≡ 0 → 128 ≤ 16 * i + j
       → readingOf (record { number = 0; sharing = true }) l ≡ step (readingOf p l) (ShareLine i j k)
   unfolding withShareAt

@@ -1,4 +1,4 @@
--- The loop of a run: where it stands between two clocks, and its ends.
+-- The loop of a run of clocks: where it stands between two clocks, and its ends.
 -- Assumes nothing.
 use mathlib.Core.Path.{_≡_, refl, sym, ap, subst₂, _∙_}
 use mathlib.Core.List.{List}
@@ -28,7 +28,7 @@ use Rattle.fabric.proofs.RunOfClocks.{refusal-again, on-next, on-spent,
 pub sized : (l : List ℕ) → Sized (stateIn l)
 sized l = record { transfers = transfers-length l; slots = slots-length l }
 
--- a run that is refused
+-- a run of clocks that is refused
 pub run-refused : (b : Board) (most : ℕ) (before lines : List ℕ) (d : Store) {n : ℕ} → n ≡ clockRefusal b (stateIn before) d
     → (n ≡ 0 → ⊥) → linesIn lines ≡ replicate 16 noLine
     → Runs b most before before lines d d (record { number = n; clocks = 0; mask = 0 })
@@ -37,7 +37,7 @@ run-refused b most before lines d {n} e h q =
     let no = ne-eqb (clockRefusal b (stateIn before) d) 0 (λ z. h (e ∙ z)) in
     record { answer = rw (no, e, q); kept = λ _. refl }
 
--- between two clocks of a run that is not refused, none of which finished a master: so many clocks are left of the most
+-- between two clocks of one that is not refused, none of which finished a master: so many clocks are left of the most
 pub record Passing (b : Board) (most : ℕ) (before : List ℕ) (d : Store) (requests now lines : List ℕ) (e : Store) (left : ℕ)
     : Type 0 where
   pub few : left ≤ most
@@ -63,7 +63,7 @@ module _ (b : Board) (most : ℕ) (before : List ℕ) (d : Store) (ok : clockRef
       zero-passed : 0 ≡ most - most
       zero-passed = omega arith
 
-  -- the answer of a run by where it has come to
+  -- its answer by where it has come to
   ran : {after lines : List ℕ} {e : Store} (n mask : ℕ)
       → clockOn b most (standing 0 (record { state = stateIn before; store = d }))
       ≡ reached n mask (linesIn lines) (stateIn after) e

@@ -144,7 +144,7 @@ module _ (b : Board) (m : ℕ) (t : Transfer) where
             omega (arith, product-le (t .beats) (masterAt b m .width) 64 8 beats width)
         go false f = omega arith
 
--- what a post answers and leaves: "the state stay[s] unchanged" on a refusal, "every lent byte" too
+-- what a post answers and leaves: a refused one leaves the state and every lent byte as they were (rule 8.1)
 module _ (b : Board) (before buffer : List ℕ) (q : Request) {n : ℕ} (e : n ≡ postRefusal b (stateIn before) buffer q) where
   pub post-refused : (n ≡ 0 → ⊥) → Posts b q before before buffer buffer n
   unfolding post bufferAfterPost

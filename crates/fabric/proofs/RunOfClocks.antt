@@ -1,4 +1,4 @@
--- A run clock by clock: a clock that is not refused leaves what the next one is not refused for.
+-- A run of clocks (rule 4.15), clock by clock: a clock that is not refused leaves what the next one is not refused for.
 -- Assumes nothing.
 use mathlib.Core.Path.{_≡_, refl, ap, _∙_}
 use mathlib.Core.Bool.{true, not, _||_}
@@ -68,7 +68,7 @@ module _ (b : Board) (st : State) (d : Store) (e : clockRefusal b st d ≡ 0) wh
 pub sized-after : (b : Board) (st : State) → Sized (stateAfter b st)
 sized-after b st = record { transfers = transfers-after b st; slots = slots-after b st }
 
--- how far a run has come after n clocks, of which the last answered mask and lines and left st and d
+-- how far a run of clocks has come after n of them, of which the last answered mask and lines and left st and d
 abbrev pub reached : ℕ → ℕ → List Line → State → Store → Run
 reached n mask lines st d =
     record { number = 0; clocks = n; mask = mask; lines = lines; world = record { state = st; store = d } }
@@ -79,7 +79,7 @@ pub more-is : (b : Board) (n mask : ℕ) (lines : List Line) (st : State) (d : S
 unfolding clockMore afterClock
 more-is b n mask lines st d e = rw (clock-is b st d e, store-is b st d e)
 
--- a run that goes on, and one that has come to its end
+-- one that goes on, and one that has come to its end
 pub on-next : (b : Board) (left n : ℕ) (lines : List Line) (st : State) (d : Store) → clockRefusal b st d ≡ 0
     → clockOn b (left + 1) (reached n 0 lines st d)
     ≡ clockOn b left (reached (n + 1) (maskOf b st) (linesOf b st) (stateAfter b st) (storeAfter b st d))

@@ -1,4 +1,4 @@
--- Rule 1 as the code meets it: who is granted, the winner's grant, the record after it.
+-- Rule 1 as the code meets it: who is granted, the winner's grant, the arbiter after it.
 -- Assumes nothing.
 use mathlib.Core.Path.{_≡_, refl, _∙_}
 use mathlib.Core.Bool.{Bool, true, false, cond, _&&_, and-false}
@@ -77,7 +77,7 @@ module _ (a : Arbiter) (w : Winner) (shares beats : ℕ) where
   unfolding grantBy
   by-none e = rw e
 
--- the record after a grant, by cases
+-- the arbiter after a grant, by cases
 pub after-granted : (a : Arbiter) (g : Grant) (m r : ℕ) → g ≡ Granted m r → record { owner = m; remaining = r } ≡ arbiterAfter a g
 unfolding arbiterAfter
 after-granted a g m r e = rw e
@@ -114,7 +114,7 @@ module _ (n : ℕ) (requests : ℕ → Bool) (shares beats : ℕ → ℕ) (a : A
       go true = again-rules
       go false = first-rules (firstRequester requests n (a .owner))
 
-  -- the grant of whoever is chosen, by the shares y and the beats x of that master, is the one of rule 1
+  -- the grant of the first requester, by the shares y and the beats x of that master, is the one of rule 1
   module _ {w : Winner} (e : w ≡ winnerOf n requests a) where
     wins : (y x : ℕ) → (w ≡ Again → x ≡ beats (a .owner)) → ((m : ℕ) → w ≡ First m → (y ≡ shares m) × (x ≡ beats m))
         → grantBy a w y x ≡ granted n requests shares beats a

@@ -14,7 +14,7 @@ use Rattle.fabric_bytes.specs.Moving.{move}
 
 -- ---- one byte
 
--- the byte v put at place i, where it is enabled
+-- the byte v put at index i, where it is enabled
 abbrev pub put : Bool → List ℕ → ℕ → ℕ → List ℕ
 put on d i v = cond on (set d i v) d
 

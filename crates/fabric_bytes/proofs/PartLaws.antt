@@ -31,7 +31,7 @@ put-drop-above true k d i v h = drop-set-lt k d i v h
 put-drop-above false k d i v h = refl
 
 module _ (on : ℕ → Bool) (source : List ℕ) (from at first : ℕ) where
-  -- what lies before the places, and before one behind them
+  -- what lies before the bytes that are moved, and before an index behind them
   pub move-take-below : (n k : ℕ) (d : List ℕ) → k ≤ at + first → take k (move on source from at first n d) ≡ take k d
   unfolding move
   move-take-below zero k d h = refl
@@ -50,7 +50,7 @@ module _ (on : ℕ → Bool) (source : List ℕ) (from at first : ℕ) where
       (getD source (from + (first + n)) 0) h′
       ∙ rw (move-take n k d (omega arith))
 
-  -- what lies behind the places, and from one before them on
+  -- what lies behind the bytes that are moved, and from an index before them on
   pub move-drop-above : (n k : ℕ) (d : List ℕ) → at + (first + n) ≤ k → drop k (move on source from at first n d) ≡ drop k d
   unfolding move
   move-drop-above zero k d h = refl

@@ -1,4 +1,4 @@
--- Moves seen from a range of places: what they leave alone, and lists that agree there.
+-- Moves seen from a range of indices: what they leave alone, and lists that agree there.
 -- Assumes nothing.
 use mathlib.Core.Path.{_≡_, refl, _∙_, sym}
 use mathlib.Core.Bool.{Bool, true, false}
@@ -12,7 +12,7 @@ use lib.Seq.{getD-set-same, getD-set-other, set-out, getD-take, getD-drop, ext-g
 use Rattle.fabric_bytes.specs.Moving.{all, move}
 use Rattle.fabric_bytes.proofs.MoveLaws.{put, length-move, move-below, move-above, move-inside, equal-or, less-or}
 
--- the lists agree from place lo up to place hi
+-- the lists agree from index lo up to index hi
 pub record Agree (lo hi : ℕ) (d e : List ℕ) : Type 0 where
   pub same : (i : ℕ) → lo ≤ i → i < hi → getD d i 0 ≡ getD e i 0
 
@@ -25,7 +25,7 @@ agree-sym h = record { same = λ i a b. sym (h .same i a b) }
 pub agree-trans : {lo hi : ℕ} {d e f : List ℕ} → Agree lo hi d e → Agree lo hi e f → Agree lo hi d f
 agree-trans h k = record { same = λ i a b. h .same i a b ∙ k .same i a b }
 
--- two ranges have no place in common
+-- two ranges have no index in common
 abbrev pub Apart : ℕ → ℕ → ℕ → ℕ → Type 0
 Apart lo hi lo′ hi′ = (hi ≤ lo′) ⊎ (hi′ ≤ lo)
 
@@ -80,7 +80,7 @@ pub move-agree : (on : ℕ → Bool) (s s′ : List ℕ) (from from′ at first 
 move-agree on s s′ from from′ at first n lo hi {d} l g h =
     rw (move-source on s s′ from from′ at first n d h) (same-source on s′ from′ at first n lo hi l g)
 
--- ---- n bytes from a place on
+-- ---- n bytes from an index on
 
 abbrev pub front : ℕ → ℕ → List ℕ → List ℕ
 front n at d = take n (drop at d)

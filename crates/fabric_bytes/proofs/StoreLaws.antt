@@ -49,7 +49,7 @@ module _ (ma : Master) (sl : Slave) (t : Transfer) (m start a : ℕ) (d : Store)
 
 -- ---- bytes of a transfer
 
--- bytes first .. first + n − 1 of a transfer, whose words are in the part of the buffer and whose place is in memory
+-- bytes first .. first + n − 1 of a transfer, whose words begin at `part` in the buffer, and its bytes at `place` in memory
 unfoldable pub carry : Bool → (ℕ → Bool) → ℕ → ℕ → ℕ → ℕ → Store → Store
 carry write on part place first n d =
     cond write (record { memory = move on (d .buffer) part place first n (d .memory); buffer = d .buffer })

@@ -99,7 +99,7 @@ module _ (ts : List ℕ) where
   unfolding sum
   mask-same m s w = rw (add-one m, ne-eqb (getD ts m 0) s w, add-zero)
 
-  -- at the place of the target's remainder by 16: the bit where it is a slave, and nothing where it is none
+  -- at the index of the target's remainder by 16: the bit where it is a slave, and nothing where it is none
   mask-here : (m : ℕ) → maskBelow ts m (getD ts m 0 % 16) + cond (ltb (getD ts m 0) 16) (2 ^ m) 0
       ≡ maskBelow ts (m + 1) (getD ts m 0 % 16)
   unfolding sum

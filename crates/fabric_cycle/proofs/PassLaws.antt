@@ -51,7 +51,7 @@ use Rattle.fabric_cycle.proofs.ReachLaws.{start-next, grant-placed, gra
 use Rattle.fabric_cycle.specs.Code.Cycles.{Passes, Clocks}
 use Rattle.fabric_cycle.specs.Code.SlaveClocks.{slotAsked, stepAt, carriedAt, endedTransfer, stateStepped, Serving, Ready, SlaveClocked}
 
--- ---- a mask with one number more, and a list with one place more
+-- ---- a mask with one number more, and a list with one element more
 
 -- a number that passes now, and did not before
 module _ (test now : ℕ → Bool) (o : ℕ) (fresh : test o ≡ false) (more : (m : ℕ) → now m ≡ (test m || eqb o m)) where
@@ -97,7 +97,7 @@ module _ (test now : ℕ → Bool) (o n : ℕ) (on : Bool) (low : o < n) (fresh 
           (λ m k. ap (λ (c : Bool). cond c (2 ^ m) 0) (g m ∙ or-false (test m))) in
           omega (arith, same)
 
--- a transfer ended before now, or now
+-- a transfer that ended before now, or ends now
 ended-now : {X : Type 0} (before on : Bool) (d x : X) → cond on d (cond before d x) ≡ cond (before || (on && true)) d x
 ended-now true true d x = refl
 ended-now true false d x = refl
@@ -110,7 +110,7 @@ kept-now true on d x = refl
 kept-now false true d x = refl
 kept-now false false d x = refl
 
--- of n places those are d for which some number below i passes: the number i passes at most the test of place o
+-- of n elements those are d for which some number below i passes: the number i passes at most the test of element o
 module _ {X : Type 0} (test : ℕ → ℕ → Bool) (d : X) (f : ℕ → X) (n i o : ℕ) (on : Bool) where
   ended-next : {l : List X} {v : X} → o < n → l ≡ table (λ m. cond (some (test m) i) d (f m)) n
       → ((m : ℕ) → test m i ≡ (on && eqb o m)) → v ≡ cond on d (getD l o d)

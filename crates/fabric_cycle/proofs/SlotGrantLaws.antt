@@ -1,4 +1,4 @@
--- Rule 1 through the lent record.
+-- The grant (rules 4.3 to 4.6) through the lent arbiter.
 -- Assumes nothing.
 use mathlib.Core.Path.{_≡_, _∙_}
 use mathlib.Core.Bool.{true, false}
@@ -25,7 +25,7 @@ module _ (slot : Slot) (a : Arbiter) {g : Grant} where
   unfolding slotBy
   by-silent e = rw e
 
--- what the three calls give together: the record h that is lent, the grant g, the record a that comes back, the slot r
+-- what the three calls give together: the arbiter h that is lent, the grant g, the arbiter a that comes back, the slot r
 pub ruled : (slot : Slot) (w : Winner) (shares beats : ℕ) {h a : Arbiter} {g : Grant} {r : Slot} → h ≡ arbiterOf slot
     → g ≡ grantBy h w shares beats → a ≡ arbiterAfter h (grantBy h w shares beats) → r ≡ slotBy slot a g
     → r ≡ slotGranted slot (grantBy (arbiterOf slot) w shares beats)

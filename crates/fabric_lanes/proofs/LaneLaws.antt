@@ -1,4 +1,4 @@
--- Lane legality: what the tests of `lanes_legal` decide together, and that legal lanes lie below the width.
+-- Lane legality: what the tests of `legal_lanes` decide together, and that legal lanes lie below the width.
 -- Assumes nothing.
 use mathlib.Core.Path.{_≡_, refl, ap, ap₂, _∙_}
 use mathlib.Core.Bool.{Bool, true, false, not, _&&_, _||_, and-true, or-true, false≢true}
@@ -100,7 +100,7 @@ module _ (l : ℕ) (e : (eqb l 0 || ltb 255 l) ≡ false) where
   unfolding lowest
   few-below = omega (arith, agreed .1, trailing-le 8 l)
 
-  -- the tests of `lanes_legal` are the rules
+  -- the tests of `legal_lanes` are the rules
   pub tested : (w all : ℕ) → all ≡ allLanes (ones l)
       → (((eqb (l / 2 ^ trailingZeros 32 l) all && eqb (bitAnd (ones l) (ones l - 1)) 0)
       && eqb (bitAnd (trailingZeros 32 l) (ones l - 1)) 0) && leb (trailingZeros 32 l + ones l) w) ≡ legalLanes w l
@@ -119,7 +119,7 @@ unfolding fullTest ones onesIn trailingZeros lowest adjacent member legalLanes
 full-legal zero p h = absurd (omega arith)
 full-legal (suc n) p h = agree-eq _ _ (each (λ k. fullTest (suc k)) 8 tt n (omega arith))
 
--- the tests of `lanes_postable`
+-- the tests of `post_lanes`
 module _ (w l all : ℕ) (a : all ≡ allLanes w) where
   module _ (e : (not (eqb l 0) && eqb l all) ≡ true) where
     full : l ≡ allLanes w

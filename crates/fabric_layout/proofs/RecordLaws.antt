@@ -1,4 +1,4 @@
--- Records at places of an array of numbers: what is read after five or six numbers were put.
+-- Records in an array of numbers, each at its index: what is read after five or six numbers were put.
 -- Assumes nothing.
 use mathlib.Core.Path.{_≡_, sym, ap}
 use mathlib.Core.Bool.{Bool, true, false, cond}

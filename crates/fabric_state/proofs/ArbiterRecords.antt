@@ -16,13 +16,13 @@ use Rattle.fabric_state.specs.ArbiterRecords.{arbiterAfterClock}
 use Rattle.fabric_state.proofs.StateLaws.{slot-after}
 use Rattle.fabric_state.proofs.StepLaws.{Outcome, rests, waiting, works, ends, outcome, grant-serving, grant-given}
 
--- rule 1 changes a slot's record as the arbiter's rule says
+-- rule 1 changes a slot's arbiter as the arbiter's own rule says
 pub granted-record : (slot : Slot) (g : Grant) → arbiterOf (slotGranted slot g) ≡ arbiterAfter (arbiterOf slot) g
 unfolding slotGranted slotBy
 granted-record slot (Granted m r) = refl
 granted-record slot Silent = refl
 
--- rules 2 and 3 leave the record
+-- rules 2 and 3 leave the arbiter
 step-record : (b : Board) (st : State) (s : ℕ) → arbiterOf (stepOf b st s .slot) ≡ arbiterOf (slotAfterGrant b st s)
 unfolding slotWaiting slotAccessed slotFinished
 step-record b st s = go (outcome b st s)
@@ -42,7 +42,7 @@ grant-record b st s = go (slotAt st s .serving) refl
     go true e = rw e (ap arbiterOf (grant-serving b st s e))
     go false e = rw e (ap arbiterOf (grant-given b st s e) ∙ granted-record (slotAt st s) (grantAt b st s))
 
--- "One clock changes a slave's last owner and remaining grants by these rules."
+-- one clock changes a slave's last owner and remaining grants by rules 4.3 to 4.6, and by no others
 pub record-changed : (b : Board) (st : State) (s : ℕ) → s < b .«slave_count» → b .«slave_count» ≤ 16
     → arbiterOf (slotAt (stateAfter b st) s) ≡ arbiterAfterClock b st s
 record-changed b st s l few = ap arbiterOf (slot-after b st s l few) ∙ (step-record b st s ∙ grant-record b st s)

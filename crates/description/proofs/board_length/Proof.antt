@@ -1,5 +1,6 @@
--- `description::board_length` meets its contract. The loop's invariant: the sum is the length of the lines of the first k places.
--- An accepted board has at most 152 places, so that no sum wraps.
+-- `description::board_length` meets its contract.
+-- The loop's invariant: the sum is the length of the lines of the first k entries.
+-- An accepted board has at most 152 entries, so that no sum wraps.
 -- Assumes nothing.
 use mathlib.Core.Path.{_≡_, ap, refl, _∙_}
 use Prim.Native.Nat.{_-_, _≤_}
@@ -24,7 +25,7 @@ abbrev μ-loop : tie.MeasureT-loop
 entry-count-requires : tie.Need-entry-count-requires Inv-loop μ-loop
 entry-count-requires c κs = search needs
 
--- where the call starts, of the loop's turn; that turn, of a place where a line was measured
+-- from the loop's turn back to the start, and from a line's length back to that turn
 abbrev start : tie.At-loop Inv-loop μ-loop → tie.Start Inv-loop μ-loop
 start c = c .before .before
 

@@ -1,4 +1,4 @@
--- `description::put_board` meets its contract. The loop's invariant: the lines of the first k places are stored.
+-- `description::put_board` meets its contract. The loop's invariant: the lines of the first k entries are stored.
 -- The measure is how many are left.
 -- Assumes nothing.
 use Prim.Native.Nat.{_-_, _≤_}
@@ -23,7 +23,7 @@ abbrev μ-loop : tie.MeasureT-loop
 entry-count-requires : tie.Need-entry-count-requires Inv-loop μ-loop
 entry-count-requires c κs = search needs
 
--- where the call starts, of the loop's turn
+-- from the loop's turn back to the start
 abbrev start : tie.At-loop Inv-loop μ-loop → tie.Start Inv-loop μ-loop
 start c = c .before .before .before
 

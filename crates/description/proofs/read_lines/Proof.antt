@@ -20,7 +20,7 @@ abbrev μ-loop : tie.MeasureT-loop
 start-requires : tie.Need-start-requires Inv-loop μ-loop
 start-requires c κs = search needs
 
--- the loop's turn in which a line was taken
+-- from behind a line back to the loop's turn
 abbrev turn : tie.After-step Inv-loop μ-loop → tie.At-loop Inv-loop μ-loop
 turn c = c .before .before .before .before
 

@@ -1,4 +1,4 @@
--- `description::write` meets its contract. Refused for the board, refused for the room, writeAnswer.
+-- `description::write` meets its contract. Refused for the board, refused for the room, written.
 -- Assumes nothing.
 use mathlib.Core.Path.{_≡_, ap, sym, _∙_}
 use mathlib.Core.List.{List}

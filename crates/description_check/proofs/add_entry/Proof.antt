@@ -1,4 +1,4 @@
--- `description_check::add_entry` meets its contract. A place that has no line is passed over.
+-- `description_check::add_entry` meets its contract. An entry that has no line is passed over.
 -- Assumes nothing.
 use mathlib.Core.Path.{_≡_, _∙_, refl}
 use mathlib.Core.List.{[], _∷_}
@@ -14,7 +14,7 @@ use denote.Enum.Declared.{tagOf}
 use Rattle.description_check.proofs.add_entry.Statement.{statement}
 use Rattle.description_check.proofs.add_entry.Tie as tie
 
--- a place that has no line, and one that has
+-- an entry that has no line, and one that has
 no-line : (q : Reading) (x : Item) → x ≡ Malformed → q ≡ stepAll q (present x)
 unfolding stepAll present
 no-line q x e = rw e

@@ -1,5 +1,5 @@
 -- `description_check::board_refusal_by_lines` meets its contract.
--- The loop's invariant: p and own are the reading of the lines of the first k places.
+-- The loop's invariant: p and own are the reading of the lines of the first k entries.
 -- Assumes nothing.
 use mathlib.Core.Path.{_≡_, _∙_, ap}
 use Prim.Native.Nat.{_≤_, _-_}
@@ -27,7 +27,7 @@ entry-count-requires c κs = search needs
 start-requires : tie.Need-start-requires Inv-loop μ-loop
 start-requires c κs = search needs
 
--- the loop's turn in which a line was read and added
+-- from behind a line back to the loop's turn
 abbrev turn : tie.After-add-entry Inv-loop μ-loop → tie.At-loop Inv-loop μ-loop
 turn c = c .before .before .before .before
 

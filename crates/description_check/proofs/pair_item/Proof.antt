@@ -1,4 +1,4 @@
--- `description_check::pair_item` meets its contract. A place with no share has no line.
+-- `description_check::pair_item` meets its contract. A pair with no share has no line.
 -- Assumes nothing.
 use borrow.Author.Tests.{eq-eqb, ne-eqb}
 use borrow.Author.Needs.{needs}

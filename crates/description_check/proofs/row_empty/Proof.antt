@@ -1,5 +1,5 @@
 -- `description_check::row_empty` meets its contract.
--- The loop's invariant: where no bit of a share was met, each place passed is 0.
+-- The loop's invariant: where no bit of a share was met, each share passed is 0.
 -- Assumes nothing.
 use mathlib.Core.Path.{_≡_}
 use Prim.Native.Nat.{_≤_, _-_}

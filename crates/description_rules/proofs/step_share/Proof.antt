@@ -1,4 +1,4 @@
--- `description_rules::step_share` meets its contract. The share fits its field, as the line is not refused; past the 128 places
+-- `description_rules::step_share` meets its contract. The share fits its field, as the line is not refused; past the 128 shares
 -- it changes nothing.
 -- Assumes nothing.
 use mathlib.Core.Path.{_∙_, sym}
@@ -14,11 +14,11 @@ use Rattle.description_layout.specs.Layout.{boardIn}
 use Rattle.description_rules.proofs.step_share.Statement.{statement}
 use Rattle.description_rules.proofs.step_share.Tie as tie
 
--- where the call starts, of a place behind the test of the line
+-- from behind the test of the line back to the start
 abbrev start : tie.Else1 → tie.Start
 start c = c .before .before .before
 
--- the line is not refused, and its share has a place
+-- the line is not refused, and its share has an index
 fits : (c : tie.Else1) → let a = start c .args in ShareTaken (boardIn (a .board .now)) (a .m) (a .s) (a .shares)
 fits c = share-taken _ _ _ _ (sym (c .before .share-refusal .ensures) ∙ c .if1 .left)
 

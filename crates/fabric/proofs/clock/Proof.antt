@@ -17,7 +17,7 @@ use Rattle.fabric.proofs.RunOfClocks.{accepted-board, keeps-rules}
 use Rattle.fabric.proofs.clock.Statement.{statement}
 use Rattle.fabric.proofs.clock.Tie as tie
 
--- where the call starts; the place where nothing is refused, of the one where the masks are made, and that one, of the cycle's
+-- back to the start, from the masks back to where nothing is refused, and from the call of `cycle` back to the masks
 abbrev start : tie.After-ready → tie.Start
 start c = c .before .before .before .before .before
 

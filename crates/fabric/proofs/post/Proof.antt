@@ -13,7 +13,7 @@ use Rattle.fabric.proofs.PostLaws.{Taken, taken, some-part, words-fit, 
 use Rattle.fabric.proofs.post.Statement.{statement}
 use Rattle.fabric.proofs.post.Tie as tie
 
--- where the call starts, of the place behind the test of the refusal
+-- from behind the refusals back to the start
 abbrev start : tie.Else1 → tie.Start
 start c = c .before .before .before .before .before
 

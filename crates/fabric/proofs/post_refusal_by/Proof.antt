@@ -19,7 +19,7 @@ use Rattle.fabric.proofs.PostLaws.{refusal-asked}
 use Rattle.fabric.proofs.post_refusal_by.Statement.{statement}
 use Rattle.fabric.proofs.post_refusal_by.Tie as tie
 
--- where the call starts; the place behind the check of the board and the state, of one behind the test of the state
+-- back to the start, and from behind the test of the state back to its check
 abbrev start : tie.After-ready → tie.Start
 start c = c .before .before
 

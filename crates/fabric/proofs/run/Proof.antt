@@ -1,5 +1,6 @@
--- `fabric::run` meets its contract. The loop's invariant: where the run stands between two clocks (`Passing`), and the lengths of
--- the lent bytes. The measure is the count of clocks that are left.
+-- `fabric::run` meets its contract.
+-- The loop's invariant: where the run of clocks stands between two of them (`Passing`), and the lengths of the lent bytes. The
+-- measure is the count of clocks that are left.
 -- Assumes nothing.
 use mathlib.Core.Path.{_≡_, refl, sym, ap, _∙_}
 use mathlib.Core.List.{List}
@@ -33,7 +34,7 @@ Inv-loop board state₀ memory₀ buffer₀ lines₀ most number requests left�
 abbrev μ-loop : tie.MeasureT-loop
 μ-loop board state₀ memory₀ buffer₀ lines₀ most number requests left₀ state memory buffer lines left = left
 
--- where the call starts; the pass of a clock, and that clock's cycle, of the place behind it
+-- back to the start, from the call of `cycle` back to the loop's pass, and from the clock's end back to behind that call
 abbrev start : tie.After-ready Inv-loop μ-loop → tie.Start Inv-loop μ-loop
 start c = c .before .before .before .before .before
 

@@ -1,3 +1,5 @@
+-- `fabric_arbiter::arbiter_after` meets its contract: a grant, and none.
+-- Assumes nothing.
 use Rattle.fabric_arbiter.proofs.GrantLaws.{after-granted, after-silent}
 use borrow.Author.Needs.{needs}
 use Rattle.fabric_arbiter.proofs.arbiter_after.Statement.{statement}

@@ -1,3 +1,6 @@
+-- `fabric_arbiter::first_requester` meets its contract. The loop's invariant: the search is that among the masters left to try.
+-- The measure is how many are left.
+-- Assumes nothing.
 use Rattle.fabric_arbiter.proofs.ChoiceLaws.{tried-none, turn-on, turn-found}
 use Rattle.fabric_arbiter.specs.Choosing.{nextMaster, tried, firstRequester}
 use Rattle.common_laws.specs.Bits.{bit}

@@ -1,3 +1,5 @@
+-- `fabric_arbiter::is_requesting` meets its contract: a mask of 32 bits has no bit from 32 on.
+-- Assumes nothing.
 use Rattle.common_laws.proofs.BitLaws.{bit-above}
 use Rattle.common_laws.specs.Bits.{bit}
 use mathlib.Core.Path.{sym, refl}

@@ -1,3 +1,5 @@
+-- `fabric_arbiter::kept` meets its contract: a burst, and a single.
+-- Assumes nothing.
 use Rattle.fabric_arbiter.specs.Granting.{kept}
 use borrow.Author.Tests.{lt-ltb, le-ltb}
 use Rattle.fabric_arbiter.proofs.kept.Statement.{statement}

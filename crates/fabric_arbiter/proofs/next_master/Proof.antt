@@ -1,3 +1,5 @@
+-- `fabric_arbiter::next_master` meets its contract: past the highest master, at it, and below it.
+-- Assumes nothing.
 use Rattle.fabric_arbiter.specs.Choosing.{nextMaster}
 use borrow.Author.Tests.{lt-ltb, le-ltb}
 use native.Mathlib.Omega.{arith}

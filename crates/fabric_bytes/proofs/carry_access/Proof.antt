@@ -8,7 +8,7 @@ use borrow.Author.Needs.{needs}
 use Rattle.fabric_bytes.proofs.carry_access.Statement.{statement}
 use Rattle.fabric_bytes.proofs.carry_access.Tie as tie
 
--- where the call starts, of a place where the access's first byte is known
+-- from the access's first byte back to the start
 abbrev start : tie.After-first-byte → tie.Start
 start c = c .before .before .before .before .before
 

@@ -8,7 +8,7 @@ use borrow.Author.Needs.{needs}
 use Rattle.fabric_c.proofs.fabric_run.Statement.{statement}
 use Rattle.fabric_c.proofs.fabric_run.Tie as tie
 
--- where the call starts, of the place behind the run
+-- from behind the run of clocks back to the start
 abbrev start : tie.After-run → tie.Start
 start c = c .before .before .before .before .before .before .before .before .before .before .before .before .before
 

@@ -31,7 +31,7 @@ board c = boardIn (c .args .board .now)
 abbrev state : tie.Start Inv-loop μ-loop → State
 state c = stateIn (c .args .st .now)
 
--- the slave of a turn is one of the board, and has a place
+-- the slave of a turn is one of the board, and one of 16
 slave-in : (c : tie.In-loop Inv-loop μ-loop) → c .before .loop .s < board (c .before .before .before .before) .«slave_count»
 slave-in c = omega (arith, c .loop-test .taken, c .before .before .slave-count .ensures)
 
@@ -52,7 +52,7 @@ owner-in c = omega (arith, c .before .if1 .left, turn c .before .before .before 
 owner-known : (c : tie.After-struct-known2 Inv-loop μ-loop) → c .before .before .before .slot-at .result .owner < 8
 owner-known c = omega (arith, owner-in c, accepted-legal _ (starting c .pre .board) .fewMasters)
 
--- the place where that slave's parts are read, of the test of its slot
+-- from the test of the slot back to where its parts begin to be read
 abbrev known : tie.After-sound-slot-by Inv-loop μ-loop → tie.After-struct-known2 Inv-loop μ-loop
 known c = c .before .before .before .before .before .before
 

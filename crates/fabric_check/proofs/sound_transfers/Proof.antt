@@ -1,5 +1,5 @@
 -- `fabric_check::sound_transfers` meets its contract. The loop's invariant: no transfer before m breaks a rule, and the slaves of
--- those are in their places.
+-- those stand at their indices.
 -- Assumes nothing.
 use mathlib.Core.Bool.{true, true≢false}
 use mathlib.Core.Path.{_≡_, refl, sym, _∙_}

@@ -1,4 +1,4 @@
--- `fabric_cycle::end_transfer` meets its contract: a transfer endedTransfer, or kept.
+-- `fabric_cycle::end_transfer` meets its contract: a transfer ended, or kept.
 -- Assumes nothing.
 use mathlib.Core.Path.{_∙_}
 use borrow.Author.Needs.{needs}

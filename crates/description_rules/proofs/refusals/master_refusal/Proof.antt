@@ -5,7 +5,7 @@ use Rattle.description_board.specs.Rules.{masterRefusal}
 use Rattle.description_rules.proofs.refusals.master_refusal.Statement.{statement}
 use Rattle.description_rules.proofs.refusals.master_refusal.Tie as tie
 
--- the way out behind the first tests, of what comes later
+-- from the test of the values back to behind the first test
 abbrev ordered : tie.After-member2 → tie.Else1
 ordered c = c .before .before .before .before
 

@@ -19,7 +19,7 @@ Inv-loop board n base span i₀ i = let slaves = boardIn board .slaves in
 abbrev μ-loop : tie.MeasureT-loop
 μ-loop board n base span i₀ i = n - i
 
--- the loop's turn in which two spans were compared
+-- from the comparison of two spans back to the loop's turn
 abbrev turn : tie.After-meets Inv-loop μ-loop → tie.At-loop Inv-loop μ-loop
 turn c = c .before .before .before
 

@@ -11,7 +11,7 @@ use Rattle.description_layout.specs.Layout.{boardIn}
 use Rattle.description_rules.proofs.refusals.share_refusal.Statement.{statement}
 use Rattle.description_rules.proofs.refusals.share_refusal.Tie as tie
 
--- where the call starts, of a place behind the test of the share's value
+-- from behind the test of the share's value back to the start
 abbrev start : tie.Else2 → tie.Start
 start c = c .before .before .before .before
 

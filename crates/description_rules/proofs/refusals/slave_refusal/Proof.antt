@@ -16,7 +16,7 @@ use Rattle.description_layout.specs.Layout.{boardIn}
 use Rattle.description_rules.proofs.refusals.slave_refusal.Statement.{statement}
 use Rattle.description_rules.proofs.refusals.slave_refusal.Tie as tie
 
--- where the call starts, of a place behind the test of the values; that place, of one where the overlap is looked for
+-- from behind the test of the values back to the start, and from the call of `overlaps` back to behind that test
 abbrev start : tie.Else2 → tie.Start
 start c = c .before .before .before .before .before
 

@@ -33,7 +33,7 @@ abbrev μ-loop : tie.MeasureT-loop
 abbrev board : tie.Start Inv-loop μ-loop → Board
 board c = boardIn (c .args .board .now)
 
--- the slave of a turn is one of the board, and has a place
+-- the slave of a turn is one of the board, and one of 16
 slave-in : (c : tie.In-loop Inv-loop μ-loop) → c .before .loop .s < board (c .before .before .before) .«slave_count»
 slave-in c = omega (arith, c .loop-test .taken, c .before .before .slave-count .ensures)
 

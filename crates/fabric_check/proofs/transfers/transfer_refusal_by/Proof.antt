@@ -13,8 +13,8 @@ use Rattle.fabric_check.proofs.RefusalLaws.{width-some, width-most, byt
 use Rattle.fabric_check.proofs.transfers.transfer_refusal_by.Statement.{statement}
 use Rattle.fabric_check.proofs.transfers.transfer_refusal_by.Tie as tie
 
--- where the call starts, of a place behind the test of the beats; that place, of one where the address is tested; the place
--- behind the tests up to the slave's, of one where the burst's bytes are counted
+-- from behind the test of the beats back to the start, from the test of the address back to behind that of the beats, and from
+-- the count of the bytes back to behind the test of the slave and to the start
 abbrev start : tie.Else1 → tie.Start
 start c = c .before .before .before .before
 

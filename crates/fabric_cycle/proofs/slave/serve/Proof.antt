@@ -6,7 +6,7 @@ use borrow.Author.Needs.{needs}
 use Rattle.fabric_cycle.proofs.slave.serve.Statement.{statement}
 use Rattle.fabric_cycle.proofs.slave.serve.Tie as tie
 
--- from the test of the wait back to the start, and from the place behind the bytes back to that test
+-- from the test of the wait back to the start, and from behind the bytes back to that test
 abbrev start : tie.After-waits → tie.Start
 start c = c .before .before .before
 
