@@ -1,4 +1,4 @@
--- How the pieces of a text go on from a place of it: the laws of `split`, `behind` and `Cut`.
+-- How the pieces of a text go on from a position in it: the laws of `split`, `behind` and `Cut`.
 -- Assumes nothing.
 use mathlib.Core.Bool.{Bool, true, false, cond}
 use mathlib.Core.List.{List, [], _∷_, _++_, append-assoc, append-nil}
@@ -34,7 +34,7 @@ prepend-nil b (c ∷ cs) = go (eqb c b) (split b cs)
     go false [] = refl
     go false (p ∷ ps) = refl
 
--- the pieces behind a place
+-- the pieces behind a position
 pub behind-more : (b : ℕ) (s : List ℕ) (i : ℕ) → i < length s → behind b s i ≡ split b (drop (i + 1) s)
 unfolding behind
 behind-more b s i h = simp (lt-ltb i (length s) h)

@@ -153,12 +153,12 @@ pub fn numbers_of(fields: &[u8]) -> Numbers
     }
 }
 
-// The numbers of the fields behind a line's first, which ends at position `place` (rule 1.3): none where the line ends there.
-pub fn numbers_behind(line: &[u8], place: usize) -> Numbers
-    ensures { λ r. ⌜ r ≡ numbersOf (behind comma (now (line .entry)) place) ⌝ }
+// The numbers of the fields behind a line's first, which ends at `position` (rule 1.3): none where the line ends there.
+pub fn numbers_behind(line: &[u8], position: usize) -> Numbers
+    ensures { λ r. ⌜ r ≡ numbersOf (behind comma (now (line .entry)) position) ⌝ }
 {
-    if place < line.len() {
-        let start = place + 1;
+    if position < line.len() {
+        let start = position + 1;
         return numbers_of(&line[start..]);
     }
     no_numbers()

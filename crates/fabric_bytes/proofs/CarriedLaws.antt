@@ -19,9 +19,9 @@ use Rattle.fabric_bytes.specs.Code.Reaching.{Reached}
 -- access a, whose bytes are `count` from `first` on
 module _ (ma : Master) (sl : Slave) (t : Transfer) (m start a : ℕ) (d : Store) {first count : ℕ}
     (f : first ≡ firstByte ma sl a) (n : count ≡ accessBytes ma sl) where
-  pub place-fits : Reached ma sl t m start a d → start + (t .address - sl .base) ≤ length (d .memory)
+  pub index-fits : Reached ma sl t m start a d → start + (t .address - sl .base) ≤ length (d .memory)
   unfolding memoryIndex
-  place-fits r = omega (native.Mathlib.Omega.arith, r .memory)
+  index-fits r = omega (native.Mathlib.Omega.arith, r .memory)
 
   pub reads : Reached ma sl t m start a d
       → (length (d .buffer) ≡ bufferLength) × (m < 8) × (first + count ≤ 512)

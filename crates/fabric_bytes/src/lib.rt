@@ -122,12 +122,12 @@ pub fn carry_access(
     ensures { λ r. ⌜ record { memory = now (memory .exit); buffer = now (buffer .exit) }
         ≡ carriedAccess ma sl t m start a (record { memory = now (memory .entry); buffer = now (buffer .entry) }) ⌝ }
 {
-    let place = start + ((t.address - sl.base) as usize);
+    let index = start + ((t.address - sl.base) as usize);
     let first = fabric_accesses::first_byte(ma, sl, a) as usize;
     let count = fabric_accesses::access_bytes(ma, sl) as usize;
     if t.write {
-        write_access(memory, place, buffer, m, first, count, t.lanes, ma.width);
+        write_access(memory, index, buffer, m, first, count, t.lanes, ma.width);
         return;
     }
-    read_access(memory, place, buffer, m, first, count);
+    read_access(memory, index, buffer, m, first, count);
 }

@@ -206,7 +206,7 @@ fn obey_line(
 // down, from a number that no script uses up.
 pub fn obey_script(text: &[u8], board: &mut [u32; BOARD_NUMBERS]) {
     let mut memory = [0u8; MEMORY_ROOM];
-    let mut words = [0u8; BUFFER_BYTES];
+    let mut words: [u8; BUFFER_BYTES] = [0; 4096];
     let mut longer = [0u8; BUFFER_ROOM];
     let mut input = [0u8; INPUT];
     let mut out = [0u8; ROOM];

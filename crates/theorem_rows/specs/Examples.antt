@@ -17,11 +17,11 @@ use Rattle.theorem_rows.specs.Rows.{boardText}
 
 -- what a read by master 0 with full lanes answers after a reset
 unfoldable pub readAnswers : ℕ → ℕ → ℕ
-readAnswers place n =
+readAnswers a n =
     let b = readText boardText .board in
     let w = started b in
     post b (w .state) (w .store .buffer)
-    (record { master = 0; write = false; address = place; lanes = 15; beats = n; words = [] }) .number
+    (record { master = 0; write = false; address = a; lanes = 15; beats = n; words = [] }) .number
 
 -- what a board of one master and one slave line answers
 unfoldable pub slaveAnswers : List ℕ → ℕ

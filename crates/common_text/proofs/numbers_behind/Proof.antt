@@ -25,7 +25,7 @@ numbers-of-requires c κs = search needs
 returns : tie.Need-returns
 returns c = let a = c .before .before .before .before .args in
     c .numbers-of .ensures
-    ∙ ap numbersOf (sym (behind-part comma (a .line .now) (a .place) (c .before .before .if1 .taken)))
+    ∙ ap numbersOf (sym (behind-part comma (a .line .now) (a .position) (c .before .before .if1 .taken)))
 
 no-numbers-requires : tie.Need-no-numbers-requires
 no-numbers-requires c κs = search needs
@@ -33,7 +33,7 @@ no-numbers-requires c κs = search needs
 returns-2 : tie.Need-returns-2
 returns-2 c = let a = c .before .before .before .args in
     c .no-numbers .ensures
-    ∙ sym (ap numbersOf (behind-last comma (a .line .now) (a .place) (c .before .if1 .left)) ∙ numbers-none)
+    ∙ sym (ap numbersOf (behind-last comma (a .line .now) (a .position) (c .before .if1 .left)) ∙ numbers-none)
 
 pub numbers-behind-spec : {M : Type 1} → statement M
 numbers-behind-spec =

@@ -9,15 +9,15 @@ use lib.ListN.{length, take, drop}
 use lib.Seq.{sets}
 use Rattle.common_text.specs.Fields.{split}
 
--- the pieces of s behind the separator at position `place`; none where s ends there. `take` and `drop` of more than there is are
+-- the pieces of s behind the separator at `position`; none where s ends there. `take` and `drop` of more than there is are
 -- all of the list and none of it.
 unfoldable pub behind : ℕ → List ℕ → ℕ → List (List ℕ)
-behind separator s place = cond (ltb place (length s)) (split separator (drop (place + 1) s)) []
+behind separator s position = cond (ltb position (length s)) (split separator (drop (position + 1) s)) []
 
--- `place` is the position where the first piece of s ends: at its first separator, or at its end
-pub record Cut (separator : ℕ) (s : List ℕ) (place : ℕ) : Type 0 where
-  pub within : place ≤ length s
-  pub pieces : split separator s ≡ take place s ∷ behind separator s place
+-- `position` is where the first piece of s ends: at its first separator, or at its end
+pub record Cut (separator : ℕ) (s : List ℕ) (position : ℕ) : Type 0 where
+  pub within : position ≤ length s
+  pub pieces : split separator s ≡ take position s ∷ behind separator s position
 
 -- `before` with the text stored from position `at` on is `after`, and `next` is the position behind the text. `sets` stores byte
 -- after byte and leaves out those past the end, so that the length stays.

@@ -3,7 +3,7 @@
 -- Assumes nothing.
 use mathlib.Core.Path.{refl}
 use native.Mathlib.Omega.{arith}
-use Rattle.fabric_bytes.proofs.CarriedLaws.{place-fits, reads, writes, read-done, write-done}
+use Rattle.fabric_bytes.proofs.CarriedLaws.{index-fits, reads, writes, read-done, write-done}
 use borrow.Author.Needs.{needs}
 use Rattle.fabric_bytes.proofs.carry_access.Statement.{statement}
 use Rattle.fabric_bytes.proofs.carry_access.Tie as tie
@@ -12,14 +12,14 @@ use Rattle.fabric_bytes.proofs.carry_access.Tie as tie
 abbrev start : tie.After-first-byte → tie.Start
 start c = c .before .before .before .before .before
 
-sub-place : tie.Need-sub-place
-sub-place c = search needs
+sub-index : tie.Need-sub-index
+sub-index c = search needs
 
-cast-place : tie.Need-cast-place
-cast-place c = search needs
+cast-index : tie.Need-cast-index
+cast-index c = search needs
 
-add-place : tie.Need-add-place
-add-place c = omega (arith, place-fits _ _ _ _ _ _ _ refl refl (c .before .before .before .before .pre))
+add-index : tie.Need-add-index
+add-index c = omega (arith, index-fits _ _ _ _ _ _ _ refl refl (c .before .before .before .before .pre))
 
 first-byte-requires : tie.Need-first-byte-requires
 first-byte-requires c κs = search needs
@@ -68,9 +68,9 @@ pub carry-access-spec : {M : Type 1} → statement M
 carry-access-spec =
     tie.close
     (tie.spec
-    sub-place
-    cast-place
-    add-place
+    sub-index
+    cast-index
+    add-index
     first-byte-requires
     access-bytes-requires
     cast-count
