@@ -17,6 +17,9 @@ pub struct LineRead {
     pub next: usize,
 }
 
+// The count of a slave line's numbers, as `Numbers` has it.
+const SLAVE_COUNT: u8 = SLAVE_FIELDS as u8;
+
 // What a master line's numbers say (rules 1.3, 7.1).
 fn master_line(ns: Numbers) -> Item
     ensures { λ x. ⌜ x ≡ masterLine ns ⌝ }
@@ -31,7 +34,7 @@ fn master_line(ns: Numbers) -> Item
 fn slave_line(ns: Numbers) -> Item
     ensures { λ x. ⌜ x ≡ slaveLine ns ⌝ }
 {
-    if ns.count == SLAVE_FIELDS {
+    if ns.count == SLAVE_COUNT {
         let n = SlaveNumbers {
             base: ns.values[0],
             span: ns.values[1],
