@@ -53,6 +53,19 @@ module _ (l : List ℕ) (p a b c d e : ℕ) where
 abbrev pub Agree : List ℕ → List ℕ → ℕ → ℕ → Type 0
 Agree l r q n = (k : ℕ) → q ≤ k → k < q + n → getD r k 0 ≡ getD l k 0
 
+-- what is made of five such numbers is the same
+pub five-same : (l r : List ℕ) (q : ℕ) {X : Type 0} (f : ℕ → ℕ → ℕ → ℕ → ℕ → X) → Agree l r q 5
+    → f (getD r q 0) (getD r (q + 1) 0) (getD r (q + 2) 0) (getD r (q + 3) 0) (getD r (q + 4) 0)
+    ≡ f (getD l q 0) (getD l (q + 1) 0) (getD l (q + 2) 0) (getD l (q + 3) 0) (getD l (q + 4) 0)
+five-same l r q f e =
+    rw (
+      e q (omega arith) (omega arith),
+      e (q + 1) (omega arith) (omega arith),
+      e (q + 2) (omega arith) (omega arith),
+      e (q + 3) (omega arith) (omega arith),
+      e (q + 4) (omega arith) (omega arith),
+    )
+
 -- numbers put from p on leave n of them from q on, where the two do not meet
 pub sets-apart : (vs l : List ℕ) (p q n : ℕ) → (q + n ≤ p) ⊎ (p + length vs ≤ q) → Agree l (sets l p vs) q n
 sets-apart vs l p q n h k low high =

@@ -10,7 +10,7 @@ use lib.ListN.{length, getD, set, length-set}
 use lib.Seq.{sets, getD-set-same}
 use Rattle.common_laws.proofs.FillLaws.{table-put, below-above}
 use Rattle.common_laws.proofs.FrontLaws.{table-same}
-use Rattle.common_laws.proofs.SetsLaws.{five, two-sets, six-sets, Agree, sets-apart}
+use Rattle.common_laws.proofs.SetsLaws.{five, two-sets, six-sets, Agree, five-same, sets-apart}
 use Rattle.common_laws.proofs.SetsLaws.{counted-apart, counted-inside, records-apart}
 use Rattle.description_board.specs.declared.Slave.{Slave}
 use Rattle.description_board.specs.Rules.{withMaster, withSlave}
@@ -25,15 +25,12 @@ module _ (l m : List ℕ) (q : ℕ) where
 
   slave-same : Agree l m q 6 → slaveFrom m q ≡ slaveFrom l q
   unfolding slaveFrom
-  slave-same f =
-      rw (
-        f q (omega arith) (omega arith),
-        f (q + 1) (omega arith) (omega arith),
-        f (q + 2) (omega arith) (omega arith),
-        f (q + 3) (omega arith) (omega arith),
-        f (q + 4) (omega arith) (omega arith),
-        f (q + 5) (omega arith) (omega arith),
-      )
+  slave-same e =
+      rw (e (q + 5) (omega arith) (omega arith))
+      (five-same l m q
+      (λ b s w u r.
+      record { base = b; span = s; width = w; burst = u; «read_wait» = r; «write_wait» = getD l (q + 5) 0 })
+      (λ k low high. e k low (omega arith)))
 
 -- one master more: its two numbers, and the count
 pub master-put : (l : List ℕ) → length l ≡ 242 → (w u n : ℕ) → n ≡ boardIn l .«master_count» → n < 8

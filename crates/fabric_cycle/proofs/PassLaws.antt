@@ -266,33 +266,35 @@ module _ (b : Board) (u : State) (l : length (u .transfers) ≡ 8) (k : length (
           serves = λ on. rw asked-same (serving-there f d p q (rw asked-same at on));
         }
 
-        -- rules 2 and 3, and the bytes
-        step-same : stepAt b v s (slotAsked b v s mask) ≡ stepOf b u s
-        unfolding stepAt
-        step-same = rw asked-same (go (slotAfterGrant b u s .serving) refl ∙ step-is b u s refl)
+        -- rules 2 and 3, and the bytes: of the transfers they read the owner's alone, and that only where the slave serves
+        from-owner : {X : Type 0} (f : Transfer → X)
+            → (slotAfterGrant b u s .serving ≡ false → (t t′ : Transfer) → f t ≡ f t′)
+            → f (transferAt v (slotAfterGrant b u s .owner)) ≡ f (transferAt u (slotAfterGrant b u s .owner))
+        from-owner f rests = go (slotAfterGrant b u s .serving) refl
           where
             go : (c : Bool) → slotAfterGrant b u s .serving ≡ c
-                → stepFrom (masterAt b (slotAfterGrant b u s .owner)) (slaveAt b s) (transferAt v (slotAfterGrant b u s .owner))
-                (slotAfterGrant b u s)
-                ≡ stepFrom (masterAt b (slotAfterGrant b u s .owner)) (slaveAt b s) (transferAt u (slotAfterGrant b u s .owner))
-                (slotAfterGrant b u s)
-            go true on = rw (owner-same on)
-            go false off = sym (from-resting _ _ _ _ off) ∙ from-resting _ _ _ _ off
+                → f (transferAt v (slotAfterGrant b u s .owner)) ≡ f (transferAt u (slotAfterGrant b u s .owner))
+            go true on = ap f (owner-same on)
+            go false off = rests off _ _
+
+        step-same : stepAt b v s (slotAsked b v s mask) ≡ stepOf b u s
+        unfolding stepAt
+        step-same =
+            let x = slotAfterGrant b u s in
+            rw asked-same
+            (from-owner (λ t. stepFrom (masterAt b (x .owner)) (slaveAt b s) t x)
+            (λ off t t′. sym (from-resting _ _ t x off) ∙ from-resting _ _ t′ x off)
+            ∙ step-is b u s refl)
 
         bytes-same : {start : ℕ} → start ≡ startOf b s → (d : Store)
             → carriedAt b v s (slotAsked b v s mask) start d ≡ carried b u s d
         unfolding carriedAt
-        bytes-same f d = rw (f, asked-same) (go (slotAfterGrant b u s .serving) refl ∙ carried-is b u s refl d)
-          where
-            go : (c : Bool) → slotAfterGrant b u s .serving ≡ c
-                → carriedFrom (masterAt b (slotAfterGrant b u s .owner)) (slaveAt b s)
-                (transferAt v (slotAfterGrant b u s .owner)) (slotAfterGrant b u s) (startOf b s) d
-                ≡ carriedFrom (masterAt b (slotAfterGrant b u s .owner)) (slaveAt b s)
-                (transferAt u (slotAfterGrant b u s .owner)) (slotAfterGrant b u s) (startOf b s) d
-            go true on = rw (owner-same on)
-            go false off =
-                sym (carried-resting _ _ _ (slotAfterGrant b u s) (startOf b s) d off)
-                ∙ carried-resting _ _ _ (slotAfterGrant b u s) (startOf b s) d off
+        bytes-same f d =
+            let x = slotAfterGrant b u s in
+            rw (f, asked-same)
+            (from-owner (λ t. carriedFrom (masterAt b (x .owner)) (slaveAt b s) t x (startOf b s) d)
+            (λ off t t′. sym (carried-resting _ _ t x (startOf b s) d off) ∙ carried-resting _ _ t′ x (startOf b s) d off)
+            ∙ carried-is b u s refl d)
 
     -- a pass of the loop
     module _ {v : State} {start : ℕ} {lines shown : List Line} {done : ℕ} (d c : Store)

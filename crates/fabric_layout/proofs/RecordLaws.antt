@@ -12,7 +12,7 @@ use lib.Seq.{sets}
 use Rattle.common_laws.proofs.TableLaws.{getD-table}
 use Rattle.common_laws.proofs.FillLaws.{table-put}
 use Rattle.common_laws.proofs.FrontLaws.{table-same}
-use Rattle.common_laws.proofs.SetsLaws.{five, five-sets, six-sets, sets-inside, Agree, sets-apart, records-apart}
+use Rattle.common_laws.proofs.SetsLaws.{five, five-sets, six-sets, sets-inside, Agree, five-same, sets-apart, records-apart}
 use Rattle.fabric_accesses.specs.declared.Transfer.{Transfer}
 use Rattle.fabric_accesses.specs.Accesses.{noTransfer}
 use Rattle.fabric_state.specs.declared.Slot.{Slot}
@@ -31,37 +31,21 @@ mark-back false e = rw e
 module _ (l r : List ℕ) (q : ℕ) where
   transfer-same : Agree l r q 5 → transferFrom r q ≡ transferFrom l q
   unfolding transferFrom
-  transfer-same f =
-      rw (
-        f q (omega arith) (omega arith),
-        f (q + 1) (omega arith) (omega arith),
-        f (q + 2) (omega arith) (omega arith),
-        f (q + 3) (omega arith) (omega arith),
-        f (q + 4) (omega arith) (omega arith),
-      )
+  transfer-same =
+      five-same l r q (λ h w a s n. record { held = marked h; write = marked w; address = a; lanes = s; beats = n })
 
   slot-same : Agree l r q 5 → slotFrom r q ≡ slotFrom l q
   unfolding slotFrom
-  slot-same f =
-      rw (
-        f q (omega arith) (omega arith),
-        f (q + 1) (omega arith) (omega arith),
-        f (q + 2) (omega arith) (omega arith),
-        f (q + 3) (omega arith) (omega arith),
-        f (q + 4) (omega arith) (omega arith),
-      )
+  slot-same =
+      five-same l r q (λ o g s d w. record { owner = o; remaining = g; serving = marked s; done = d; waited = w })
 
   line-same : Agree l r q 6 → lineFrom r q ≡ lineFrom l q
   unfolding lineFrom
-  line-same f =
-      rw (
-        f q (omega arith) (omega arith),
-        f (q + 1) (omega arith) (omega arith),
-        f (q + 2) (omega arith) (omega arith),
-        f (q + 3) (omega arith) (omega arith),
-        f (q + 4) (omega arith) (omega arith),
-        f (q + 5) (omega arith) (omega arith),
-      )
+  line-same e =
+      rw (e (q + 5) (omega arith) (omega arith))
+      (five-same l r q
+      (λ p o a s n. record { phase = p; owner = o; offset = a; lanes = s; run = n; place = getD l (q + 5) 0 })
+      (λ k low high. e k low (omega arith)))
 
 -- a record of the numbers put is the one that was put
 module _ (l : List ℕ) (p : ℕ) where

@@ -28,10 +28,17 @@ put-table-requires c κs =
     let none = p .if1 .left in
     (board-legal _ (x .number) none (x .board none), omega (arith, table-fits _ (x .number) none (x .board none)))
 
--- the page has room for the longest table
+-- the page has room for the longest table, so that what is printed lies within it
 room : (t : tie.After-put-table) → longestTable ≤ length (t .put-table .last .0)
 unfolding longestTable
 room t = search needs
+
+within : (t : tie.After-put-table) → t .put-table .result ≤ length (t .put-table .last .0)
+within t =
+    let p = t .before .before .before in
+    let x = p .before .read .ensures in
+    let none = p .if1 .left in
+    page-within _ (x .number) none (x .board none) (t .put-table .ensures) (room t)
 
 returns-2 : tie.Need-returns-2
 unfolding longestTable
@@ -44,21 +51,12 @@ returns-2 c =
     (room-refused _ (x .number) none (x .board none) (t .put-table .ensures) (room t) _ (c .if2 .taken))
 
 array-share-prefix-page : tie.Need-array-share-prefix-page
-array-share-prefix-page c =
-    let t = c .before .before .before in
-    let p = t .before .before .before in
-    let x = p .before .read .ensures in
-    let none = p .if1 .left in
-    page-within _ (x .number) none (x .board none) (t .put-table .ensures) (room t)
+array-share-prefix-page c = within (c .before .before .before)
 
 slice-aggregate-put-bytes : tie.Need-slice-aggregate-put-bytes
 slice-aggregate-put-bytes c =
     let t = c .before .before .before .before in
-    let p = t .before .before .before in
-    let x = p .before .read .ensures in
-    let none = p .if1 .left in
-    let h = page-within _ (x .number) none (x .board none) (t .put-table .ensures) (room t) in
-    omega (arith, length-take (t .put-table .result) (t .put-table .last .0))
+    omega (arith, within t, length-take (t .put-table .result) (t .put-table .last .0))
 
 put-bytes-requires : tie.Need-put-bytes-requires
 put-bytes-requires c κs =

@@ -1,13 +1,31 @@
 -- `description_rules::refusals::master_refusal` meets its contract. Each way out answers the definition's tests in their order.
 -- Assumes nothing.
+use mathlib.Core.Path.{_≡_}
+use mathlib.Core.Bool.{cond, not, _&&_}
 use borrow.Author.Needs.{needs}
 use Rattle.description_board.specs.Rules.{masterRefusal}
+use Rattle.description_layout.specs.Layout.{boardIn}
 use Rattle.description_rules.proofs.refusals.master_refusal.Statement.{statement}
 use Rattle.description_rules.proofs.refusals.master_refusal.Tie as tie
 
 -- from the test of the values back to behind the first test
 abbrev ordered : tie.After-member2 → tie.Else1
 ordered c = c .before .before .before .before
+
+-- the definition behind the first test, by what the tests of the values answered
+tested : (c : tie.After-member2) → let a = ordered c .before .before .before .args in
+    masterRefusal (boardIn (a .board .now)) (a .width) (a .burst)
+    ≡ cond (not (c .before .before .member .result && c .member2 .result)) 3 0
+unfolding masterRefusal
+tested c =
+    let order = ordered c in
+    rw (
+      ← order .before .before .master-count .ensures,
+      ← order .before .slave-count .ensures,
+      order .if1 .left,
+      ← c .before .before .member .ensures,
+      ← c .member2 .ensures,
+    )
 
 master-count-requires : tie.Need-master-count-requires
 master-count-requires c κs = search needs
@@ -32,30 +50,10 @@ member-requires-2 : tie.Need-member-requires-2
 member-requires-2 c κs = search needs
 
 returns-2 : tie.Need-returns-2
-unfolding masterRefusal
-returns-2 c =
-    let order = ordered (c .before) in
-    rw (
-      ← order .before .before .master-count .ensures,
-      ← order .before .slave-count .ensures,
-      order .if1 .left,
-      ← c .before .before .before .member .ensures,
-      ← c .before .member2 .ensures,
-      c .if2 .taken,
-    )
+returns-2 c = rw (tested (c .before), c .if2 .taken)
 
 returns-3 : tie.Need-returns-3
-unfolding masterRefusal
-returns-3 c =
-    let order = ordered (c .before) in
-    rw (
-      ← order .before .before .master-count .ensures,
-      ← order .before .slave-count .ensures,
-      order .if1 .left,
-      ← c .before .before .before .member .ensures,
-      ← c .before .member2 .ensures,
-      c .if2 .left,
-    )
+returns-3 c = rw (tested (c .before), c .if2 .left)
 
 pub master-refusal-spec : {M : Type 1} → statement M
 master-refusal-spec =

@@ -6,6 +6,7 @@ use native.Mathlib.Omega.{arith}
 use lib.ListN.{drop, take}
 use borrow.Author.Needs.{needs}
 use Rattle.description_board.proofs.RuleLaws.{overlaps-here, overlaps-next, overlaps-end}
+use Rattle.description_board.specs.Records.{slaveAt}
 use Rattle.description_board.specs.Rules.{meets, overlaps}
 use Rattle.description_layout.proofs.BoardLaws.{slaves-length}
 use Rattle.description_layout.specs.Layout.{boardIn}
@@ -23,6 +24,14 @@ abbrev μ-loop : tie.MeasureT-loop
 abbrev turn : tie.After-meets Inv-loop μ-loop → tie.At-loop Inv-loop μ-loop
 turn c = c .before .before .before
 
+-- what the comparison found is that of the slave of the turn
+compared : (c : tie.After-meets Inv-loop μ-loop) → let at = turn c in
+    let a = at .before .args in
+    meets (a .base) (a .span) (slaveAt (boardIn (a .board .now)) (at .loop .i)) ≡ c .meets .result
+compared c =
+    let a = turn c .before .args in
+    ap (meets (a .base) (a .span)) (sym (c .before .slave-at .ensures)) ∙ sym (c .meets .ensures)
+
 loop-holds : tie.Need-loop-holds Inv-loop μ-loop
 loop-holds c = (search needs, refl)
 
@@ -37,9 +46,8 @@ returns c = let at = turn (c .before) in
     let l = at .loop in
     let a = at .before .args in
     let g = slaves-length (a .board .now) in
-    let there = ap (meets (a .base) (a .span)) (sym (c .before .before .slave-at .ensures)) in
-    let met = there ∙ sym (c .before .meets .ensures) ∙ c .if1 .taken in
     let slaves = boardIn (a .board .now) .slaves in
+    let met = compared (c .before) ∙ c .if1 .taken in
     sym (l .inv .1 ∙ overlaps-here slaves (a .n) (l .i) (omega arith) (omega arith) (a .base) (a .span) met)
 
 add-i : tie.Need-add-i Inv-loop μ-loop
@@ -53,9 +61,8 @@ loop-again c = let at = turn (c .before) in
     let l = at .loop in
     let a = at .before .args in
     let g = slaves-length (a .board .now) in
-    let there = ap (meets (a .base) (a .span)) (sym (c .before .before .slave-at .ensures)) in
-    let apart = there ∙ sym (c .before .meets .ensures) ∙ c .if1 .left in
     let slaves = boardIn (a .board .now) .slaves in
+    let apart = compared (c .before) ∙ c .if1 .left in
     (omega arith, l .inv .1 ∙ overlaps-next slaves (a .n) (l .i) (omega arith) (omega arith) (a .base) (a .span) apart)
 
 returns-2 : tie.Need-returns-2 Inv-loop μ-loop

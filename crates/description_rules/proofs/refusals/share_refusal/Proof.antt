@@ -40,18 +40,17 @@ legal : (c : tie.Else2) → let a = start c .args in
 unfolding shareRefusal
 legal c = rw (← c .before .before .slave-count .ensures, ne-eqb _ _ (c .before .if1 .left), c .if2 .left)
 
+of-master : (c : tie.Else3) → let a = start (c .before) .args in
+    let b = boardIn (a .board .now) in
+    shareRefusal b (a .m) (a .s) (a .shares) ≡ cond (leb (b .«slave_count») (a .s) || ltb 0 (sharesAt b (a .m) (a .s))) 7 0
+of-master c =
+    let valued = c .before in
+    rw (legal valued, ← valued .before .before .before .master-count .ensures, lt-leb _ _ (c .if3 .left))
+
 there : (c : tie.Else4) → let a = start (c .before .before) .args in
     let b = boardIn (a .board .now) in
     shareRefusal b (a .m) (a .s) (a .shares) ≡ cond (ltb 0 (sharesAt b (a .m) (a .s))) 7 0
-there c =
-    let valued = c .before .before in
-    rw (
-      legal valued,
-      ← valued .before .before .before .master-count .ensures,
-      ← valued .before .before .slave-count .ensures,
-      lt-leb _ _ (c .before .if3 .left),
-      lt-leb _ _ (c .if4 .left),
-    )
+there c = rw (of-master (c .before), ← c .before .before .before .before .slave-count .ensures, lt-leb _ _ (c .if4 .left))
 
 returns-3 : tie.Need-returns-3
 returns-3 c = rw (legal (c .before), ← c .before .before .before .before .master-count .ensures, le-leb _ _ (c .if3 .taken))
@@ -60,15 +59,7 @@ cast-if4 : tie.Need-cast-if4
 cast-if4 c = search needs
 
 returns-4 : tie.Need-returns-4
-returns-4 c =
-    let valued = c .before .before in
-    rw (
-      legal valued,
-      ← valued .before .before .before .master-count .ensures,
-      ← valued .before .before .slave-count .ensures,
-      lt-leb _ _ (c .before .if3 .left),
-      le-leb _ _ (c .if4 .taken),
-    )
+returns-4 c = rw (of-master (c .before), ← c .before .before .before .before .slave-count .ensures, le-leb _ _ (c .if4 .taken))
 
 mul-share-or-none : tie.Need-mul-share-or-none
 mul-share-or-none c = search needs

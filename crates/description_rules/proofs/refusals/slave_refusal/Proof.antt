@@ -53,20 +53,26 @@ legal c =
       c .if2 .left,
     )
 
+aligned : (c : tie.After-overlaps) →
+    let a = start (valued (c .before)) .args in
+    let b = boardIn (a .board .now) in
+    slaveRefusal b (a .sharing) (a .n)
+    ≡ cond (c .overlaps .result) 5 (cond (ltb 65536 (totalSpan (take (b .«slave_count») (b .slaves)) + a .n .span)) 6 0)
+aligned c =
+    let values = valued (c .before) in
+    rw (
+      legal values,
+      eq-eqb _ _ (c .before .before .before .if3 .left),
+      ← values .before .before .before .slave-count .ensures,
+      ← c .overlaps .ensures,
+    )
+
 apart : (c : tie.Else4) →
     let a = start (valued (c .before .before)) .args in
     let b = boardIn (a .board .now) in
     slaveRefusal b (a .sharing) (a .n)
     ≡ cond (ltb 65536 (totalSpan (take (b .«slave_count») (b .slaves)) + a .n .span)) 6 0
-apart c =
-    let values = valued (c .before .before) in
-    rw (
-      legal values,
-      eq-eqb _ _ (c .before .before .before .before .if3 .left),
-      ← values .before .before .before .slave-count .ensures,
-      ← c .before .overlaps .ensures,
-      c .if4 .left,
-    )
+apart c = rw (aligned (c .before), c .if4 .left)
 
 master-count-requires : tie.Need-master-count-requires
 master-count-requires c κs = search needs
@@ -110,15 +116,7 @@ overlaps-requires : tie.Need-overlaps-requires
 overlaps-requires c κs = let l = room (valued c .before .before) in omega arith
 
 returns-4 : tie.Need-returns-4
-returns-4 c =
-    let values = valued (c .before .before) in
-    rw (
-      legal values,
-      eq-eqb _ _ (c .before .before .before .before .if3 .left),
-      ← values .before .before .before .slave-count .ensures,
-      ← c .before .overlaps .ensures,
-      c .if4 .taken,
-    )
+returns-4 c = rw (aligned (c .before), c .if4 .taken)
 
 cast-total-span : tie.Need-cast-total-span
 cast-total-span c = search needs
