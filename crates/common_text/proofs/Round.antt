@@ -14,7 +14,8 @@ use borrow.Author.Tests.{eq-eqb, eqb-true, eqb-false, ltb-true, ltb-false}
 use Rattle.common_laws.proofs.TextLists.{member-append}
 use Rattle.common_laws.specs.Lists.{member}
 use Rattle.common_text.specs.Digits.{digitsIn, digits, fieldsText, lineText}
-use Rattle.common_text.specs.Fields.{comma, lineFeed, push, split, isDigit, scan, numberOf, mostNumbers, noNumbers, withNumber, collect, numbersOf}
+use Rattle.common_text.specs.Fields.{comma, lineFeed, push, split, isDigit, scan}
+use Rattle.common_text.specs.Fields.{numberOf, mostNumbers, noNumbers, withNumber, collect, numbersOf}
 use Rattle.common_text.specs.declared.Number.the-variants.{Malformed, Value}
 use Rattle.common_text.specs.declared.Numbers.{Numbers}
 use Rattle.common_text.proofs.Decimal.{digitsIn-small, digitsIn-large, digits-short, member-digits}
@@ -161,7 +162,8 @@ numbered ns = record { count = length ns; values = sets (replicate mostNumbers 0
 abbrev more : Numbers → List ℕ → Numbers
 more ms ns = record { count = ms .count + length ns; values = sets (ms .values) (ms .count) ns }
 
-collect-digits : (ms : Numbers) (ns : List ℕ) → ms .count + length ns ≤ mostNumbers → Short ns → collect ms (map digits ns) ≡ more ms ns
+collect-digits : (ms : Numbers) (ns : List ℕ) → ms .count + length ns ≤ mostNumbers → Short ns
+    → collect ms (map digits ns) ≡ more ms ns
 unfolding withNumber
 collect-digits ms [] h s =
     collect-end ms ∙ ap (λ (k : ℕ). record { count = k; values = ms .values }) (omega arith)

@@ -11,7 +11,8 @@ use lib.Dec.{leb, eqb, lit<}
 use lib.ListN.{length, getD, take, drop, drop-of-length-le}
 use lib.Seq.{drop-cons}
 use borrow.Author.Tests.{lt-ltb, le-leb, lt-leb, eq-eqb, ne-eqb}
-use Rattle.common_text.specs.Fields.{comma, split, isDigit, scan, shaped, numberOf, numberRefusal, numberValue, mostNumbers, noNumbers, withNumber, collect, numbersOf}
+use Rattle.common_text.specs.Fields.{comma, split, isDigit, scan, shaped, numberOf}
+use Rattle.common_text.specs.Fields.{numberRefusal, numberValue, mostNumbers, noNumbers, withNumber, collect, numbersOf}
 use Rattle.common_text.specs.Code.Scanning.{Cut}
 use Rattle.common_text.specs.declared.Number.the-variants.{Malformed, Value}
 use Rattle.common_text.specs.declared.Numbers.{Numbers}

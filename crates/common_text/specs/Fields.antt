@@ -66,7 +66,8 @@ noNumbers = record { count = 0; values = replicate mostNumbers 0 }
 unfoldable pub withNumber : Numbers → ℕ → Numbers
 withNumber ns n = record { count = ns .count + 1; values = set (ns .values) (ns .count) n }
 
--- the numbers ns and then those of the fields (rule 7.1); none where a field is malformed, or where they are more than `mostNumbers`
+-- the numbers ns and then those of the fields (rule 7.1); none where a field is malformed, or where they are more than
+-- `mostNumbers`
 -- together
 unfoldable pub collect : Numbers → List (List ℕ) → Numbers
 collect ns [] = ns

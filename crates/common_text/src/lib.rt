@@ -5,7 +5,8 @@ ghost use mathlib.Core.List.{[], _∷_};
 ghost use Prim.Native.Nat.{_≤_, _<_, _+_};
 ghost use lib.ListN.{length};
 ghost use Rattle.common_laws.specs.Lists.{same};
-ghost use Rattle.common_text.specs.Fields.{comma, lineFeed, split, scan, numberOf, mostNumbers, numbersOf, withNumber, noNumbers};
+ghost use Rattle.common_text.specs.Fields.{comma, lineFeed, split, scan};
+ghost use Rattle.common_text.specs.Fields.{numberOf, mostNumbers, numbersOf, withNumber, noNumbers};
 ghost use Rattle.common_text.specs.Digits.{digits, fieldsText, lineText};
 ghost use Rattle.common_text.specs.Code.Scanning.{behind, Cut, Put};
 
@@ -18,7 +19,8 @@ pub enum Number {
     Value(u64),
 }
 
-// The numbers of a line's fields behind the first; none where a field is malformed or there are more than any line has (rules 1.3, 7.1).
+// The numbers of a line's fields behind the first; none where a field is malformed or there are more than any line has (rules
+// 1.3, 7.1).
 pub struct Numbers {
     pub count: u8,
     pub values: [u64; LINE_NUMBERS],

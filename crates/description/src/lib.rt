@@ -140,7 +140,9 @@ fn board_length(board: &[u32; BOARD_NUMBERS]) -> usize
 pub fn write(board: &[u32; BOARD_NUMBERS], out: &mut [u8]) -> Written
     ensures answer { λ r. ⌜ r ≡ writeAnswer (boardIn (now (board .entry))) (now (out .entry)) ⌝ }
     ensures output { λ r. ⌜ now (out .exit) ≡ writeOutput (boardIn (now (board .entry))) (now (out .entry)) ⌝ }
-    ensures room { λ r. do ⌜ ((← ⟦LONGEST⟧ .entry) ≤ length (now (out .entry)) → r .number ≡ boardRefusal (boardIn (now (board .entry)))) ⌝ }
+    ensures room { λ r. do
+      ⌜ ((← ⟦LONGEST⟧ .entry) ≤ length (now (out .entry))
+          → r .number ≡ boardRefusal (boardIn (now (board .entry)))) ⌝ }
 {
     let number = description_check::board_refusal(board);
     if number != 0 {

@@ -23,7 +23,8 @@ pub line-room :
     (at n : ℕ) (v w ns : List ℕ) → length v ≡ length w → at + length (lineText v ns) ≤ n → at + length (lineText w ns) ≤ n
 line-room at n v w ns e h = omega (arith, line-length v ns, line-length w ns)
 
--- A line has few numbers, so that its length is small: a comma and at most 20 digits for each number, a word of at most 6 bytes, the
+-- A line has few numbers, so that its length is small: a comma and at most 20 digits for each number, a word of at most 6
+-- bytes, the
 -- line feed.
 abbrev fieldsRoom : ℕ
 fieldsRoom = 21 * mostNumbers

@@ -49,7 +49,8 @@ use Rattle.fabric_cycle.specs.Code.Serving.{stepFrom, carriedFrom}
 use Rattle.fabric_cycle.proofs.ServeLaws.{from-resting, carried-resting, step-is, carried-is}
 use Rattle.fabric_cycle.proofs.ReachLaws.{start-next, grant-placed, grant-reached}
 use Rattle.fabric_cycle.specs.Code.Cycles.{Passes, Clocks}
-use Rattle.fabric_cycle.specs.Code.SlaveClocks.{slotAsked, stepAt, carriedAt, endedTransfer, stateStepped, Serving, Ready, SlaveClocked}
+use Rattle.fabric_cycle.specs.Code.SlaveClocks.{slotAsked, stepAt, carriedAt, endedTransfer}
+use Rattle.fabric_cycle.specs.Code.SlaveClocks.{stateStepped, Serving, Ready, SlaveClocked}
 
 -- ---- a mask with one number more, and a list with one element more
 

@@ -33,7 +33,8 @@ use Rattle.fabric_state.specs.Control.{slotGranted}
 use Rattle.fabric_layout.specs.Code.Puts.{withSlot}
 use Rattle.fabric_cycle.specs.Code.Serving.{stepFrom, Serves, Served}
 use Rattle.fabric_cycle.proofs.ServeLaws.{from-resting, carried-resting}
-use Rattle.fabric_cycle.specs.Code.SlaveClocks.{slotAsked, stepAt, carriedAt, endedTransfer, stateStepped, Serving, SlaveClocked}
+use Rattle.fabric_cycle.specs.Code.SlaveClocks.{slotAsked, stepAt, carriedAt}
+use Rattle.fabric_cycle.specs.Code.SlaveClocks.{endedTransfer, stateStepped, Serving, SlaveClocked}
 
 -- ---- rule 1
 
@@ -118,7 +119,8 @@ serves-as x start d e f g p = rw (e, f, g) p
 
 module _ (b : Board) (before : State) (s : ℕ) (x : Slot) (start : ℕ) (d : Store) {ma : Master} {sl : Slave} {t : Transfer}
     (e : ma ≡ masterAt b (x .owner)) (f : sl ≡ slaveAt b s) (g : t ≡ transferAt before (x .owner)) where
-  pub stepped-serving : (mid after : State) (lines shown : List Line) (y : Step) {r : ℕ} (c : Store) → Served ma sl t x start d c y
+  pub stepped-serving : (mid after : State) (lines shown : List Line) (y : Step) {r : ℕ} (c : Store)
+      → Served ma sl t x start d c y
       → mid ≡ withSlot before s (y .slot) → shown ≡ set lines s (y .line) → after ≡ endedTransfer mid (x .owner) (y .finished)
       → r ≡ cond (y .finished) (2 ^ x .owner) 0 → SlaveClocked b before after s x start lines shown r d c
   unfolding stateStepped stepAt carriedAt
@@ -137,6 +139,7 @@ module _ (b : Board) (st : State) (s start : ℕ) {x y : Slot} (e : x ≡ y) whe
   pub serving-as : (d : Store) → (y .serving ≡ true → Serving b st s y start d) → x .serving ≡ true → Serving b st s x start d
   serving-as d p on = rw e (p (rw e at on))
 
-  pub stepped-as : (after : State) (lines shown : List Line) (r : ℕ) (c d : Store) → SlaveClocked b st after s x start lines shown r c d
+  pub stepped-as : (after : State) (lines shown : List Line) (r : ℕ) (c d : Store)
+      → SlaveClocked b st after s x start lines shown r c d
       → SlaveClocked b st after s y start lines shown r c d
   stepped-as after lines shown r c d p = rw e at p

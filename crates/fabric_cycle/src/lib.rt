@@ -75,7 +75,8 @@ fn serve_at(
 ) -> u32
     requires { ⌜ Serving (boardIn (now board)) (stateIn (now st)) s slot start
         (record { memory = now memory; buffer = now buffer }) ⌝ }
-    ensures { λ r. ⌜ SlaveClocked (boardIn (now (board .entry))) (stateIn (now (st .entry))) (stateIn (now (st .exit))) s slot start
+    ensures { λ r. ⌜ SlaveClocked (boardIn (now (board .entry))) (stateIn (now (st .entry)))
+        (stateIn (now (st .exit))) s slot start
         (linesIn (now (lines .entry))) (linesIn (now (lines .exit))) r
         (record { memory = now (memory .entry); buffer = now (buffer .entry) })
         (record { memory = now (memory .exit); buffer = now (buffer .exit) }) ⌝ }

@@ -19,7 +19,8 @@ unfoldable pub carried : Board → State → ℕ → Store → Store
 carried b st s d =
     let slot = slotAfterGrant b st s in
     cond (carriesOut b st s slot)
-    (carriedAccess (masterAt b (slot .owner)) (slaveAt b s) (transferAt st (slot .owner)) (slot .owner) (startOf b s) (slot .done) d)
+    (carriedAccess (masterAt b (slot .owner)) (slaveAt b s) (transferAt st (slot .owner)) (slot .owner) (startOf b s)
+    (slot .done) d)
     d
 
 -- rule 4.1: the lent bytes after the clock of the first n slaves, one after another

@@ -4,7 +4,8 @@ use common_numbers::MEMORY_BYTES;
 ghost use Prim.Native.Nat.{_≤_};
 use program_script::Session;
 
-// The length of the memory. The spans of a board that was read total no more than MEMORY_BYTES (rule 1.7); the test gives that bound
+// The length of the memory. The spans of a board that was read total no more than MEMORY_BYTES (rule 1.7); the test gives that
+// bound
 // without a `requires` on the board.
 fn bounded(total: u64) -> usize
     ensures { λ r. ⌜ r ≤ 65536 ⌝ }

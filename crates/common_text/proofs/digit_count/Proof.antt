@@ -1,4 +1,5 @@
--- `common_text::digit_count` meets its contract. The loop's invariant: the digits counted and those of m are one more than those of n.
+-- `common_text::digit_count` meets its contract. The loop's invariant: the digits counted and those of m are one more than
+-- those of n.
 -- The measure is m. Assumes nothing.
 use mathlib.Core.Path.{_≡_}
 use Prim.Native.Nat.{_+_, _≤_}

@@ -1,4 +1,5 @@
--- `common_text::fields_length` meets its contract. The loop's invariant: the sum is the length of the fields of the first i numbers, at most
+-- `common_text::fields_length` meets its contract. The loop's invariant: the sum is the length of the fields of the first i
+-- numbers, at most
 -- 21 bytes to each. The measure is how many are left. Assumes nothing.
 use mathlib.Core.List.{List}
 use mathlib.Core.Path.{_≡_, refl, ap, _∙_}

@@ -1,4 +1,5 @@
--- `common_text::find_byte` meets its contract. The loop's invariant: the bytes passed stand in front of the first piece of the rest.
+-- `common_text::find_byte` meets its contract. The loop's invariant: the bytes passed stand in front of the first piece of the
+-- rest.
 -- The measure is what is left of the text. Assumes nothing.
 use mathlib.Core.Path.{_≡_}
 use Prim.Native.Nat.{_≤_, _-_}

@@ -1,4 +1,5 @@
--- `common_text::numbers_behind` meets its contract: behind a separator the part that is lent, at the line's end no field. Assumes nothing.
+-- `common_text::numbers_behind` meets its contract: behind a separator the part that is lent, at the line's end no field.
+-- Assumes nothing.
 use mathlib.Core.Path.{ap, sym, _∙_}
 use borrow.Author.Needs.{needs}
 use Rattle.common_text.specs.Fields.{comma, numbersOf}

@@ -1,4 +1,5 @@
--- `common_text::numbers_of` meets its contract. The loop's invariant: the numbers are those so far and then those of the fields from `at` on.
+-- `common_text::numbers_of` meets its contract. The loop's invariant: the numbers are those so far and then those of the
+-- fields from `at` on.
 -- The measure is what is left of the text. Assumes nothing.
 use mathlib.Core.Path.{refl, _≡_, sym, _∙_}
 use Prim.Native.Nat.{_-_, _≤_}

@@ -16,7 +16,8 @@ put-fields-requires c κs = let a = c .before .before .before .before .before .b
     omega (arith, line-length (a .word .now) (a .numbers .now))
 
 put-end-requires : tie.Need-put-end-requires
-put-end-requires c κs = let a = c .before .before .before .before .before .before .before .before .before .before .before .before .args in
+put-end-requires c κs =
+    let a = c .before .before .before .before .before .before .before .before .before .before .before .before .args in
     omega (arith, line-length (a .word .now) (a .numbers .now))
 
 same-length : tie.Need-same-length

@@ -1,4 +1,5 @@
--- `description_lines::item_length` meets its contract, kind by kind. A line has few numbers, so that no sum wraps. Assumes nothing.
+-- `description_lines::item_length` meets its contract, kind by kind. A line has few numbers, so that no sum wraps. Assumes
+-- nothing.
 use native.Mathlib.Omega.{arith}
 use borrow.Author.Needs.{needs}
 use Rattle.common_laws.specs.Bytes.{bytesOf}

@@ -68,7 +68,9 @@ same-length c = search needs
 
 returns-2 : tie.Need-returns-2
 unfolding itemText bytesOf
-returns-2 c = let p = c .before .before in rw (p .before .before .before .before .before .x .given .1) (p .put-line .ensures)
+returns-2 c = let p = c .before .before in
+    let start = p .before .before .before .before .before in
+    rw (start .x .given .1) (p .put-line .ensures)
 
 same-length-2 : tie.Need-same-length-2
 same-length-2 c = search needs
@@ -84,7 +86,9 @@ same-length-3 c = search needs
 
 returns-4 : tie.Need-returns-4
 unfolding itemText bytesOf
-returns-4 c = let p = c .before .before in rw (p .before .before .before .before .before .x3 .given .1) (p .put-line3 .ensures)
+returns-4 c = let p = c .before .before in
+    let start = p .before .before .before .before .before in
+    rw (start .x3 .given .1) (p .put-line3 .ensures)
 
 pub put-item-spec : {M : Type 1} → statement M
 put-item-spec =

@@ -25,7 +25,7 @@ element-copy-out-t23 c = search needs
 
 returns : tie.Need-returns
 unfolding slaveLine
-returns c = rw (eq-eqb _ _ (c .before .before .before .before .before .before .if1 .taken))
+returns c = let start = c .before .before .before .before .before .before in rw (eq-eqb _ _ (start .if1 .taken))
 
 returns-2 : tie.Need-returns-2
 unfolding slaveLine

@@ -1,4 +1,5 @@
--- `description_rules::refusals::memory_length` meets its contract. Of more slaves than the array has `take` gives all of them, which
+-- `description_rules::refusals::memory_length` meets its contract. Of more slaves than the array has `take` gives all of them,
+-- which
 -- are the first 16.
 -- Assumes nothing.
 use mathlib.Core.List.{List}
