@@ -59,6 +59,10 @@ accepted-legal b e =
       apart = λ s j l m. rw (entry j m, entry s (omega arith)) at (k .apart s j l m);
       total = rw (total-same (trimmed b .slaves) (b .slaves) (b .«slave_count») entry) at (k .total);
       shares = λ i l. rw (trimmed-share b i l) at (k .shares i l);
+      wide = λ i l z.
+          let z′ : getD (trimmed b .shares) i 0 ≢ 0 = rw (trimmed-share b i l) z in
+          let p = k .shares i l z′ in
+          rw (trimmed-master b (k .fewMasters) (i / 16) (p .1), entry (i % 16) (p .2)) at (k .wide i l z′);
     }
 
 -- no line of a legal board is refused
@@ -98,6 +102,7 @@ module _ (b : Board) (k : Legal b) where
         x .burst,
         le-leb _ _ (x .readWait),
         le-leb _ _ (x .writeWait),
+        le-leb _ _ (x .native),
         eq-eqb _ _ (x .aligned),
         apart,
         le-ltb _ _ total,
@@ -118,6 +123,9 @@ module _ (b : Board) (k : Legal b) where
         lt-leb (b .«slave_count») (i % 16) (p .2),
         e,
         front-blank (λ j. getD (b .shares) j 0) 0 128 i i (omega arith) l,
+        front-there (masterAt b) noMaster 8 (b .«master_count») (i / 16) (p .1) (omega (arith, k .fewMasters)),
+        front-there (slaveAt b) noSlave 16 (b .«slave_count») (i % 16) (p .2) (omega (arith, k .fewSlaves)),
+        k .wide i l z,
       )
 
   pub legal-described : described (items b) ≡ record { number = 0; sharing = shared b; board = trimmed b }

@@ -21,7 +21,7 @@ use Rattle.description_board.specs.declared.Item.the-variants.{Malformed
 use Rattle.description_board.specs.declared.Reading.{Reading}
 use Rattle.description_board.specs.Records.{noMaster, noSlave, noBoard, masterAt, slaveAt, totalSpan, startOf, memoryLength}
 use Rattle.description_board.specs.Rules.{slaveValues, slaveOf, meets}
-use Rattle.description_board.specs.Rules.{masterRefusal, slaveRefusal, shareRefusal}
+use Rattle.description_board.specs.Rules.{masterRefusal, slaveRefusal, tooNarrow, shareRefusal}
 use Rattle.description_board.specs.Rules.{itemRefusal, withMaster, withSlave, withShare}
 use Rattle.description_board.specs.Rules.{withItem, refused, start, taken, step, stepAll, finish, described}
 use Rattle.description_board.specs.Legal.{LegalMaster, LegalSlave, Legal}
@@ -39,6 +39,7 @@ values-legal n e f =
       burst = v .burst-listed;
       readWait = v .read-fits;
       writeWait = v .write-fits;
+      native = v .native-fits;
       aligned = f;
     }
 
@@ -55,6 +56,7 @@ pub record Sound (b : Board) : Type 0 where
   pub total : memoryLength b ≤ 65536
   pub shares : (i : ℕ) → i < 128 → getD (b .shares) i 0 ≢ 0
       → (getD (b .shares) i 0 ≤ 100) × (i / 16 < b .«master_count») × (i % 16 < b .«slave_count»)
+  pub wide : (i : ℕ) → i < 128 → getD (b .shares) i 0 ≢ 0 → tooNarrow (masterAt b (i / 16)) (slaveAt b (i % 16)) ≡ false
   pub masterEnd : (m : ℕ) → b .«master_count» ≤ m → masterAt b m ≡ noMaster
   pub slaveEnd : (s : ℕ) → b .«slave_count» ≤ s → slaveAt b s ≡ noSlave
 
@@ -71,6 +73,7 @@ sound-start = record {
   apart = λ s k l h. absurd (omega arith);
   total = omega arith;
   shares = λ i h n. absurd (n (getD-replicate-all 128 i 0));
+  wide = λ i h n. absurd (n (getD-replicate-all 128 i 0));
   masterEnd = λ m h. getD-replicate-all 8 m noMaster;
   slaveEnd = λ s h. getD-replicate-all 16 s noSlave;
 }
@@ -92,6 +95,9 @@ sound-master b w u e k =
       apart = k .apart;
       total = k .total;
       shares = λ i l n. let p = k .shares i l n in (p .0, omega arith, p .2);
+      wide = λ i l n.
+          let p = k .shares i l n in
+          rw (getD-set-other (b .masters) (b .«master_count») (i / 16) _ noMaster (omega arith)) (k .wide i l n);
       masterEnd = λ m l.
           getD-set-other (b .masters) (b .«master_count») m _ noMaster (omega arith) ∙ k .masterEnd m (omega arith);
       slaveEnd = k .slaveEnd;
@@ -121,6 +127,9 @@ sound-slave b sharing n e k =
           j (λ d p q. k .apart s j p (omega arith)) l m);
       total = rw (add-one, total-suc, take-set-le c (b .slaves) c x (omega arith), getD-set-same) (t .total);
       shares = λ i l z. let p = k .shares i l z in (p .0, p .1, omega arith);
+      wide = λ i l z.
+          let p = k .shares i l z in
+          rw (getD-set-other (b .slaves) c (i % 16) x noSlave (omega arith)) (k .wide i l z);
       masterEnd = k .masterEnd;
       slaveEnd = λ s l. getD-set-other (b .slaves) c s x noSlave (omega arith) ∙ k .slaveEnd s (omega arith);
     }
@@ -129,6 +138,8 @@ sound-share : (b : Board) (m s n : ℕ) → shareRefusal b m s n ≡ 0 → Sound
 unfolding withShare memoryLength startOf
 sound-share b m s n e k =
     let t = share-taken b m s n e in
+    let row : (16 * m + s) / 16 ≡ m = omega arith in
+    let column : (16 * m + s) % 16 ≡ s = omega arith in
     record {
       masterPlaces = k .masterPlaces;
       slavePlaces = k .slavePlaces;
@@ -142,6 +153,8 @@ sound-share b m s n e k =
       shares = λ i l. set-each
           (λ j y. y ≢ 0 → (y ≤ 100) × (j / 16 < b .«master_count») × (j % 16 < b .«slave_count»))
           (b .shares) (16 * m + s) n 0 (omega arith) (λ _. (t .high, omega arith, omega arith)) i (λ _. k .shares i l);
+      wide = λ i l. set-each (λ j y. y ≢ 0 → tooNarrow (masterAt b (j / 16)) (slaveAt b (j % 16)) ≡ false)
+          (b .shares) (16 * m + s) n 0 (omega arith) (λ _. rw (row, column) (t .wide)) i (λ _. k .wide i l);
       masterEnd = k .masterEnd;
       slaveEnd = k .slaveEnd;
     }
@@ -221,4 +234,5 @@ module _ (xs : List Item) (e : described xs .number ≡ 0) where
         apart = k .apart;
         total = k .total;
         shares = k .shares;
+        wide = k .wide;
       }

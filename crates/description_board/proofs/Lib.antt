@@ -1,4 +1,5 @@
 pub mod RuleLaws
+pub mod PairLaws
 pub mod StepAllLaws
 pub mod SpanLaws
 pub mod StartLaws

@@ -14,9 +14,9 @@ use Rattle.common_laws.proofs.Tests.{both, neither, passed}
 use Rattle.description_board.specs.declared.Slave.{Slave}
 use Rattle.description_board.specs.declared.SlaveNumbers.{SlaveNumbers}
 use Rattle.description_board.specs.declared.Board.{Board}
-use Rattle.description_board.specs.Records.{noSlave, sharesAt, totalSpan}
+use Rattle.description_board.specs.Records.{noSlave, masterAt, slaveAt, sharesAt, totalSpan}
 use Rattle.description_board.specs.Rules.{widths, bursts, spans, slaveValues, meets, overlaps}
-use Rattle.description_board.specs.Rules.{masterRefusal, slaveRefusal, shareRefusal}
+use Rattle.description_board.specs.Rules.{masterRefusal, slaveRefusal, tooNarrow, shareRefusal}
 use Rattle.description_board.specs.Legal.{LegalMaster}
 
 pub width-bound : (x : ℕ) → member x widths ≡ true → (1 ≤ x) × (x ≤ 8)
@@ -63,6 +63,7 @@ pub record Values (n : SlaveNumbers) : Type 0 where
   pub burst-fits : (1 ≤ n .burst) × (n .burst ≤ 64)
   pub read-fits : n .«read_wait» ≤ 255
   pub write-fits : n .«write_wait» ≤ 255
+  pub native-fits : n .native ≤ 1
   pub span-listed : member (n .span) spans ≡ true
   pub width-listed : member (n .width) widths ≡ true
   pub burst-listed : member (n .burst) bursts ≡ true
@@ -74,14 +75,16 @@ values-fit n e =
     let e2 = both (member (n .span) spans) _ (e1 .1) in
     let e3 = both (member (n .width) widths) _ (e2 .1) in
     let e4 = both (member (n .burst) bursts) _ (e3 .1) in
-    let e5 = both (leb (n .«read_wait») 255) (leb (n .«write_wait») 255) (e4 .1) in
+    let e5 = both (leb (n .«read_wait») 255) _ (e4 .1) in
+    let e6 = both (leb (n .«write_wait») 255) (leb (n .native) 1) (e5 .1) in
     record {
       base-fits = leb-true _ _ (e1 .0);
       span-fits = span-bound (n .span) (e2 .0);
       width-fits = width-bound (n .width) (e3 .0);
       burst-fits = burst-bound (n .burst) (e4 .0);
       read-fits = leb-true _ _ (e5 .0);
-      write-fits = leb-true _ _ (e5 .1);
+      write-fits = leb-true _ _ (e6 .0);
+      native-fits = leb-true _ _ (e6 .1);
       span-listed = e2 .0;
       width-listed = e3 .0;
       burst-listed = e4 .0;
@@ -148,6 +151,7 @@ pub record ShareTaken (b : Board) (m s shares : ℕ) : Type 0 where
   pub master-there : m < b .«master_count»
   pub slave-there : s < b .«slave_count»
   pub unset : sharesAt b m s ≤ 0
+  pub wide : tooNarrow (masterAt b m) (slaveAt b s) ≡ false
 
 pub share-taken : (b : Board) (m s shares : ℕ) → shareRefusal b m s shares ≡ 0 → ShareTaken b m s shares
 unfolding shareRefusal
@@ -155,8 +159,9 @@ share-taken b m s shares e =
     let order = passed (eqb (b .«slave_count») 0) 1 _ e in
     let legal = passed (ltb shares 1 || ltb 100 shares) 2 _ (order .1) in
     let bounds = neither (ltb shares 1) _ (legal .0) in
-    let pair = passed (leb (b .«master_count») m || (leb (b .«slave_count») s || ltb 0 (sharesAt b m s))) 6 0 (legal .1)
+    let pair = passed (leb (b .«master_count») m || (leb (b .«slave_count») s || ltb 0 (sharesAt b m s))) 6 _ (legal .1)
     in
+    let wide = passed (tooNarrow (masterAt b m) (slaveAt b s)) 18 0 (pair .1) in
     let master = neither (leb (b .«master_count») m) _ (pair .0) in
     let slave = neither (leb (b .«slave_count») s) _ (master .1) in
     record {
@@ -165,4 +170,5 @@ share-taken b m s shares e =
       master-there = leb-false _ _ (master .0);
       slave-there = leb-false _ _ (slave .0);
       unset = ltb-false _ _ (slave .1);
+      wide = wide .0;
     }

@@ -40,6 +40,7 @@ share-fits b m s n t =
       lt-leb (b .«master_count») m (t .master-there),
       lt-leb (b .«slave_count») s (t .slave-there),
       le-ltb 0 (sharesAt b m s) (t .unset),
+      t .wide,
     )
 
 -- the values of a share line, and the line
@@ -75,10 +76,24 @@ steps-exchanged r x y e =
     (t .unset) (u .unset) in
     let first : step r (line y) ≡ taken r (line y) =
     fits-taken r y (p .0)
-    (record { low = u .low; high = u .high; master-there = u .master-there; slave-there = u .slave-there; unset = c .0 }) in
+    (record {
+      low = u .low;
+      high = u .high;
+      master-there = u .master-there;
+      slave-there = u .slave-there;
+      unset = c .0;
+      wide = u .wide;
+    }) in
     let second : step (taken r (line y)) (line x) ≡ taken (taken r (line y)) (line x) =
     fits-taken (taken r (line y)) x refl
-    (record { low = t .low; high = t .high; master-there = t .master-there; slave-there = t .slave-there; unset = c .1 }) in
+    (record {
+      low = t .low;
+      high = t .high;
+      master-there = t .master-there;
+      slave-there = t .slave-there;
+      unset = c .1;
+      wide = t .wide;
+    }) in
     rw (first, second, q .2, p .2, c .2)
 
 -- accepted share lines, and the same in another order

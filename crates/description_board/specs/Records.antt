@@ -3,7 +3,7 @@
 use mathlib.Core.Bool.{Bool, _&&_}
 use mathlib.Core.List.{List, [], _∷_}
 use Prim.Native.Nat.{ℕ, _+_, _*_}
-use lib.Dec.{ltb}
+use lib.Dec.{ltb, eqb}
 use lib.ListN.{getD, take, replicate}
 use Rattle.description_board.specs.declared.Master.{Master}
 use Rattle.description_board.specs.declared.Slave.{Slave}
@@ -15,7 +15,11 @@ noMaster = record { width = 0; burst = 0 }
 
 -- a slave of zeros
 abbrev pub noSlave : Slave
-noSlave = record { base = 0; span = 0; width = 0; burst = 0; «read_wait» = 0; «write_wait» = 0 }
+noSlave = record { base = 0; span = 0; width = 0; burst = 0; «read_wait» = 0; «write_wait» = 0; native = 0 }
+
+-- rule 1.6: the slave has native alignment
+unfoldable pub isNative : Slave → Bool
+isNative s = eqb (s .native) 1
 
 -- rule 8.1: the board of a refusal; also that before the first line
 unfoldable pub noBoard : Board

@@ -1,4 +1,4 @@
--- The lines of a description: what each is refused for (rules 7.1 to 7.7), and the board with the line added.
+-- The lines of a description: what each is refused for (rules 7.1 to 7.7, 7.19), and the board with the line added.
 -- Assumes nothing.
 use mathlib.Core.Bool.{Bool, true, false, cond, not, _&&_, _||_}
 use mathlib.Core.List.{List, [], _∷_}
@@ -6,13 +6,14 @@ use Prim.Native.Nat.{ℕ, _+_, _*_, _%_}
 use lib.Dec.{leb, ltb, eqb}
 use lib.ListN.{take, set}
 use Rattle.common_laws.specs.Lists.{member}
+use Rattle.description_board.specs.declared.Master.{Master}
 use Rattle.description_board.specs.declared.Slave.{Slave}
 use Rattle.description_board.specs.declared.SlaveNumbers.{SlaveNumbers}
 use Rattle.description_board.specs.declared.Board.{Board}
 use Rattle.description_board.specs.declared.Item.{Item}
 use Rattle.description_board.specs.declared.Item.the-variants.{Malformed, MasterLine, SlaveLine, ShareLine}
 use Rattle.description_board.specs.declared.Reading.{Reading}
-use Rattle.description_board.specs.Records.{noBoard, sharesAt, totalSpan}
+use Rattle.description_board.specs.Records.{noBoard, isNative, masterAt, slaveAt, sharesAt, totalSpan}
 
 -- rule 1.6: the legal widths
 abbrev pub widths : List ℕ
@@ -32,7 +33,8 @@ slaveValues n =
     leb (n .base) 4294967295
     && (member (n .span) spans
     && (member (n .width) widths
-    && (member (n .burst) bursts && (leb (n .«read_wait») 255 && leb (n .«write_wait») 255))))
+    && (member (n .burst) bursts
+    && (leb (n .«read_wait») 255 && (leb (n .«write_wait») 255 && leb (n .native) 1)))))
 
 -- rule 1.7: the span at base and the span of slave s have an address in common
 unfoldable pub meets : ℕ → ℕ → Slave → Bool
@@ -63,16 +65,21 @@ slaveRefusal b sharing n =
     (cond (ltb 65536 (totalSpan (take (b .«slave_count») (b .slaves)) + n .span)) 6
     0))))
 
--- rules 1.4, 1.6, 1.8, 7.2, 7.3, 7.7 at a share line. 2: no slave before it. 3: the shares. 7: no such master or slave, or the
--- pair a second time.
+-- rule 7.19: the slave has native alignment, and the master is narrower
+unfoldable pub tooNarrow : Master → Slave → Bool
+tooNarrow m s = isNative s && ltb (m .width) (s .width)
+
+-- rules 1.4, 1.6, 1.8, 7.2, 7.3, 7.7, 7.19 at a share line. 2: no slave before it. 3: the shares. 7: no such master or slave, or
+-- the pair a second time. 19: a master that is too narrow.
 unfoldable pub shareRefusal : Board → ℕ → ℕ → ℕ → ℕ
 shareRefusal b m s shares =
     cond (eqb (b .«slave_count») 0) 2
     (cond (ltb shares 1 || ltb 100 shares) 3
     (cond (leb (b .«master_count») m || (leb (b .«slave_count») s || ltb 0 (sharesAt b m s))) 7
-    0))
+    (cond (tooNarrow (masterAt b m) (slaveAt b s)) 19
+    0)))
 
--- rules 7.1 to 7.7, 8.2: what a line is refused for after what has been read, by its lowest number, or 0
+-- rules 7.1 to 7.7, 7.19, 8.2: what a line is refused for after what has been read, by its lowest number, or 0
 unfoldable pub itemRefusal : Reading → Item → ℕ
 itemRefusal r Malformed = 1
 itemRefusal r (MasterLine width burst) = masterRefusal (r .board) width burst
@@ -89,7 +96,7 @@ withMaster b w u = record {
   shares = b .shares;
 }
 
--- rule 1.3: `slave,base,span,width,burst,readwait,writewait`, the slave of a line
+-- rule 1.3: `slave,base,span,width,burst,readwait,writewait,native`, the slave of a line
 abbrev pub slaveOf : SlaveNumbers → Slave
 slaveOf n = record {
   base = n .base;
@@ -98,6 +105,7 @@ slaveOf n = record {
   burst = n .burst;
   «read_wait» = n .«read_wait»;
   «write_wait» = n .«write_wait»;
+  native = n .native;
 }
 
 -- rule 1.1: the board with one slave more

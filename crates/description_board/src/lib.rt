@@ -1,4 +1,4 @@
-// A board, the lines of its description, and what has been read of one; specs/Rules.antt has their rules (7.1 to 7.7).
+// A board, the lines of its description, and what has been read of one; specs/Rules.antt has their rules (7.1 to 7.7, 7.19).
 // The numbers of a master and of a slave are those of their lines (rules 1.3, 1.6).
 pub struct Master {
     pub width: u32,
@@ -12,6 +12,7 @@ pub struct Slave {
     pub burst: u32,
     pub read_wait: u32,
     pub write_wait: u32,
+    pub native: u32,
 }
 
 // What stands for a slave past the array of a board.
@@ -22,6 +23,7 @@ pub const NO_SLAVE: Slave = Slave {
     burst: 0,
     read_wait: 0,
     write_wait: 0,
+    native: 0,
 };
 
 // The shares of master m at slave s stand at index 16 * m + s; 0: not connected (rule 1.8).
@@ -41,6 +43,7 @@ pub struct SlaveNumbers {
     pub burst: u64,
     pub read_wait: u64,
     pub write_wait: u64,
+    pub native: u64,
 }
 
 // One line of a description (rule 1.3): the numbers of its fields, or a line that is none of the three kinds (rule 7.1).
