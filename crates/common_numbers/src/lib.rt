@@ -40,8 +40,10 @@ pub const PAST_END: u32 = 17;
 
 pub const BAD_WORDS: u32 = 18;
 
+pub const TOO_NARROW: u32 = 19;
+
 // The highest refusal.
-pub const LAST_REFUSAL: u32 = BAD_WORDS;
+pub const LAST_REFUSAL: u32 = TOO_NARROW;
 
 // Rules 1.1, 1.8: the most masters and slaves, and the most pairs, each with a number for its shares.
 pub const MASTERS: usize = 8;
@@ -56,14 +58,16 @@ pub const TEXT_BYTES: usize = 8192;
 pub const TEXT_ROOM: usize = TEXT_BYTES + 1;
 
 // Rule 1.3: the numbers of a slave line; no line of a description has more.
-pub const SLAVE_FIELDS: usize = 6;
+pub const SLAVE_FIELDS: usize = 7;
 
 pub const LINE_NUMBERS: usize = SLAVE_FIELDS;
 
-// Rule 1.6: the highest base, wait and shares.
+// Rule 1.6: the highest base, wait, native and shares.
 pub const MOST_BASE: u64 = 4294967295;
 
 pub const MOST_WAIT: u64 = 255;
+
+pub const MOST_NATIVE: u64 = 1;
 
 pub const MOST_SHARES: u64 = 100;
 

@@ -56,7 +56,7 @@ numberValue (Value n) = n
 
 -- the most numbers that a line has behind its word: those of a slave line (rule 1.3)
 abbrev pub mostNumbers : ℕ
-mostNumbers = 6
+mostNumbers = 7
 
 -- no numbers
 unfoldable pub noNumbers : Numbers
@@ -67,8 +67,7 @@ unfoldable pub withNumber : Numbers → ℕ → Numbers
 withNumber ns n = record { count = ns .count + 1; values = set (ns .values) (ns .count) n }
 
 -- the numbers ns and then those of the fields (rule 7.1); none where a field is malformed, or where they are more than
--- `mostNumbers`
--- together
+-- `mostNumbers` together
 unfoldable pub collect : Numbers → List (List ℕ) → Numbers
 collect ns [] = ns
 collect ns (f ∷ fs) =

@@ -109,7 +109,7 @@ module _ (b : Board) (k : Legal b) where
             );
       }
 
-  slave-line : (s : ℕ) → s < b .«slave_count» → Line 36 (slaveItem (b .slaves) s)
+  slave-line : (s : ℕ) → s < b .«slave_count» → Line 38 (slaveItem (b .slaves) s)
   unfolding slaveItem itemText fieldsText bytesOf
   slave-line s l =
       let y = slaveAt b s in
@@ -117,25 +117,28 @@ module _ (b : Board) (k : Legal b) where
       let n = span-bound (y .span) (x .span) in
       let w = width-bound (y .width) (x .width) in
       let u = burst-bound (y .burst) (x .burst) in
-      let waits = y .«read_wait» ∷ y .«write_wait» ∷ [] in
+      let last = y .«write_wait» ∷ y .native ∷ [] in
+      let rest = y .«read_wait» ∷ last in
       record {
-        writable = (omega arith, (omega arith, (omega arith, (omega arith, (omega arith, (omega arith, tt))))));
+        writable = (omega arith, (omega arith, (omega arith, (omega arith, (omega arith, (omega arith, (omega arith, tt)))))));
         short =
             omega (
               arith,
               line-length slaveWord (slaveFields (slaveNumbers y)),
-              length-field (y .base) (y .span ∷ y .width ∷ y .burst ∷ waits),
-              length-field (y .span) (y .width ∷ y .burst ∷ waits),
-              length-field (y .width) (y .burst ∷ waits),
-              length-field (y .burst) waits,
-              length-field (y .«read_wait») (y .«write_wait» ∷ []),
-              length-field (y .«write_wait») [],
+              length-field (y .base) (y .span ∷ y .width ∷ y .burst ∷ rest),
+              length-field (y .span) (y .width ∷ y .burst ∷ rest),
+              length-field (y .width) (y .burst ∷ rest),
+              length-field (y .burst) rest,
+              length-field (y .«read_wait») last,
+              length-field (y .«write_wait») (y .native ∷ []),
+              length-field (y .native) [],
               digits-most 9 (y .base) (omega arith),
               digits-most 4 (y .span) (omega arith),
               digits-most 0 (y .width) (omega arith),
               digits-most 1 (y .burst) (omega arith),
               digits-most 2 (y .«read_wait») (omega arith),
               digits-most 2 (y .«write_wait») (omega arith),
+              digits-most 0 (y .native) (omega arith),
             );
       }
 
@@ -192,7 +195,7 @@ module _ (b : Board) (k : Legal b) where
         arith,
         length-parts b,
         lines-most (masterItem (b .masters)) 12 (b .«master_count») (λ m l. master-line m l .short),
-        lines-most (slaveItem (b .slaves)) 36 (b .«slave_count») (λ s l. slave-line s l .short),
+        lines-most (slaveItem (b .slaves)) 38 (b .«slave_count») (λ s l. slave-line s l .short),
         gather-most (shareItem (b .shares)) 15 128 pair-short,
         k .fewMasters,
         k .fewSlaves,

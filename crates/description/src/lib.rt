@@ -6,7 +6,7 @@ ghost use Prim.Native.Nat.{_≤_};
 ghost use lib.ListN.{length, replicate};
 ghost use Rattle.common_text.specs.Code.Scanning.{Put};
 ghost use Rattle.description_board.specs.Items.{boardRefusal};
-ghost use Rattle.description_layout.specs.Layout.{boardIn};
+ghost use Rattle.description_layout.specs.Layout.{boardLength, boardIn};
 ghost use Rattle.description.specs.Reader.{reading};
 ghost use Rattle.description.specs.Blame.{chargedLine, refusedAt};
 ghost use Rattle.description.specs.Lent.{Read};
@@ -15,8 +15,8 @@ ghost use Rattle.description.specs.Writer.{writeText, writeAnswer, write
 use description_board::Board;
 use description_board::Item;
 
-// No accepted board's text has more bytes (rules 1.3, 1.6): 8 master lines of 12, 16 slave lines of 36, 128 share lines of 15.
-pub const LONGEST: usize = 8 * 12 + 16 * 36 + 128 * 15;
+// No accepted board's text has more bytes (rules 1.3, 1.6): 8 master lines of 12, 16 slave lines of 38, 128 share lines of 15.
+pub const LONGEST: usize = 8 * 12 + 16 * 38 + 128 * 15;
 
 // What the definitions say a text is read to: a refusal's number with the zero board, or 0 and the board (rule 8.1).
 pub struct Parsed {
@@ -39,7 +39,7 @@ pub struct Written {
 // The lines of a text one after another, counted, up to the first that is refused (rules 8.2, 8.3): a later line cannot change
 // the answer. The board is read into an array of zeros.
 fn read_lines(text: &[u8], board: &mut [u32; BOARD_NUMBERS]) -> Refusal
-    requires { ⌜ now board ≡ replicate 242 0 ⌝ }
+    requires { ⌜ now board ≡ replicate boardLength 0 ⌝ }
     ensures { λ r. ⌜ LinesCome (now (text .entry)) (now (board .exit)) r ⌝ }
 {
     let mut p = description_rules::start();
@@ -67,7 +67,7 @@ fn read_lines(text: &[u8], board: &mut [u32; BOARD_NUMBERS]) -> Refusal
 
 // The length first (rule 8.2): a text that is too long is refused before a byte of it is read.
 fn read_bounded(text: &[u8], board: &mut [u32; BOARD_NUMBERS]) -> Refusal
-    requires { ⌜ now board ≡ replicate 242 0 ⌝ }
+    requires { ⌜ now board ≡ replicate boardLength 0 ⌝ }
     ensures { λ r. ⌜ Comes (reading (now (text .entry))) (chargedLine (now (text .entry))) (now (board .exit)) r ⌝ }
 {
     if text.len() <= TEXT_BYTES {
@@ -80,8 +80,8 @@ fn read_bounded(text: &[u8], board: &mut [u32; BOARD_NUMBERS]) -> Refusal
     }
 }
 
-// Reads the board that a text describes, or answers the number that the text is refused with (rules 7.1 to 7.7, 8.2): then no
-// number of board is changed (rule 8.1).
+// Reads the board that a text describes, or answers the number that the text is refused with (rules 7.1 to 7.7, 7.19, 8.2): then
+// no number of board is changed (rule 8.1).
 pub fn read(text: &[u8], board: &mut [u32; BOARD_NUMBERS]) -> u32
     ensures { λ r. ⌜ Read (now (text .entry)) (now (board .entry)) (now (board .exit)) r ⌝ }
 {

@@ -12,21 +12,23 @@ use lib.Bits.{bitAnd, bitOr, and-mask, and-le-l, and-le-r, or-add-and}
 use lib.Dec.{leb, ltb, eqb}
 use lib.ListN.{getD, take}
 use borrow.Author.Count.{below-none, below-more}
-use borrow.Author.Tests.{eqb-true, leb-true, ltb-true, ltb-false, le-ltb, le-leb, not-false}
+use borrow.Author.Tests.{eqb-true, leb-true, ltb-true, ltb-false, lt-ltb, le-ltb, le-leb, not-false}
 use Rattle.common_laws.specs.Lists.{member, agree}
 use Rattle.common_laws.proofs.Finite.{each, agree-eq}
 use Rattle.common_laws.proofs.Tests.{both, neither}
 use Rattle.description_board.specs.declared.Master.{Master}
 use Rattle.description_board.specs.declared.Slave.{Slave}
 use Rattle.description_board.specs.declared.Board.{Board}
-use Rattle.description_board.specs.Records.{noMaster, noSlave, totalSpan, startOf, memoryLength}
-use Rattle.description_board.specs.Rules.{widths, bursts, spans, slaveValues, meets, overlaps}
+use Rattle.description_board.specs.Records.{noMaster, noSlave, isNative, masterAt, slaveAt, sharesAt, totalSpan}
+use Rattle.description_board.specs.Records.{startOf, memoryLength}
+use Rattle.description_board.specs.Rules.{widths, bursts, spans, slaveValues, meets, overlaps, tooNarrow}
 use Rattle.description_board.specs.Items.{boardRefusal}
 use Rattle.description_board.proofs.RuleLaws.{width-bound, burst-bound}
 use Rattle.description_board.proofs.SpanLaws.{apart-at, total-suc}
 use Rattle.description_board.proofs.BoardSound.{values-legal}
 use Rattle.description_board.proofs.Accepted.{legal-accepted}
-use Rattle.description_check.specs.Code.Accept.{MastersFit, SlaveFits, Clear, SlavesFit}
+use Rattle.description_check.specs.Code.Accept.{MastersFit, SlaveFits, Clear, NativesUpTo, SlavesFit}
+use Rattle.description_check.specs.Code.Accept.{Narrowest, ColumnFits, WideEnough, NativesFit}
 use Rattle.description_check.specs.Code.Accept.{shareLimit, RowFits, RowEmpty, RowPasses, SharesFit}
 use Rattle.description_check.proofs.LowBitLaws.{one-bit, listed-is}
 
@@ -113,6 +115,66 @@ master-next masters i m width burst e w u t f =
     let q : (member (m .width) widths ≡ true) × (member (m .burst) bursts ≡ true) = (sym w ∙ p .0, sym u ∙ p .1) in
     record { each = below-more _ i (f .each) (rw e at q) }
 
+-- ---- a slave and its masters
+
+-- one master more
+pub narrowest-next : (masters : List Master) (i : ℕ) (m : Master) (least r : ℕ) → m ≡ getD masters i noMaster
+    → (r ≤ least) × (r ≤ m .width) → Narrowest masters i least → Narrowest masters (i + 1) r
+narrowest-next masters i m least r e l f =
+    let here : r ≤ getD masters i noMaster .width = rw e at (l .1) in
+    record { each = below-more _ i (λ k h. omega (arith, f .each k h, l .0)) here }
+
+-- one master more: no share, or wide enough
+pub column-next : (b : Board) (s width m : ℕ) (bad : Bool) (x : ℕ) (ma : Master) → x ≡ sharesAt b m s → ma ≡ masterAt b m
+    → (bad ≡ false → ColumnFits b s width m) → (bad || (ltb 0 x && ltb (ma .width) width)) ≡ false
+    → ColumnFits b s width (m + 1)
+column-next b s width m bad x ma e g f q =
+    let p = neither bad _ q in
+    let here : sharesAt b m s ≢ 0 → width ≤ masterAt b m .width = rw (e, g) at (held x (ma .width) (p .1)) in
+    record { each = below-more _ m (f (p .0) .each) here }
+  where
+    held : (n w : ℕ) → (ltb 0 n && ltb w width) ≡ false → n ≢ 0 → width ≤ w
+    held n w c z = ltb-false w width (rw (lt-ltb 0 n (omega (arith, z))) at c)
+
+-- a slave that is not native has no master that is too narrow, and no master is so that is as wide
+not-native : (ma : Master) (sl : Slave) → sl .native ≡ 0 → tooNarrow ma sl ≡ false
+unfolding tooNarrow isNative
+not-native ma sl e = rw e
+
+as-wide : (ma : Master) (sl : Slave) → sl .width ≤ ma .width → tooNarrow ma sl ≡ false
+unfolding tooNarrow
+as-wide ma sl h = go (isNative sl)
+  where
+    go : (n : Bool) → (n && ltb (ma .width) (sl .width)) ≡ false
+    go true = le-ltb (ma .width) (sl .width) h
+    go false = refl
+
+-- the slave is not native, or no wider than the narrowest master
+pub wide-at-once : (b : Board) (s : ℕ) (sl : Slave) (least : ℕ) → (eqb (sl .native) 0 || leb (sl .width) least) ≡ true
+    → WideEnough b s sl least
+wide-at-once b s sl least = go (eqb (sl .native) 0) refl
+  where
+    go : (n : Bool) → eqb (sl .native) 0 ≡ n → (n || leb (sl .width) least) ≡ true → WideEnough b s sl least
+    go true e h = record { each = λ m l z w. not-native (masterAt b m) sl (eqb-true (sl .native) 0 e) }
+    go false e h = record { each = λ m l z w. as-wide (masterAt b m) sl (omega (arith, w, leb-true (sl .width) least h)) }
+
+-- of a board without native slaves, all at once
+pub none-wide : (b : Board) (n native masters : ℕ) → NativesUpTo (b .slaves) n native → native ≡ 0 → NativesFit b n masters
+none-wide b n native masters f e = record {
+  each = λ s l m k z. not-native (masterAt b m) (slaveAt b s) (omega (arith, f .each s l));
+}
+
+-- or its masters are wide enough
+pub wide-by-column : (b : Board) (s : ℕ) (sl : Slave) (least : ℕ) → ColumnFits b s (sl .width) 8 → WideEnough b s sl least
+wide-by-column b s sl least f = record { each = λ m l z w. as-wide (masterAt b m) sl (f .each m l z) }
+
+-- one slave more
+pub natives-next : (b : Board) (i masters least : ℕ) (s : Slave) → s ≡ slaveAt b i → masters ≤ 8
+    → Narrowest (b .masters) masters least → NativesFit b i masters → WideEnough b i s least → NativesFit b (i + 1) masters
+natives-next b i masters least s e few l f w =
+    let here : WideEnough b i (slaveAt b i) least = rw e at w in
+    record { each = below-more _ i (f .each) (λ m k z. here .each m (omega arith) z (l .each m k)) }
+
 -- a slave that passes every test
 pub slave-passed : (s : Slave) (span width burst : Bool) → s .base ≤ 4294967295
     → (span ≡ true → (member (s .span) spans ≡ true) × (s .base % s .span ≡ 0)) → width ≡ member (s .width) widths
@@ -126,7 +188,7 @@ slave-passed s span width burst base f w u e =
     let e4 = both (leb (s .«read_wait») 255) _ (e2 .1) in
     let p = f (e1 .0) in
     record {
-      values = rw (le-leb _ _ base, p .0, sym w ∙ e3 .0, sym u ∙ e3 .1, e4 .0, e4 .1);
+      values = λ n. rw (le-leb _ _ base, p .0, sym w ∙ e3 .0, sym u ∙ e3 .1, e4 .0, e4 .1, le-leb _ _ n);
       aligned = p .1;
     }
 
@@ -144,52 +206,72 @@ pub clear-apart : (base span : ℕ) (slaves : List Slave) (n : ℕ) → overlaps
     slaves n
 clear-apart base span slaves n e = record { each = apart-at base span n slaves e }
 
--- the first i slaves: what is known of each, and what the last end and the total keep of them
+-- the first i slaves: what is known of each, and what the last end, the total and the natives' number keep of them
 pub record Passed (slaves : List Slave) (k : ℕ) : Type 0 where
   pub fits : SlaveFits (getD slaves k noSlave)
   pub apart : (j : ℕ) → j < k
       → meets (getD slaves k noSlave .base) (getD slaves k noSlave .span) (getD slaves j noSlave) ≡ false
 
-pub record SoFar (slaves : List Slave) (last total i : ℕ) : Type 0 where
+pub record SoFar (slaves : List Slave) (native last total i : ℕ) : Type 0 where
   pub passed : (k : ℕ) → k < i → Passed slaves k
   pub before : (k : ℕ) → k < i → getD slaves k noSlave .base + getD slaves k noSlave .span ≤ last
   pub sum : total ≡ totalSpan (take i slaves)
   pub small : total ≤ 4294967295 * i
+  pub upTo : NativesUpTo slaves i native
 
-pub so-far-start : (slaves : List Slave) → SoFar slaves 0 0 0
+pub so-far-start : (slaves : List Slave) → SoFar slaves 0 0 0 0
 unfolding totalSpan
-so-far-start slaves = record { passed = below-none _; before = below-none _; sum = refl; small = omega arith }
+so-far-start slaves = record {
+  passed = below-none _;
+  before = below-none _;
+  sum = refl;
+  small = omega arith;
+  upTo = record { each = below-none _ };
+}
 
 -- one slave more
-record Next (slaves : List Slave) (last total i r : ℕ) (s : Slave) : Type 0 where
-  fits : SlaveFits s
-  narrow : s .span ≤ 4294967295
-  clear : Clear (s .base) (s .span) slaves i
-  behind : (last ≤ r) × (s .base + s .span ≤ r)
+pub record Next (slaves : List Slave) (last i r : ℕ) (s : Slave) : Type 0 where
+  pub fits : SlaveFits s
+  pub small : s .span ≤ 4294967295
+  pub clear : Clear (s .base) (s .span) slaves i
+  pub behind : (last ≤ r) × (s .base + s .span ≤ r)
 
-next : (slaves : List Slave) (last total i r : ℕ) → SoFar slaves last total i → Next slaves last total i r (getD slaves i noSlave)
-    → SoFar slaves r (total + getD slaves i noSlave .span) (i + 1)
-next slaves last total i r p q = record {
+up-to-next : (slaves : List Slave) (native i : ℕ) → NativesUpTo slaves i native
+    → NativesUpTo slaves (i + 1) (bitOr native (getD slaves i noSlave .native))
+up-to-next slaves native i f =
+    let x = getD slaves i noSlave .native in
+    record {
+      each = below-more _ i (λ k h. omega (arith, f .each k h, or-add-and native x, and-le-r native x))
+          (omega (arith, or-add-and native x, and-le-l native x));
+    }
+
+next : (slaves : List Slave) (native last total i r : ℕ) → SoFar slaves native last total i
+    → Next slaves last i r (getD slaves i noSlave)
+    → SoFar slaves (bitOr native (getD slaves i noSlave .native)) r (total + getD slaves i noSlave .span) (i + 1)
+next slaves native last total i r p q = record {
   passed = below-more _ i (p .passed) (record { fits = q .fits; apart = q .clear .each });
   before = below-more _ i (λ k h. omega (arith, p .before k h, q .behind .0)) (q .behind .1);
   sum = rw (add-one i, total-suc slaves i) (omega (arith, p .sum));
-  small = omega (arith, p .small, q .narrow);
+  small = omega (arith, p .small, q .small);
+  upTo = up-to-next slaves native i (p .upTo);
 }
 
-pub so-far-next : (slaves : List Slave) (last total i r : ℕ) (s : Slave) → s ≡ getD slaves i noSlave → SoFar slaves last total i
-    → SlaveFits s → s .span ≤ 4294967295 → Clear (s .base) (s .span) slaves i → (last ≤ r) × (s .base + s .span ≤ r)
-    → SoFar slaves r (total + s .span) (i + 1)
-so-far-next slaves last total i r s e p f w cl m =
-    let q : Next slaves last total i r s = record { fits = f; narrow = w; clear = cl; behind = m } in
-    rw e (next slaves last total i r p (rw e at q))
+pub so-far-next : (slaves : List Slave) (native last total i r : ℕ) (s : Slave) → s ≡ getD slaves i noSlave
+    → SoFar slaves native last total i → Next slaves last i r s
+    → SoFar slaves (bitOr native (s .native)) r (total + s .span) (i + 1)
+so-far-next slaves native last total i r s e p q = rw e (next slaves native last total i r p (rw e at q))
 
-pub so-far-end : (slaves : List Slave) (last total i n : ℕ) → SoFar slaves last total i → i ≡ n → total ≤ 65536 → SlavesFit
-    slaves n
-so-far-end slaves last total i n p e l = rw (← e) (record {
-  each = λ k h. p .passed k h .fits;
-  apart = λ j k g h. p .passed k h .apart j g;
-  total = omega (arith, p .sum);
-})
+pub so-far-end : (slaves : List Slave) (native last total i n : ℕ) → SoFar slaves native last total i → i ≡ n
+    → (leb total 65536 && leb native 1) ≡ true → SlavesFit slaves n native
+so-far-end slaves native last total i n p e l =
+    let q = both (leb total 65536) _ l in
+    let few : total ≤ 65536 = leb-true _ _ (q .0) in rw (← e) (record {
+      each = λ k h. p .passed k h .fits;
+      apart = λ j k g h. p .passed k h .apart j g;
+      total = omega (arith, p .sum);
+      upTo = p .upTo;
+      small = leb-true native 1 (q .1);
+    })
 
 -- a count that passes
 pub counted : (n most : ℕ) → (ltb n 1 || ltb most n) ≡ false → (0 < n) × (n ≤ most)
@@ -200,23 +282,33 @@ counted n most e =
 -- a board whose parts pass is accepted
 parts-legal : (b : Board)
     → (0 < b .«master_count») × (b .«master_count» ≤ 8) → (0 < b .«slave_count») × (b .«slave_count» ≤ 16)
-    → MastersFit (b .masters) (b .«master_count») → SlavesFit (b .slaves) (b .«slave_count»)
+    → MastersFit (b .masters) (b .«master_count») → {native : ℕ} → SlavesFit (b .slaves) (b .«slave_count») native
+    → NativesFit b (b .«slave_count») (b .«master_count»)
     → SharesFit (b .shares) (b .«master_count») (b .«slave_count») 8 → boardRefusal b ≡ 0
 unfolding memoryLength startOf
-parts-legal b m s masters slaves shares = legal-accepted b (record {
+parts-legal b m s masters slaves natives shares = legal-accepted b (record {
   someMaster = m .0;
   fewMasters = m .1;
   someSlave = s .0;
   fewSlaves = s .1;
   master = λ k h. let p = masters .each k h in record { width = p .0; burst = p .1 };
-  slave = λ k h. let f = slaves .each k h in values-legal _ (f .values) (f .aligned);
+  slave = λ k h.
+      let f = slaves .each k h in
+      values-legal _ (f .values (omega (arith, slaves .upTo .each k h, slaves .small))) (f .aligned);
   apart = slaves .apart;
   total = slaves .total;
   shares = all-shares (b .shares) (b .«master_count») (b .«slave_count») shares;
+  wide = λ i l z.
+      let p = all-shares (b .shares) (b .«master_count») (b .«slave_count») shares i l z in
+      let e : i ≡ 16 * (i / 16) + i % 16 = omega (arith, div-add-mod' i 16) in
+      natives .each (i % 16) (p .2) (i / 16) (p .1) (rw (← e) z);
 })
 
 -- the same, by counts that were read
-pub parts-accepted : (b : Board) (m s : ℕ) → m ≡ b .«master_count» → s ≡ b .«slave_count» → (0 < m) × (m ≤ 8) → (0 < s) × (s ≤ 16)
-    → MastersFit (b .masters) m → SlavesFit (b .slaves) s → SharesFit (b .shares) m s 8 → boardRefusal b ≡ 0
-parts-accepted b m s e f hm hs masters slaves shares =
-    parts-legal b (rw e at hm) (rw f at hs) (rw e at masters) (rw f at slaves) (rw (e, f) at shares)
+pub parts-accepted : (b : Board) (m s : ℕ) → m ≡ b .«master_count» → s ≡ b .«slave_count»
+    → (0 < m) × (m ≤ 8) → (0 < s) × (s ≤ 16)
+    → MastersFit (b .masters) m → {native : ℕ} → SlavesFit (b .slaves) s native → NativesFit b s m
+    → SharesFit (b .shares) m s 8 → boardRefusal b ≡ 0
+parts-accepted b m s e f hm hs masters slaves natives shares =
+    parts-legal b (rw e at hm) (rw f at hs) (rw e at masters) (rw f at slaves) (rw (e, f) at natives)
+    (rw (e, f) at shares)

@@ -1,4 +1,4 @@
-// What a board that no reader made is refused for (rules 7.2 to 7.7, 8.5).
+// What a board that no reader made is refused for (rules 7.2 to 7.7, 7.19, 8.5).
 // Tests are joined by & and |, not by && and ||: each part is safe by itself, and a proof meets the whole as one test.
 use common_numbers::BOARD_NUMBERS;
 ghost use mathlib.Core.Path.{_≡_};
@@ -11,7 +11,8 @@ ghost use Rattle.description_board.specs.Items.{masterItem, slaveNumbers, slave
 ghost use Rattle.description_layout.specs.Layout.{boardIn};
 ghost use Rattle.description_rules.specs.Code.Readings.{readingOf};
 ghost use Rattle.description_check.specs.Code.Entries.{pairItem, entryCount, lineAt, present};
-ghost use Rattle.description_check.specs.Code.Accept.{MastersFit, SlaveFits, Clear, SlavesFit};
+ghost use Rattle.description_check.specs.Code.Accept.{MastersFit, SlaveFits, Clear, NativesUpTo, SlavesFit};
+ghost use Rattle.description_check.specs.Code.Accept.{Narrowest, ColumnFits, WideEnough, NativesFit};
 ghost use Rattle.description_check.specs.Code.Accept.{shareLimit, RowFits, RowEmpty, RowPasses, SharesFit};
 use description_board::Item;
 use description_board::NO_SLAVE;
@@ -41,6 +42,7 @@ fn slave_numbers(s: Slave) -> SlaveNumbers
         burst: s.burst as u64,
         read_wait: s.read_wait as u64,
         write_wait: s.write_wait as u64,
+        native: s.native as u64,
     }
 }
 
@@ -176,7 +178,7 @@ fn masters_fit(board: &[u32; BOARD_NUMBERS], n: usize) -> bool
     true
 }
 
-// Whether a slave by itself is legal (rules 1.6, 1.7).
+// Whether a slave by itself is legal (rules 1.6, 1.7), its native left out: slaves_fit judges that of all slaves at once.
 fn slave_fits(s: Slave) -> bool
     ensures { λ r. ⌜ (r ≡ true → SlaveFits s) ⌝ }
 {
@@ -205,27 +207,117 @@ fn clear_of(board: &[u32; BOARD_NUMBERS], n: usize, base: u32, span: u32, last: 
     !description_rules::overlaps(board, n, base, span)
 }
 
-// Whether the first n slaves are legal, each by itself and together (rules 1.6, 1.7).
-fn slaves_fit(board: &[u32; BOARD_NUMBERS], n: usize) -> bool
+// What is found of a board's slaves: whether they are legal, and a number that is 0 where none of them is native.
+struct Slaves {
+    legal: bool,
+    native: u32,
+}
+
+const NOT_LEGAL: Slaves = Slaves {
+    legal: false,
+    native: 0,
+};
+
+// Whether the first n slaves are legal, each by itself and together (rules 1.6, 1.7), and whether one is native: a bit of any
+// stays in native, and where it is at most 1 each of them is. What a native slave asks of its masters is left to natives_fit:
+// in this loop its test would cost every board.
+fn slaves_fit(board: &[u32; BOARD_NUMBERS], n: usize) -> Slaves
     requires { ⌜ n ≤ 16 ⌝ }
-    ensures { λ r. ⌜ (r ≡ true → SlavesFit (boardIn (now (board .entry)) .slaves) n) ⌝ }
+    ensures { λ r. ⌜ (r .legal ≡ true → SlavesFit (boardIn (now (board .entry)) .slaves) n (r .native)) ⌝ }
 {
+    let mut native: u32 = 0;
     let mut last: u64 = 0;
     let mut total: u64 = 0;
     let mut i: usize = 0;
     while i < n {
         let s = description_layout::slave_at(board, i);
         if !slave_fits(s) {
-            return false;
+            return NOT_LEGAL;
         }
         if !clear_of(board, i, s.base, s.span, last) {
-            return false;
+            return NOT_LEGAL;
         }
+        native = native | s.native;
         last = later(last, s.base as u64 + s.span as u64);
         total += s.span as u64;
         i += 1;
     }
-    total <= 65536
+    Slaves {
+        legal: (total <= 65536) & (native <= 1),
+        native: native,
+    }
+}
+
+// The smaller of two widths.
+fn narrower(a: u32, b: u32) -> u32
+    ensures { λ r. ⌜ (r ≤ a) × (r ≤ b) ⌝ }
+{
+    if a < b { a } else { b }
+}
+
+// A width that none of the first n masters is below: that of the narrowest.
+fn narrowest(board: &[u32; BOARD_NUMBERS], n: usize) -> u32
+    requires { ⌜ n ≤ 8 ⌝ }
+    ensures { λ r. ⌜ Narrowest (boardIn (now (board .entry)) .masters) n r ⌝ }
+{
+    let mut least: u32 = 8;
+    let mut i: usize = 0;
+    while i < n {
+        let m = description_layout::master_at(board, i);
+        least = narrower(least, m.width);
+        i += 1;
+    }
+    least
+}
+
+// Whether no master with shares at slave s is narrower than so many bytes (rule 7.19).
+fn column_fits(board: &[u32; BOARD_NUMBERS], s: usize, width: u32) -> bool
+    requires { ⌜ s < 16 ⌝ }
+    ensures { λ r. ⌜ (r ≡ true → ColumnFits (boardIn (now (board .entry))) s width 8) ⌝ }
+{
+    let mut bad = false;
+    let mut m: usize = 0;
+    while m < 8 {
+        let x = description_layout::shares_at(board, m, s);
+        let master = description_layout::master_at(board, m);
+        bad = bad | ((0 < x) & (master.width < width));
+        m += 1;
+    }
+    !bad
+}
+
+// Whether slave s, where it is native, has no narrower master (rule 7.19). Its masters are looked at only where it is native and
+// wider than the narrowest of the board.
+fn wide_enough(board: &[u32; BOARD_NUMBERS], s: usize, slave: Slave, least: u32) -> bool
+    requires { ⌜ s < 16 ⌝ }
+    ensures { λ r. ⌜ (r ≡ true → WideEnough (boardIn (now (board .entry))) s slave least) ⌝ }
+{
+    if (slave.native == 0) | (slave.width <= least) {
+        return true;
+    }
+    column_fits(board, s, slave.width)
+}
+
+// Whether no slave before n that is native has a narrower one of so many masters (rule 7.19). Where native is 0 no slave is, and
+// none is looked at.
+fn natives_fit(board: &[u32; BOARD_NUMBERS], n: usize, native: u32, masters: usize) -> bool
+    requires { ⌜ (n ≤ 16) × (masters ≤ 8) ⌝ }
+    requires { ⌜ NativesUpTo (boardIn (now board) .slaves) n native ⌝ }
+    ensures { λ r. ⌜ (r ≡ true → NativesFit (boardIn (now (board .entry))) n masters) ⌝ }
+{
+    if native == 0 {
+        return true;
+    }
+    let least = narrowest(board, masters);
+    let mut i: usize = 0;
+    while i < n {
+        let s = description_layout::slave_at(board, i);
+        if !wide_enough(board, i, s, least) {
+            return false;
+        }
+        i += 1;
+    }
+    true
 }
 
 // The most shares that a master can have at slave s of n (rules 1.6, 1.8).
@@ -291,7 +383,7 @@ fn shares_fit(board: &[u32; BOARD_NUMBERS], masters: usize, slaves: u32) -> bool
     true
 }
 
-// Whether a board passes every test (rules 1.1, 1.6 to 1.8). Nothing is said of one that does not.
+// Whether a board passes every test (rules 1.1, 1.6 to 1.8, 7.19). Nothing is said of one that does not.
 fn accepts(board: &[u32; BOARD_NUMBERS]) -> bool
     ensures { λ r. ⌜ (r ≡ true → boardRefusal (boardIn (now (board .entry))) ≡ 0) ⌝ }
 {
@@ -306,7 +398,11 @@ fn accepts(board: &[u32; BOARD_NUMBERS]) -> bool
     if !masters_fit(board, m as usize) {
         return false;
     }
-    if !slaves_fit(board, s as usize) {
+    let slaves = slaves_fit(board, s as usize);
+    if !slaves.legal {
+        return false;
+    }
+    if !natives_fit(board, s as usize, slaves.native, m as usize) {
         return false;
     }
     shares_fit(board, m as usize, s)

@@ -1,4 +1,4 @@
--- A board as an array of 242 numbers, one u32 for each field (rule 1.10).
+-- A board as an array of 258 numbers, one u32 for each field (rule 1.10).
 -- Every list of numbers is read as a board: what is not there is 0, so that no call has to rule an array out.
 -- Assumes nothing.
 use mathlib.Core.List.{List}
@@ -13,7 +13,18 @@ use Rattle.description_board.specs.declared.Board.{Board}
 unfoldable pub masterFrom : List ℕ → ℕ → Master
 masterFrom l p = record { width = getD l p 0; burst = getD l (p + 1) 0 }
 
--- rule 1.10: six numbers from index p on are a slave
+-- rules 1.3, 1.10: how many numbers a slave has; where the shares begin, behind two counts, 8 masters and 16 slaves; how many
+-- numbers a board has. The code has them as constants of common_numbers.
+abbrev pub slaveLength : ℕ
+slaveLength = 7
+
+abbrev pub sharesFrom : ℕ
+sharesFrom = 18 + 16 * slaveLength
+
+abbrev pub boardLength : ℕ
+boardLength = sharesFrom + 128
+
+-- rule 1.10: seven numbers from index p on are a slave
 unfoldable pub slaveFrom : List ℕ → ℕ → Slave
 slaveFrom l p = record {
   base = getD l p 0;
@@ -22,14 +33,15 @@ slaveFrom l p = record {
   burst = getD l (p + 3) 0;
   «read_wait» = getD l (p + 4) 0;
   «write_wait» = getD l (p + 5) 0;
+  native = getD l (p + 6) 0;
 }
 
--- rule 1.10: the board in 242 numbers: its counts, 8 masters, 16 slaves, the shares of master m at slave s at 114 + 16 * m + s
+-- rule 1.10: the board in 258 numbers: its counts, 8 masters, 16 slaves, the shares of master m at slave s at 130 + 16 * m + s
 unfoldable pub boardIn : List ℕ → Board
 boardIn l = record {
   «master_count» = getD l 0 0;
   «slave_count» = getD l 1 0;
   masters = table (λ m. masterFrom l (2 + 2 * m)) 8;
-  slaves = table (λ s. slaveFrom l (18 + 6 * s)) 16;
-  shares = table (λ i. getD l (114 + i) 0) 128;
+  slaves = table (λ s. slaveFrom l (18 + slaveLength * s)) 16;
+  shares = table (λ i. getD l (sharesFrom + i) 0) 128;
 }

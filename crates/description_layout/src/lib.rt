@@ -1,4 +1,4 @@
-// A board in a lent array of 242 numbers (rule 1.10): each record is read and put at its index.
+// A board in a lent array of 258 numbers (rule 1.10): each record is read and put at its index.
 // specs/Layout.antt says what the numbers mean.
 use common_numbers::BOARD_NUMBERS;
 use common_numbers::MASTER_NUMBERS;
@@ -13,7 +13,7 @@ ghost use Prim.Native.Nat.{_<_};
 ghost use lib.ListN.{getD, length, replicate};
 ghost use Rattle.description_board.specs.Records.{masterAt, slaveAt, sharesAt};
 ghost use Rattle.description_board.specs.Rules.{withMaster, withSlave};
-ghost use Rattle.description_layout.specs.Layout.{boardIn};
+ghost use Rattle.description_layout.specs.Layout.{boardLength, boardIn};
 ghost use Rattle.description_layout.specs.Code.Puts.{withShareAt};
 
 // The count of numbers lent. A call of it with an array tells a proof that array's length, and costs nothing.
@@ -62,6 +62,7 @@ pub fn slave_at(board: &[u32; BOARD_NUMBERS], s: usize) -> Slave
         burst: board[p + 3],
         read_wait: board[p + 4],
         write_wait: board[p + 5],
+        native: board[p + 6],
     }
 }
 
@@ -108,6 +109,7 @@ pub fn put_slave(board: &mut [u32; BOARD_NUMBERS], s: Slave)
     board[p + 3] = s.burst;
     board[p + 4] = s.read_wait;
     board[p + 5] = s.write_wait;
+    board[p + 6] = s.native;
     board[1] = n + 1;
 }
 
@@ -135,7 +137,7 @@ pub fn copy(to: &mut [u32; BOARD_NUMBERS], from: &[u32; BOARD_NUMBERS])
 
 // A board of zeros (rule 8.1).
 pub fn clear(board: &mut [u32; BOARD_NUMBERS])
-    ensures { λ _. ⌜ now (board .exit) ≡ replicate 242 0 ⌝ }
+    ensures { λ _. ⌜ now (board .exit) ≡ replicate boardLength 0 ⌝ }
 {
     count(board);
     let mut i: usize = 0;

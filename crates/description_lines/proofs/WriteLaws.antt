@@ -24,8 +24,7 @@ pub line-room :
 line-room at n v w ns e h = omega (arith, line-length v ns, line-length w ns)
 
 -- A line has few numbers, so that its length is small: a comma and at most 20 digits for each number, a word of at most 6
--- bytes, the
--- line feed.
+-- bytes, the line feed.
 abbrev fieldsRoom : ℕ
 fieldsRoom = 21 * mostNumbers
 

@@ -7,7 +7,7 @@ use lib.Dec.{eqb}
 use lib.ListN.{getD}
 use Rattle.common_laws.specs.Bytes.{bytesOf}
 use Rattle.common_laws.specs.Lists.{same}
-use Rattle.common_text.specs.Fields.{split, comma, lineFeed, numbersOf}
+use Rattle.common_text.specs.Fields.{split, comma, lineFeed, mostNumbers, numbersOf}
 use Rattle.common_text.specs.declared.Numbers.{Numbers}
 use Rattle.description_board.specs.declared.Item.{Item}
 use Rattle.description_board.specs.declared.Item.the-variants.{Malformed, MasterLine, SlaveLine, ShareLine}
@@ -32,10 +32,10 @@ value ns i = getD (ns .values) i 0
 unfoldable pub masterLine : Numbers → Item
 masterLine ns = cond (eqb (ns .count) 2) (MasterLine (value ns 0) (value ns 1)) Malformed
 
--- rules 1.3, 7.1: `slave,base,span,width,burst,readwait,writewait`
+-- rules 1.3, 7.1: `slave,base,span,width,burst,readwait,writewait,native`; no line has more numbers
 unfoldable pub slaveLine : Numbers → Item
 slaveLine ns =
-    cond (eqb (ns .count) 6)
+    cond (eqb (ns .count) mostNumbers)
     (SlaveLine (record {
       base = value ns 0;
       span = value ns 1;
@@ -43,6 +43,7 @@ slaveLine ns =
       burst = value ns 3;
       «read_wait» = value ns 4;
       «write_wait» = value ns 5;
+      native = value ns 6;
     }))
     Malformed
 

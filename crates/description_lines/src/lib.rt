@@ -42,6 +42,7 @@ fn slave_line(ns: Numbers) -> Item
             burst: ns.values[3],
             read_wait: ns.values[4],
             write_wait: ns.values[5],
+            native: ns.values[6],
         };
         return Item::SlaveLine(n);
     }
@@ -101,7 +102,15 @@ pub fn line_from(text: &[u8], at: usize) -> LineRead
 fn slave_fields(n: SlaveNumbers) -> [u64; SLAVE_FIELDS]
     ensures { λ r. ⌜ r ≡ slaveFields n ⌝ }
 {
-    [n.base, n.span, n.width, n.burst, n.read_wait, n.write_wait]
+    [
+        n.base,
+        n.span,
+        n.width,
+        n.burst,
+        n.read_wait,
+        n.write_wait,
+        n.native,
+    ]
 }
 
 // Writes a line with its line feed (rules 1.2, 1.3); a malformed one has no bytes, and no board has one.

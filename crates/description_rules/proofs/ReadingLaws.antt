@@ -14,19 +14,20 @@ use Rattle.description_board.specs.declared.Slave.{Slave}
 use Rattle.description_board.specs.Rules.{masterRefusal, slaveRefusal, shareRefusal, itemRefusal, isShare}
 use Rattle.description_board.specs.Rules.{withMaster, slaveOf, withSlave, withItem, refused, start, taken, step}
 use Rattle.description_board.proofs.StepAllLaws.{step-refused, step-taken}
-use Rattle.description_layout.specs.Layout.{boardIn}
+use Rattle.description_layout.specs.Layout.{boardLength, boardIn}
 use Rattle.description_layout.specs.Code.Puts.{withShareAt}
 use Rattle.description_layout.proofs.BoardLaws.{board-none, share-put-at, shares-length}
 use Rattle.description_rules.specs.declared.Progress.{Progress}
 use Rattle.description_rules.specs.Code.Readings.{readingOf}
 
-pub of-zeros : (n : ℕ) (l : List ℕ) → l ≡ replicate 242 0 → readingOf (record { number = n; sharing = false }) l ≡ refused n
+pub of-zeros : (n : ℕ) (l : List ℕ) → l ≡ replicate boardLength 0
+    → readingOf (record { number = n; sharing = false }) l ≡ refused n
 unfolding readingOf refused
 of-zeros n l e = rw (e, board-none)
 
-pub of-start : readingOf (record { number = 0; sharing = false }) (replicate 242 0) ≡ start
+pub of-start : readingOf (record { number = 0; sharing = false }) (replicate boardLength 0) ≡ start
 unfolding start
-of-start = of-zeros 0 (replicate 242 0) refl
+of-start = of-zeros 0 (replicate boardLength 0) refl
 
 module _ (p : Progress) (l : List ℕ) where
   pub line-refused : (x : Item) (q : Progress) (m : List ℕ) {n : ℕ} → p .number ≡ 0 → n ≡ itemRefusal (readingOf p l) x

@@ -15,6 +15,7 @@ ghost use lib.Dec.{ltb};
 ghost use lib.ListN.{replicate};
 ghost use Rattle.description_board.specs.declared.Item.the-variants.{MasterLine, SlaveLine, ShareLine};
 ghost use Rattle.description_board.specs.Rules.{slaveValues, slaveOf, refused, start, step, finish};
+ghost use Rattle.description_layout.specs.Layout.{boardLength};
 ghost use Rattle.description_rules.specs.Code.Readings.{readingOf};
 pub use refusals::memory_length;
 pub use refusals::overlaps;
@@ -38,6 +39,7 @@ fn slave_of(n: SlaveNumbers) -> Slave
         burst: n.burst as u32,
         read_wait: n.read_wait as u32,
         write_wait: n.write_wait as u32,
+        native: n.native as u32,
     }
 }
 
@@ -54,7 +56,7 @@ fn refused(board: &mut [u32; BOARD_NUMBERS], number: u32) -> Progress
 
 // Before the first line (rule 8.2). The board is an array of zeros then.
 pub fn start() -> Progress
-    ensures { λ r. ⌜ readingOf r (replicate 242 0) ≡ start ⌝ }
+    ensures { λ r. ⌜ readingOf r (replicate boardLength 0) ≡ start ⌝ }
 {
     Progress {
         number: 0,
@@ -107,7 +109,7 @@ fn in_table(m: u64, s: u64) -> bool
     16 * m + s < 128
 }
 
-// A share line after lines of which none was refused (rules 7.2, 7.3, 7.7). Past the 128 there are no shares, as in
+// A share line after lines of which none was refused (rules 7.2, 7.3, 7.7, 7.19). Past the 128 there are no shares, as in
 // share_or_none.
 fn step_share(
     board: &mut [u32; BOARD_NUMBERS],
@@ -132,7 +134,7 @@ fn step_share(
     }
 }
 
-// One line more (rules 7.1 to 7.7, 8.2); a refusal stays.
+// One line more (rules 7.1 to 7.7, 7.19, 8.2); a refusal stays.
 pub fn step(board: &mut [u32; BOARD_NUMBERS], p: Progress, x: Item) -> Progress
     ensures { λ r. ⌜ readingOf r (now (board .exit)) ≡ step (readingOf p (now (board .entry))) x ⌝ }
 {

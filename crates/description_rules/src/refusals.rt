@@ -1,4 +1,4 @@
-// What a line of a description is refused for after what has been read (rules 7.2 to 7.7).
+// What a line of a description is refused for after what has been read (rules 7.2 to 7.7, 7.19).
 // Tests are joined by & and |, not by && and ||: each part is safe by itself, and a proof meets the whole as one test.
 // The board read so far is lent as its array of numbers: see description_layout.
 use common_numbers::BAD_BASE;
@@ -8,19 +8,22 @@ use common_numbers::BAD_VALUE;
 use common_numbers::BOARD_NUMBERS;
 use common_numbers::MEMORY_BYTES;
 use common_numbers::MOST_BASE;
+use common_numbers::MOST_NATIVE;
 use common_numbers::MOST_SHARES;
 use common_numbers::MOST_WAIT;
 use common_numbers::OVERLAP;
 use common_numbers::SLAVES;
 use common_numbers::SPAN_TOTAL;
+use common_numbers::TOO_NARROW;
 use description_board::Slave;
 use description_board::SlaveNumbers;
 ghost use mathlib.Core.Path.{_≡_};
 ghost use Prim.Native.Nat.{_≤_, _+_};
 ghost use lib.ListN.{take, getD};
 ghost use Rattle.common_laws.specs.Lists.{member};
-ghost use Rattle.description_board.specs.Records.{totalSpan, memoryLength};
-ghost use Rattle.description_board.specs.Rules.{slaveValues, meets, overlaps, masterRefusal, slaveRefusal, shareRefusal};
+ghost use Rattle.description_board.specs.Records.{masterAt, slaveAt, totalSpan, memoryLength};
+ghost use Rattle.description_board.specs.Rules.{slaveValues, meets, overlaps, tooNarrow};
+ghost use Rattle.description_board.specs.Rules.{masterRefusal, slaveRefusal, shareRefusal};
 ghost use Rattle.description_layout.specs.Layout.{boardIn};
 
 // The legal widths, in bytes (rule 1.6). These lists are of u64, as the numbers of a line are.
@@ -65,8 +68,9 @@ fn member(x: u64, list: &[u64]) -> bool
 fn slave_values(n: SlaveNumbers) -> bool
     ensures { λ r. ⌜ r ≡ slaveValues n ⌝ }
 {
-    let lists = member(n.width, &WIDTHS)
-        & (member(n.burst, &BURSTS) & ((n.read_wait <= MOST_WAIT) & (n.write_wait <= MOST_WAIT)));
+    let limits = (n.read_wait <= MOST_WAIT)
+        & ((n.write_wait <= MOST_WAIT) & (n.native <= MOST_NATIVE));
+    let lists = member(n.width, &WIDTHS) & (member(n.burst, &BURSTS) & limits);
     (n.base <= MOST_BASE) & (member(n.span, &SPANS) & lists)
 }
 
@@ -170,7 +174,29 @@ pub fn share_or_none(board: &[u32; BOARD_NUMBERS], at: u64) -> u32
     0
 }
 
-// What a share line is refused for, or 0 (rules 7.2, 7.3, 7.7).
+// The width of master m (rule 1.3); 0 past the array.
+fn width_or_none(board: &[u32; BOARD_NUMBERS], m: u64) -> u32
+    ensures { λ r. ⌜ r ≡ masterAt (boardIn (now (board .entry))) m .width ⌝ }
+{
+    if m < 8 {
+        let master = description_layout::master_at(board, m as usize);
+        return master.width;
+    }
+    0
+}
+
+// Whether slave s has native alignment and master m is narrower (rule 7.19). No slave past the array has it.
+fn too_narrow(board: &[u32; BOARD_NUMBERS], m: u64, s: u64) -> bool
+    ensures { λ r. ⌜ r ≡ tooNarrow (masterAt (boardIn (now (board .entry))) m) (slaveAt (boardIn (now (board .entry))) s) ⌝ }
+{
+    if s < 16 {
+        let slave = description_layout::slave_at(board, s as usize);
+        return (slave.native == 1) & (width_or_none(board, m) < slave.width);
+    }
+    false
+}
+
+// What a share line is refused for, or 0 (rules 7.2, 7.3, 7.7, 7.19).
 pub fn share_refusal(board: &[u32; BOARD_NUMBERS], m: u64, s: u64, shares: u64) -> u32
     ensures { λ r. ⌜ r ≡ shareRefusal (boardIn (now (board .entry))) m s shares ⌝ }
 {
@@ -190,6 +216,9 @@ pub fn share_refusal(board: &[u32; BOARD_NUMBERS], m: u64, s: u64, shares: u64) 
     }
     if 0 < share_or_none(board, 16 * m + s) {
         return BAD_SHARE;
+    }
+    if too_narrow(board, m, s) {
+        return TOO_NARROW;
     }
     0
 }

@@ -38,21 +38,42 @@ slaves-fit-requires c κs = counted _ 16 (c .before .before .if2 .left) .1
 returns-4 : tie.Need-returns-4
 returns-4 c = λ e. absurd (false≢true e)
 
+cast-natives-fit : tie.Need-cast-natives-fit
+cast-natives-fit c = search needs
+
+cast-natives-fit-2 : tie.Need-cast-natives-fit-2
+cast-natives-fit-2 c = search needs
+
+natives-fit-requires : tie.Need-natives-fit-requires
+natives-fit-requires c κs =
+    let slaves = c .before .before in
+    let counts = slaves .before .before .before in (
+      (counted _ 16 (counts .if2 .left) .1, counted _ 8 (counts .before .if1 .left) .1),
+      slaves .slaves-fit .ensures (not-false _ (c .if4 .left)) .upTo,
+    )
+
+returns-5 : tie.Need-returns-5
+returns-5 c = λ e. absurd (false≢true e)
+
 cast-shares-fit : tie.Need-cast-shares-fit
 cast-shares-fit c = search needs
 
 shares-fit-requires : tie.Need-shares-fit-requires
 shares-fit-requires c κs = search needs
 
-returns-5 : tie.Need-returns-5
-returns-5 c =
-    let masters = c .before .before .before .before in
+returns-6 : tie.Need-returns-6
+returns-6 c =
+    let natives = c .before .before in
+    let legal = natives .before in
+    let slaves = legal .before .before in
+    let masters = slaves .before .before in
     let counts = masters .before in
     let second = counts .before .before in
     λ e. parts-accepted _ _ _ (second .before .master-count .ensures) (second .slave-count .ensures)
     (counted _ 8 (counts .before .if1 .left)) (counted _ 16 (counts .if2 .left))
-    (masters .masters-fit .ensures (not-false _ (c .before .before .before .if3 .left)))
-    (c .before .before .slaves-fit .ensures (not-false _ (c .before .if4 .left))) (c .shares-fit .ensures e)
+    (masters .masters-fit .ensures (not-false _ (slaves .before .if3 .left)))
+    (slaves .slaves-fit .ensures (not-false _ (legal .if4 .left)))
+    (natives .natives-fit .ensures (not-false _ (c .before .if5 .left))) (c .shares-fit .ensures e)
 
 pub accepts-spec : {M : Type 1} → statement M
 accepts-spec =
@@ -68,6 +89,10 @@ accepts-spec =
     cast-slaves-fit
     slaves-fit-requires
     returns-4
+    cast-natives-fit
+    cast-natives-fit-2
+    natives-fit-requires
+    returns-5
     cast-shares-fit
     shares-fit-requires
-    returns-5)
+    returns-6)

@@ -1,10 +1,10 @@
--- `description_check::slaves_fit` meets its contract. The loop's invariant: the slaves passed fit, and the last end and the
--- total are theirs.
+-- `description_check::slaves_fit` meets its contract. The loop's invariant: the slaves passed fit, and the last end, the
+-- total and the natives' number are theirs.
 -- Assumes nothing.
 use mathlib.Core.Bool.{false≢true}
 use Prim.Native.Nat.{_≤_, _-_}
 use native.Mathlib.Omega.{arith}
-use borrow.Author.Tests.{leb-true, not-false}
+use borrow.Author.Tests.{not-false}
 use borrow.Author.Needs.{needs}
 use Rattle.description_check.proofs.AcceptLaws.{SoFar, so-far-start, so-far-next, so-far-end}
 use Rattle.description_layout.specs.Layout.{boardIn}
@@ -12,10 +12,10 @@ use Rattle.description_check.proofs.slaves_fit.Statement.{statement}
 use Rattle.description_check.proofs.slaves_fit.Tie as tie
 
 abbrev Inv-loop : tie.InvT-loop
-Inv-loop board n last₀ total₀ i₀ last total i = (i ≤ n) × SoFar (boardIn board .slaves) last total i
+Inv-loop board n native₀ last₀ total₀ i₀ native last total i = (i ≤ n) × SoFar (boardIn board .slaves) native last total i
 
 abbrev μ-loop : tie.MeasureT-loop
-μ-loop board n last₀ total₀ i₀ last total i = n - i
+μ-loop board n native₀ last₀ total₀ i₀ native last total i = n - i
 
 loop-holds : tie.Need-loop-holds Inv-loop μ-loop
 loop-holds c = (omega arith, so-far-start _)
@@ -61,17 +61,21 @@ loop-less c = search needs
 
 loop-again : tie.Need-loop-again Inv-loop μ-loop
 loop-again c =
-    let clear = c .before .before .before .before in
+    let clear = c .before .before .before .before .before in
     let fits = clear .before .before in
     let read = fits .before .before in (
       omega arith,
-      so-far-next _ _ _ _ _ _ (read .slave-at .ensures) (read .before .before .loop .inv .1)
-          (fits .before .slave-fits .ensures (not-false _ (fits .if1 .left))) (omega arith)
-          (clear .before .clear-of .ensures (not-false _ (clear .if2 .left))) (c .before .later .ensures),
+      so-far-next _ _ _ _ _ _ _ (read .slave-at .ensures) (read .before .before .loop .inv .1)
+          (record {
+            fits = fits .before .slave-fits .ensures (not-false _ (fits .if1 .left));
+            small = omega arith;
+            clear = clear .before .clear-of .ensures (not-false _ (clear .if2 .left));
+            behind = c .before .later .ensures;
+          }),
     )
 
 returns-3 : tie.Need-returns-3 Inv-loop μ-loop
-returns-3 c = λ e. so-far-end _ _ _ _ _ (c .before .loop .inv .1) (omega arith) (leb-true _ _ e)
+returns-3 c = λ e. so-far-end _ _ _ _ _ _ (c .before .loop .inv .1) (omega arith) e
 
 pub slaves-fit-spec : {M : Type 1} → statement M
 slaves-fit-spec =

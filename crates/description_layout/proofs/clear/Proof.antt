@@ -6,21 +6,22 @@ use native.Mathlib.Omega.{arith}
 use lib.ListN.{getD}
 use borrow.Author.Needs.{needs}
 use Rattle.common_laws.proofs.FillLaws.{filled, filled-none, filled-next, filled-all}
+use Rattle.description_layout.specs.Layout.{boardLength}
 use Rattle.description_layout.proofs.BoardLaws.{all-zero}
 use Rattle.description_layout.proofs.clear.Statement.{statement}
 use Rattle.description_layout.proofs.clear.Tie as tie
 
 abbrev Inv-loop : tie.InvT-loop
-Inv-loop board₀ i₀ board i = (i ≤ 242) × (board ≡ filled {X = ℕ} (λ k. 0) (λ k. getD board₀ k 0) 242 i)
+Inv-loop board₀ i₀ board i = (i ≤ boardLength) × (board ≡ filled {X = ℕ} (λ k. 0) (λ k. getD board₀ k 0) boardLength i)
 
 abbrev μ-loop : tie.MeasureT-loop
-μ-loop board₀ i₀ board i = 242 - i
+μ-loop board₀ i₀ board i = boardLength - i
 
 count-requires : tie.Need-count-requires Inv-loop μ-loop
 count-requires c κs = search needs
 
 loop-holds : tie.Need-loop-holds Inv-loop μ-loop
-loop-holds c = (omega arith, filled-none _ _ 242 0 _ (search needs) (λ k h. refl))
+loop-holds c = (omega arith, filled-none _ _ boardLength 0 _ (search needs) (λ k h. refl))
 
 mul-board : tie.Need-mul-board Inv-loop μ-loop
 mul-board c = search needs
@@ -35,10 +36,10 @@ loop-less : tie.Need-loop-less Inv-loop μ-loop
 loop-less c = search needs
 
 loop-again : tie.Need-loop-again Inv-loop μ-loop
-loop-again c = (omega arith, filled-next _ _ 242 _ (c .before .loop .inv .1) refl)
+loop-again c = (omega arith, filled-next _ _ boardLength _ (c .before .loop .inv .1) refl)
 
 returns : tie.Need-returns Inv-loop μ-loop
-returns c = filled-all _ _ 242 _ (omega arith) (c .before .loop .inv .1) ∙ all-zero 242
+returns c = filled-all _ _ boardLength _ (omega arith) (c .before .loop .inv .1) ∙ all-zero boardLength
 
 pub clear-spec : {M : Type 1} → statement M
 clear-spec =

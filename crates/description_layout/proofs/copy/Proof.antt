@@ -6,15 +6,16 @@ use native.Mathlib.Omega.{arith}
 use lib.ListN.{getD}
 use borrow.Author.Needs.{needs}
 use Rattle.common_laws.proofs.FillLaws.{filled, filled-none, filled-next, filled-all}
+use Rattle.description_layout.specs.Layout.{boardLength}
 use Rattle.description_layout.proofs.BoardLaws.{all-numbers}
 use Rattle.description_layout.proofs.copy.Statement.{statement}
 use Rattle.description_layout.proofs.copy.Tie as tie
 
 abbrev Inv-loop : tie.InvT-loop
-Inv-loop to₀ from i₀ to i = (i ≤ 242) × (to ≡ filled (λ k. getD from k 0) (λ k. getD to₀ k 0) 242 i)
+Inv-loop to₀ from i₀ to i = (i ≤ boardLength) × (to ≡ filled (λ k. getD from k 0) (λ k. getD to₀ k 0) boardLength i)
 
 abbrev μ-loop : tie.MeasureT-loop
-μ-loop to₀ from i₀ to i = 242 - i
+μ-loop to₀ from i₀ to i = boardLength - i
 
 count-requires : tie.Need-count-requires Inv-loop μ-loop
 count-requires c κs = search needs
@@ -23,7 +24,7 @@ count-requires-2 : tie.Need-count-requires-2 Inv-loop μ-loop
 count-requires-2 c κs = search needs
 
 loop-holds : tie.Need-loop-holds Inv-loop μ-loop
-loop-holds c = (omega arith, filled-none _ _ 242 0 _ (search needs) (λ k h. refl))
+loop-holds c = (omega arith, filled-none _ _ boardLength 0 _ (search needs) (λ k h. refl))
 
 mul-to : tie.Need-mul-to Inv-loop μ-loop
 mul-to c = search needs
@@ -44,10 +45,10 @@ loop-less : tie.Need-loop-less Inv-loop μ-loop
 loop-less c = search needs
 
 loop-again : tie.Need-loop-again Inv-loop μ-loop
-loop-again c = (omega arith, filled-next _ _ 242 _ (c .before .before .loop .inv .1) refl)
+loop-again c = (omega arith, filled-next _ _ boardLength _ (c .before .before .loop .inv .1) refl)
 
 returns : tie.Need-returns Inv-loop μ-loop
-returns c = filled-all _ _ 242 _ (omega arith) (c .before .loop .inv .1) ∙ all-numbers _ 242 (search needs)
+returns c = filled-all _ _ boardLength _ (omega arith) (c .before .loop .inv .1) ∙ all-numbers _ boardLength (search needs)
 
 pub copy-spec : {M : Type 1} → statement M
 copy-spec =

@@ -74,8 +74,17 @@ element-write-board-6 c = search needs
 add-board-6 : tie.Need-add-board-6
 add-board-6 c = search needs
 
+mul-board-7 : tie.Need-mul-board-7
+mul-board-7 c = search needs
+
 element-write-board-7 : tie.Need-element-write-board-7
 element-write-board-7 c = search needs
+
+add-board-7 : tie.Need-add-board-7
+add-board-7 c = search needs
+
+element-write-board-8 : tie.Need-element-write-board-8
+element-write-board-8 c = search needs
 
 returns : tie.Need-returns
 returns c = slave-put _ (search needs) _ _ (search needs) (search needs)
@@ -107,5 +116,8 @@ put-slave-spec =
     mul-board-6
     element-write-board-6
     add-board-6
+    mul-board-7
     element-write-board-7
+    add-board-7
+    element-write-board-8
     returns)

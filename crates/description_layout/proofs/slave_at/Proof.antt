@@ -63,6 +63,15 @@ mul-t29 c = search needs
 element-copy-out-t32 : tie.Need-element-copy-out-t32
 element-copy-out-t32 c = search needs
 
+add-t33 : tie.Need-add-t33
+add-t33 c = search needs
+
+mul-t34 : tie.Need-mul-t34
+mul-t34 c = search needs
+
+element-copy-out-t37 : tie.Need-element-copy-out-t37
+element-copy-out-t37 c = search needs
+
 returns : tie.Need-returns
 unfolding slaveFrom
 returns c = slave-read _ _ (search needs)
@@ -90,4 +99,7 @@ slave-at-spec =
     add-t28
     mul-t29
     element-copy-out-t32
+    add-t33
+    mul-t34
+    element-copy-out-t37
     returns)

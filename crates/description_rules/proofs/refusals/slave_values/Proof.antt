@@ -26,7 +26,7 @@ member-requires-3 c κs = search needs
 returns : tie.Need-returns
 unfolding slaveValues
 returns c =
-    let second = c .before .before .before .before .before in
+    let second = c .before .before .before in
     rw (second .before .before .member .ensures, second .member2 .ensures, c .member3 .ensures)
 
 pub slave-values-spec : {M : Type 1} → statement M
