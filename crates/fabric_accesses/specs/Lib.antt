@@ -1,4 +1,5 @@
 pub mod Decoding
+pub mod Alignment
 pub mod Accesses
 pub mod Runs
 pub mod Code

@@ -9,7 +9,9 @@ ghost use Rattle.common_laws.specs.Lists.{member};
 ghost use Rattle.description_board.specs.Rules.{widths, bursts};
 ghost use Rattle.fabric_accesses.specs.Decoding.{agrees};
 ghost use Rattle.fabric_accesses.specs.Code.Pairs.{Span};
-ghost use Rattle.fabric_accesses.specs.Accesses.{ratio, accesses, accessBytes, firstByte, accessOffset, wordOffset};
+ghost use Rattle.description_board.specs.Records.{isNative};
+ghost use Rattle.fabric_accesses.specs.Alignment.{ratio, laneBytes, accessBytes};
+ghost use Rattle.fabric_accesses.specs.Accesses.{accesses, firstByte, accessOffset, wordOffset};
 ghost use Rattle.fabric_accesses.specs.Accesses.{writeLanes, slaveLanes, waitOf, ownLength};
 ghost use Rattle.fabric_accesses.specs.Code.Pairs.{InWord};
 ghost use Rattle.fabric_accesses.specs.Runs.{runLimit, placeOf, runOf};
@@ -43,7 +45,7 @@ pub fn quotient(bytes: u32, width: u32) -> u32
 }
 
 // What is over a multiple of this width.
-fn over_width(at: u64, width: u32) -> u64
+pub fn over_width(at: u64, width: u32) -> u64
     requires { ⌜ member width widths ≡ true ⌝ }
     ensures { λ r. ⌜ r ≡ at % width ⌝ }
 {
@@ -73,15 +75,32 @@ pub fn agrees(sl: Slave, address: u32) -> bool
     above_span(address, sl.span) == above_span(sl.base, sl.span)
 }
 
-// The bytes of one access (rule 4.10).
-pub fn access_bytes(ma: Master, sl: Slave) -> u32
-    ensures { λ r. ⌜ r ≡ accessBytes ma sl ⌝ }
+// Whether the slave has native alignment (rule 1.6).
+pub fn is_native(sl: Slave) -> bool
+    ensures { λ r. ⌜ r ≡ isNative sl ⌝ }
+{
+    sl.native == 1
+}
+
+// The bytes of an access that have a lane in the slave (rule 4.10).
+pub fn lane_bytes(ma: Master, sl: Slave) -> u32
+    ensures { λ r. ⌜ r ≡ laneBytes ma sl ⌝ }
 {
     if ma.width <= sl.width {
         ma.width
     } else {
         sl.width
     }
+}
+
+// The bytes of the transfer that fall to one access (rule 4.10).
+pub fn access_bytes(ma: Master, sl: Slave) -> u32
+    ensures { λ r. ⌜ r ≡ accessBytes ma sl ⌝ }
+{
+    if is_native(sl) {
+        return ma.width;
+    }
+    lane_bytes(ma, sl)
 }
 
 // r, the accesses of one beat (rules 4.10, 5.2).
@@ -110,11 +129,16 @@ pub fn first_byte(ma: Master, sl: Slave, a: u32) -> u64
     (a as u64) * (bytes as u64)
 }
 
-// Where access a begins within the slave (rule 4.10).
+// Where access a begins within the slave (rule 4.10): at a native slave a word of the slave for each word of the master.
 pub fn access_offset(ma: Master, sl: Slave, t: Transfer, a: u32) -> u64
+    requires { ⌜ Widths ma sl ⌝ }
     ensures { λ r. ⌜ r ≡ accessOffset ma sl t a ⌝ }
 {
     let start = difference(t.address as u64, sl.base as u64);
+    if is_native(sl) {
+        let word = quotient(start as u32, ma.width);
+        return (word as u64 + a as u64) * (sl.width as u64);
+    }
     let moved = first_byte(ma, sl, a);
     start + moved
 }
@@ -134,7 +158,7 @@ fn write_lanes(ma: Master, sl: Slave, t: Transfer, a: u32) -> u32
     requires { ⌜ (Widths ma sl) × (InWord ma sl t a) ⌝ }
     ensures { λ r. ⌜ r ≡ writeLanes ma sl t a ⌝ }
 {
-    let bytes = access_bytes(ma, sl);
+    let bytes = lane_bytes(ma, sl);
     let first = first_byte(ma, sl, a);
     let at = access_offset(ma, sl, t, a);
     let from = over_width(first, ma.width);

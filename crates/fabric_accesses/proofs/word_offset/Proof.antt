@@ -10,7 +10,7 @@ use Rattle.fabric_accesses.proofs.word_offset.Statement.{statement}
 use Rattle.fabric_accesses.proofs.word_offset.Tie as tie
 
 access-offset-requires : tie.Need-access-offset-requires
-access-offset-requires c κs = tt
+access-offset-requires c κs = c .pre
 
 over-width-requires : tie.Need-over-width-requires
 over-width-requires c κs = c .before .pre .slave

@@ -9,14 +9,15 @@ use Rattle.common_laws.proofs.Arithmetic.{field-of}
 use Rattle.description_board.specs.declared.Master.{Master}
 use Rattle.description_board.specs.declared.Slave.{Slave}
 use Rattle.fabric_accesses.specs.declared.Transfer.{Transfer}
-use Rattle.fabric_accesses.specs.Accesses.{accessBytes, firstByte, accessOffset, writeLanes}
+use Rattle.fabric_accesses.specs.Alignment.{laneBytes}
+use Rattle.fabric_accesses.specs.Accesses.{firstByte, accessOffset, writeLanes}
 use Rattle.fabric_accesses.specs.Code.Pairs.{InWord}
 use Rattle.fabric_accesses.proofs.AccessLaws.{width-pos, width-le}
 use Rattle.fabric_accesses.proofs.write_lanes.Statement.{statement}
 use Rattle.fabric_accesses.proofs.write_lanes.Tie as tie
 
 -- of what the calls give
-module _ (ma : Master) (sl : Slave) (t : Transfer) (a bytes at to : ℕ) (w : InWord ma sl t a) (b : bytes ≡ accessBytes ma sl)
+module _ (ma : Master) (sl : Slave) (t : Transfer) (a bytes at to : ℕ) (w : InWord ma sl t a) (b : bytes ≡ laneBytes ma sl)
     (o : at ≡ accessOffset ma sl t a) (u : to ≡ at % sl .width) where
   fits : bytes + to ≤ 8
   fits =
@@ -30,14 +31,14 @@ module _ (ma : Master) (sl : Slave) (t : Transfer) (a bytes at to : ℕ) (w : In
       ap (λ (x : ℕ). bitAnd (t .lanes / 2 ^ from) x * 2 ^ to % 4294967296) m
       ∙ field-of (t .lanes / 2 ^ from) bytes to 32 (omega (arith, fits)) ∙ rw (d, f, b, u, o)
 
-access-bytes-requires : tie.Need-access-bytes-requires
-access-bytes-requires c κs = tt
+lane-bytes-requires : tie.Need-lane-bytes-requires
+lane-bytes-requires c κs = tt
 
 first-byte-requires : tie.Need-first-byte-requires
 first-byte-requires c κs = tt
 
 access-offset-requires : tie.Need-access-offset-requires
-access-offset-requires c κs = tt
+access-offset-requires c κs = c .before .before .pre .0
 
 over-width-requires : tie.Need-over-width-requires
 over-width-requires c κs = c .before .before .before .pre .0 .master
@@ -46,10 +47,10 @@ over-width-requires-2 : tie.Need-over-width-requires-2
 over-width-requires-2 c κs = c .before .before .before .before .pre .0 .slave
 
 room : (c : tie.After-over-width2)
-    → c .before .before .before .before .access-bytes .result + c .over-width2 .result ≤ 8
+    → c .before .before .before .before .lane-bytes .result + c .over-width2 .result ≤ 8
 room c =
     let offset = c .before .before in
-    fits _ _ _ _ _ _ _ (offset .before .before .before .pre .1) (offset .before .before .access-bytes .ensures)
+    fits _ _ _ _ _ _ _ (offset .before .before .before .pre .1) (offset .before .before .lane-bytes .ensures)
     (offset .access-offset .ensures) (c .over-width2 .ensures)
 
 all-lanes-requires : tie.Need-all-lanes-requires
@@ -78,7 +79,7 @@ returns : tie.Need-returns
 returns c =
     let second = c .before .before in
     let offset = second .before .before in
-    part _ _ _ _ _ _ _ (offset .before .before .before .pre .1) (offset .before .before .access-bytes .ensures)
+    part _ _ _ _ _ _ _ (offset .before .before .before .pre .1) (offset .before .before .lane-bytes .ensures)
     (offset .access-offset .ensures) (second .over-width2 .ensures) _ _ _ (offset .before .first-byte .ensures)
     (second .before .over-width .ensures) (c .before .all-lanes .ensures)
 
@@ -86,7 +87,7 @@ pub write-lanes-spec : {M : Type 1} → statement M
 write-lanes-spec =
     tie.close
     (tie.spec
-    access-bytes-requires
+    lane-bytes-requires
     first-byte-requires
     access-offset-requires
     over-width-requires

@@ -8,7 +8,8 @@ use Rattle.description_board.specs.declared.Master.{Master}
 use Rattle.description_board.specs.declared.Slave.{Slave}
 use Rattle.description_board.specs.Rules.{widths, bursts}
 use Rattle.fabric_accesses.specs.declared.Transfer.{Transfer}
-use Rattle.fabric_accesses.specs.Accesses.{accessBytes, accessOffset}
+use Rattle.fabric_accesses.specs.Alignment.{laneBytes}
+use Rattle.fabric_accesses.specs.Accesses.{accessOffset}
 
 -- both widths are legal
 pub record Widths (ma : Master) (sl : Slave) : Type 0 where
@@ -30,4 +31,4 @@ pub record Span (n : ℕ) : Type 0 where
 -- access a lies within one slave word of at most 8 lanes
 pub record InWord (ma : Master) (sl : Slave) (t : Transfer) (a : ℕ) : Type 0 where
   pub width : sl .width ≤ 8
-  pub inside : accessOffset ma sl t a % sl .width + accessBytes ma sl ≤ sl .width
+  pub inside : accessOffset ma sl t a % sl .width + laneBytes ma sl ≤ sl .width
