@@ -3,3 +3,4 @@ pub mod Ranges
 pub mod PartLaws
 pub mod StoreLaws
 pub mod CarriedLaws
+pub mod Cards

@@ -9,8 +9,10 @@ use native.Mathlib.Nat.{add-suc}
 use native.Mathlib.Omega.{arith}
 use lib.ListN.{length, getD, take, drop, length-take, length-drop}
 use lib.Seq.{getD-set-same, getD-set-other, set-out, getD-take, getD-drop, ext-getD}
-use Rattle.fabric_bytes.specs.Moving.{all, move}
-use Rattle.fabric_bytes.proofs.MoveLaws.{put, length-move, move-below, move-above, move-inside, equal-or, less-or}
+use Rattle.common_laws.specs.Lists.{table}
+use Rattle.common_laws.proofs.TableLaws.{length-table, getD-table}
+use Rattle.fabric_bytes.specs.Moving.{all, indexFrom, move}
+use Rattle.fabric_bytes.proofs.MoveLaws.{put, length-move, moved-at, equal-or, less-or}
 
 -- the lists agree from index lo up to index hi
 pub record Agree (lo hi : ℕ) (d e : List ℕ) : Type 0 where
@@ -29,14 +31,16 @@ agree-trans h k = record { same = λ i a b. h .same i a b ∙ k .same i a b }
 abbrev pub Apart : ℕ → ℕ → ℕ → ℕ → Type 0
 Apart lo hi lo′ hi′ = (hi ≤ lo′) ⊎ (hi′ ≤ lo)
 
--- a move changes nothing in a range apart from its own
-pub move-apart : (on : ℕ → Bool) (source : List ℕ) (from at first n lo hi : ℕ) (d : List ℕ)
-    → Apart (at + first) (at + (first + n)) lo hi → Agree lo hi (move on source from at first n d) d
-move-apart on source from at first n lo hi d h = record {
-  same = λ i p q.
-      ⊎-elim (λ (r : at + (first + n) ≤ lo). move-above on source from at first n d i (omega arith))
-      (λ (r : hi ≤ at + first). move-below on source from at first n d i (omega arith)) h;
+-- an index lies outside a range
+abbrev pub Outside : ℕ → ℕ → ℕ → Type 0
+Outside i lo hi = (i < lo) ⊎ (hi ≤ i)
+
+put-outside : (on : Bool) (d : List ℕ) (i v lo hi : ℕ) → (on ≡ true → Outside i lo hi) → Agree lo hi (put on d i v) d
+put-outside true d i v lo hi h = record {
+  same = λ j p q.
+      getD-set-other d i j v 0 (⊎-elim (λ (r : i < lo). λ e. omega arith) (λ (r : hi ≤ i). λ e. omega arith) (h refl));
 }
+put-outside false d i v lo hi h = agree-refl lo hi d
 
 put-agree : (on : Bool) (d e : List ℕ) (i v j : ℕ) → length d ≡ length e → getD d j 0 ≡ getD e j 0
     → getD (put on d i v) j 0 ≡ getD (put on e i v) j 0
@@ -49,36 +53,48 @@ put-agree true d e i v j l h =
     (λ (q : j ≢ i). getD-set-other d i j v 0 q ∙ h ∙ sym (getD-set-other e i j v 0 q))
     (equal-or j i)
 
--- the source counts only where it is read
-pub move-source : (on : ℕ → Bool) (s s′ : List ℕ) (from from′ at first n : ℕ) (d : List ℕ)
-    → ((t : ℕ) → first ≤ t → t < first + n → getD s (from + t) 0 ≡ getD s′ (from′ + t) 0)
-    → move on s from at first n d ≡ move on s′ from′ at first n d
-unfolding move
-move-source on s s′ from from′ at first zero d h = refl
-move-source on s s′ from from′ at first (suc n) d h =
-    rw (
-      h (first + n) (omega arith) (omega (arith, add-suc first n)),
-      move-source on s s′ from from′ at first n d (λ t a b. h t a (omega (arith, add-suc first n))),
-    )
+module _ (on : ℕ → Bool) (byte at : ℕ → ℕ) (first : ℕ) where
+  -- a move changes nothing in a range that its indices lie outside of
+  pub move-apart : (n lo hi : ℕ) (d : List ℕ)
+      → ((t : ℕ) → first ≤ t → t < first + n → on t ≡ true → Outside (at t) lo hi)
+      → Agree lo hi (move on byte at first n d) d
+  unfolding move
+  move-apart zero lo hi d h = agree-refl lo hi d
+  move-apart (suc n) lo hi d h =
+      agree-trans
+      (put-outside (on (first + n)) (move on byte at first n d) (at (first + n)) (byte (first + n)) lo hi
+      (h (first + n) (omega arith) (omega (arith, add-suc first n))))
+      (move-apart n lo hi d (λ t p q. h t p (omega (arith, add-suc first n))))
 
-same-source : (on : ℕ → Bool) (s : List ℕ) (from at first n lo hi : ℕ) {d e : List ℕ} → length d ≡ length e → Agree lo hi d e
-    → Agree lo hi (move on s from at first n d) (move on s from at first n e)
-unfolding move
-same-source on s from at first zero lo hi l g = g
-same-source on s from at first (suc n) lo hi {d} {e} l g = record {
-  same = λ i p q.
-      put-agree (on (first + n)) (move on s from at first n d) (move on s from at first n e) (at + (first + n))
-      (getD s (from + (first + n)) 0) i
-      (length-move on s from at first n d ∙ l ∙ sym (length-move on s from at first n e))
-      (same-source on s from at first n lo hi l g .same i p q);
-}
+  same-bytes : (n lo hi : ℕ) {d e : List ℕ} → length d ≡ length e → Agree lo hi d e
+      → Agree lo hi (move on byte at first n d) (move on byte at first n e)
+  unfolding move
+  same-bytes zero lo hi l g = g
+  same-bytes (suc n) lo hi {d} {e} l g = record {
+    same = λ i p q.
+        put-agree (on (first + n)) (move on byte at first n d) (move on byte at first n e) (at (first + n))
+        (byte (first + n)) i
+        (length-move on byte at first n d ∙ l ∙ sym (length-move on byte at first n e))
+        (same-bytes n lo hi l g .same i p q);
+  }
 
--- moves from sources that agree where they are read take lists that agree to lists that agree
-pub move-agree : (on : ℕ → Bool) (s s′ : List ℕ) (from from′ at first n lo hi : ℕ) {d e : List ℕ} → length d ≡ length e
-    → Agree lo hi d e → ((t : ℕ) → first ≤ t → t < first + n → getD s (from + t) 0 ≡ getD s′ (from′ + t) 0)
-    → Agree lo hi (move on s from at first n d) (move on s′ from′ at first n e)
-move-agree on s s′ from from′ at first n lo hi {d} l g h =
-    rw (move-source on s s′ from from′ at first n d h) (same-source on s′ from′ at first n lo hi l g)
+  -- the bytes count only where they are moved
+  pub move-source : (byte′ : ℕ → ℕ) (n : ℕ) (d : List ℕ) → ((t : ℕ) → first ≤ t → t < first + n → byte t ≡ byte′ t)
+      → move on byte at first n d ≡ move on byte′ at first n d
+  unfolding move
+  move-source byte′ zero d h = refl
+  move-source byte′ (suc n) d h =
+      rw (
+        h (first + n) (omega arith) (omega (arith, add-suc first n)),
+        move-source byte′ n d (λ t p q. h t p (omega (arith, add-suc first n))),
+      )
+
+-- moves of the same bytes take lists that agree to lists that agree
+pub move-agree : (on : ℕ → Bool) (byte byte′ at : ℕ → ℕ) (first n lo hi : ℕ) {d e : List ℕ} → length d ≡ length e
+    → Agree lo hi d e → ((t : ℕ) → first ≤ t → t < first + n → byte t ≡ byte′ t)
+    → Agree lo hi (move on byte at first n d) (move on byte′ at first n e)
+move-agree on byte byte′ at first n lo hi {d} l g h =
+    rw (move-source on byte at first byte′ n d h) (same-bytes on byte′ at first n lo hi l g)
 
 -- ---- n bytes from an index on
 
@@ -98,13 +114,12 @@ front-same n at lo hi {d} {e} l g p q =
     front-at n at d i h′ ∙ g .same (at + i) (omega arith) (omega arith) ∙ sym (front-at n at e i h′))
 
 -- what a move of every byte brings there
-pub front-moved : (source : List ℕ) (from at n : ℕ) (d : List ℕ) → at + n ≤ length d → from + n ≤ length source
-    → front n at (move all source from at 0 n d) ≡ front n from source
-front-moved source from at n d p q =
-    ext-getD 0 (front n at (move all source from at 0 n d)) (front n from source)
-    (simp (length-take, length-drop, length-move) (omega arith))
+pub front-moved : (byte : ℕ → ℕ) (at n : ℕ) (d : List ℕ) → at + n ≤ length d
+    → front n at (move all byte (indexFrom at) 0 n d) ≡ table byte n
+front-moved byte at n d p =
+    let e = move all byte (indexFrom at) 0 n d in
+    ext-getD 0 (front n at e) (table byte n)
+    (simp (length-take, length-drop, length-move, length-table) (omega arith))
     (λ i h.
     let h′ : i < n = omega (arith, simp length-take at h) in
-    front-at n at (move all source from at 0 n d) i h′
-    ∙ move-inside all source from at 0 n d (omega arith) i (omega arith) (omega arith)
-    ∙ sym (front-at n from source i h′))
+    front-at n at e i h′ ∙ moved-at byte at n d p i h′ ∙ sym (getD-table byte n 0 i h′))

@@ -1,66 +1,48 @@
 -- What a post and the accesses of a transfer do to the memory and the buffer.
 -- Assumes nothing.
-use mathlib.Core.Path.{_≡_, refl}
+use mathlib.Core.Path.{_≡_, refl, ap}
 use mathlib.Core.Bool.{Bool, true, false, cond}
 use mathlib.Core.List.{List}
 use mathlib.Core.Logic.{⊎-elim, inl, inr, _≢_}
-use Prim.Native.Nat.{ℕ, _+_, _≤_, _<_}
+use Prim.Native.Nat.{ℕ, _+_, _%_, _≤_, _<_}
 use native.Mathlib.Omega.{arith}
-use lib.ListN.{length}
+use lib.ListN.{length, getD}
+use Rattle.common_laws.specs.Bits.{bit}
+use Rattle.common_laws.proofs.Tests.{both}
 use Rattle.description_board.specs.declared.Master.{Master}
 use Rattle.description_board.specs.declared.Slave.{Slave}
 use Rattle.fabric_accesses.specs.declared.Transfer.{Transfer}
-use Rattle.fabric_accesses.specs.Accesses.{accessBytes, firstByte}
-use Rattle.fabric_bytes.specs.Moving.{all, move}
-use Rattle.fabric_bytes.specs.Bytes.{Store, partOf, postedWords, enabled, memoryIndex, written, fetched, carriedAccess}
+use Rattle.fabric_accesses.specs.Alignment.{hasLane}
+use Rattle.fabric_bytes.specs.Moving.{all, bytesFrom, indexFrom, move}
+use Rattle.fabric_bytes.specs.Bytes.{Store, partOf, postedWords, memoryIndex, stores, byteRead}
+use Rattle.fabric_bytes.specs.Bytes.{written, fetched, carriedBytes, carriedAccess}
 use Rattle.fabric_bytes.proofs.MoveLaws.{length-move, move-join, less-or}
-use Rattle.fabric_bytes.proofs.Ranges.{Agree, agree-refl, Apart, move-apart, move-agree}
+use Rattle.fabric_bytes.proofs.Ranges.{Agree, agree-refl, Apart, Outside, move-apart, move-agree}
 
--- ---- a post, and one access by its direction
+-- ---- a post
 
 pub length-posted : (m : ℕ) (words buffer : List ℕ) → length (postedWords m words buffer) ≡ length buffer
 unfolding postedWords
-length-posted m words buffer = length-move all words 0 (partOf m) 0 (length words) buffer
-
-module _ (ma : Master) (sl : Slave) (t : Transfer) (m start a : ℕ) (d : Store) where
-  pub accessed-write : t .write ≡ true → carriedAccess ma sl t m start a d ≡ written ma sl t m start a d
-  unfolding carriedAccess
-  accessed-write e = rw e
-
-  pub accessed-read : t .write ≡ false → carriedAccess ma sl t m start a d ≡ fetched ma sl t m start a d
-  unfolding carriedAccess
-  accessed-read e = rw e
-
-  pub length-memory : length (carriedAccess ma sl t m start a d .memory) ≡ length (d .memory)
-  unfolding written fetched
-  length-memory = go (t .write) refl
-    where
-      go : (w : Bool) → t .write ≡ w → length (carriedAccess ma sl t m start a d .memory) ≡ length (d .memory)
-      go true e = rw (accessed-write e) (length-move _ _ _ _ _ _ (d .memory))
-      go false e = rw (accessed-read e)
-
-  pub length-buffer : length (carriedAccess ma sl t m start a d .buffer) ≡ length (d .buffer)
-  unfolding written fetched
-  length-buffer = go (t .write) refl
-    where
-      go : (w : Bool) → t .write ≡ w → length (carriedAccess ma sl t m start a d .buffer) ≡ length (d .buffer)
-      go true e = rw (accessed-write e)
-      go false e = rw (accessed-read e) (length-move _ _ _ _ _ _ (d .buffer))
+length-posted m words buffer = length-move all (λ i. getD words i 0) (indexFrom (partOf m)) 0 (length words) buffer
 
 -- ---- bytes of a transfer
 
--- bytes first .. first + n − 1 of a transfer, whose words begin at `part` in the buffer, and its bytes at `place` in memory
-unfoldable pub carry : Bool → (ℕ → Bool) → ℕ → ℕ → ℕ → ℕ → Store → Store
-carry write on part place first n d =
-    cond write (record { memory = move on (d .buffer) part place first n (d .memory); buffer = d .buffer })
-    (record { memory = d .memory; buffer = move all (d .memory) place part first n (d .buffer) })
+-- a byte is stored only where the slave has a lane for it
+pub stores-lane : (ma : Master) (sl : Slave) (t : Transfer) (i : ℕ) → stores ma sl t i ≡ true → hasLane ma sl i ≡ true
+unfolding stores
+stores-lane ma sl t i e = both (bit (t .lanes) (i % ma .width)) (hasLane ma sl i) e .1
 
--- an access carries its own
-pub accessed-carries : (ma : Master) (sl : Slave) (t : Transfer) (m start a : ℕ) (d : Store)
-    → carriedAccess ma sl t m start a d
-    ≡ carry (t .write) (enabled ma t) (partOf m) (memoryIndex sl t start) (firstByte ma sl a) (accessBytes ma sl) d
-unfolding carriedAccess written fetched carry
-accessed-carries ma sl t m start a d = refl
+-- what is read counts only where the slave has a lane
+pub read-same : (ma : Master) (sl : Slave) (t : Transfer) (start : ℕ) (d e : List ℕ) (i : ℕ)
+    → (hasLane ma sl i ≡ true → getD d (memoryIndex ma sl t start i) 0 ≡ getD e (memoryIndex ma sl t start i) 0)
+    → byteRead ma sl t start d i ≡ byteRead ma sl t start e i
+unfolding byteRead
+read-same ma sl t start d e i h = go (hasLane ma sl i) h
+  where
+    go : (c : Bool) → (c ≡ true → getD d (memoryIndex ma sl t start i) 0 ≡ getD e (memoryIndex ma sl t start i) 0)
+        → cond c (getD d (memoryIndex ma sl t start i) 0) 0 ≡ cond c (getD e (memoryIndex ma sl t start i) 0) 0
+    go true h = h refl
+    go false h = refl
 
 -- the stores have their lengths in common, and agree from lo to hi in memory and from lo′ to hi′ in the buffer
 pub record Alike (lo hi lo′ hi′ : ℕ) (d e : Store) : Type 0 where
@@ -69,55 +51,126 @@ pub record Alike (lo hi lo′ hi′ : ℕ) (d e : Store) : Type 0 where
   pub memory : Agree lo hi (d .memory) (e .memory)
   pub buffer : Agree lo′ hi′ (d .buffer) (e .buffer)
 
-pub carry-none : (write : Bool) (on : ℕ → Bool) (part place first : ℕ) (d : Store) → carry write on part place first 0 d ≡ d
-unfolding carry move
-carry-none true on part place first d = refl
-carry-none false on part place first d = refl
+module _ (ma : Master) (sl : Slave) (t : Transfer) (m start : ℕ) where
+  -- by the transfer's direction
+  module _ (first n : ℕ) (d : Store) where
+    pub carried-write : t .write ≡ true → carriedBytes ma sl t m start first n d ≡ written ma sl t m start first n d
+    unfolding carriedBytes
+    carried-write e = rw e
 
--- a part of the bytes, and then those behind it
-pub carry-join : (write : Bool) (on : ℕ → Bool) (part place first n k : ℕ) (d : Store)
-    → carry write on part place (first + n) k (carry write on part place first n d)
-    ≡ carry write on part place first (n + k) d
-unfolding carry
-carry-join true on part place first n k d = rw (move-join on (d .buffer) part place first n k (d .memory))
-carry-join false on part place first n k d = rw (move-join all (d .memory) place part first n k (d .buffer))
+    pub carried-read : t .write ≡ false → carriedBytes ma sl t m start first n d ≡ fetched ma sl t m start first n d
+    unfolding carriedBytes
+    carried-read e = rw e
 
--- ranges apart from the bytes' own are left alone
-pub carry-memory : (write : Bool) (on : ℕ → Bool) (part place first n lo hi : ℕ) (d : Store)
-    → Apart (place + first) (place + (first + n)) lo hi
-    → Agree lo hi (carry write on part place first n d .memory) (d .memory)
-unfolding carry
-carry-memory true on part place first n lo hi d h = move-apart on (d .buffer) part place first n lo hi (d .memory) h
-carry-memory false on part place first n lo hi d h = agree-refl lo hi (d .memory)
+    pub carried-memory-length : length (carriedBytes ma sl t m start first n d .memory) ≡ length (d .memory)
+    unfolding carriedBytes written fetched
+    carried-memory-length = go (t .write)
+      where
+        go : (w : Bool) → length (cond w (written ma sl t m start first n d) (fetched ma sl t m start first n d) .memory)
+            ≡ length (d .memory)
+        go true = length-move _ _ _ first n (d .memory)
+        go false = refl
 
-pub carry-buffer : (write : Bool) (on : ℕ → Bool) (part place first n lo hi : ℕ) (d : Store)
-    → Apart (part + first) (part + (first + n)) lo hi
-    → Agree lo hi (carry write on part place first n d .buffer) (d .buffer)
-unfolding carry
-carry-buffer true on part place first n lo hi d h = agree-refl lo hi (d .buffer)
-carry-buffer false on part place first n lo hi d h = move-apart all (d .memory) place part first n lo hi (d .buffer) h
+    pub carried-buffer-length : length (carriedBytes ma sl t m start first n d .buffer) ≡ length (d .buffer)
+    unfolding carriedBytes written fetched
+    carried-buffer-length = go (t .write)
+      where
+        go : (w : Bool) → length (cond w (written ma sl t m start first n d) (fetched ma sl t m start first n d) .buffer)
+            ≡ length (d .buffer)
+        go true = refl
+        go false = length-move _ _ _ first n (d .buffer)
 
--- stores that are alike where the bytes lie are alike there afterwards
-pub carry-alike : (write : Bool) (on : ℕ → Bool) (part place first n lo hi lo′ hi′ : ℕ) {d e : Store}
-    → lo ≤ place + first → place + (first + n) ≤ hi → lo′ ≤ part + first → part + (first + n) ≤ hi′ → Alike lo hi lo′ hi′ d e
-    → Alike lo hi lo′ hi′ (carry write on part place first n d) (carry write on part place first n e)
-unfolding carry
-carry-alike true on part place first n lo hi lo′ hi′ {d} {e} p q p′ q′ h = record {
-  memoryLength = simp length-move (h .memoryLength);
-  bufferLength = h .bufferLength;
-  memory =
-      move-agree on (d .buffer) (e .buffer) part part place first n lo hi (h .memoryLength) (h .memory)
-      (λ t a b. h .buffer .same (part + t) (omega arith) (omega arith));
-  buffer = h .buffer;
-}
-carry-alike false on part place first n lo hi lo′ hi′ {d} {e} p q p′ q′ h = record {
-  memoryLength = h .memoryLength;
-  bufferLength = simp length-move (h .bufferLength);
-  memory = h .memory;
-  buffer =
-      move-agree all (d .memory) (e .memory) place place part first n lo′ hi′ (h .bufferLength) (h .buffer)
-      (λ t a b. h .memory .same (place + t) (omega arith) (omega arith));
-}
+  pub carried-none : (first : ℕ) (d : Store) → carriedBytes ma sl t m start first 0 d ≡ d
+  unfolding carriedBytes written fetched move
+  carried-none first d = go (t .write)
+    where
+      go : (w : Bool) → cond w (written ma sl t m start first 0 d) (fetched ma sl t m start first 0 d) ≡ d
+      go true = refl
+      go false = refl
+
+  -- a part of the bytes, and then those behind it
+  pub carried-join : (first n k : ℕ) (d : Store)
+      → carriedBytes ma sl t m start (first + n) k (carriedBytes ma sl t m start first n d)
+      ≡ carriedBytes ma sl t m start first (n + k) d
+  unfolding carriedBytes written fetched
+  carried-join first n k d = go (t .write)
+    where
+      go : (w : Bool)
+          → (let e = cond w (written ma sl t m start first n d) (fetched ma sl t m start first n d) in
+          cond w (written ma sl t m start (first + n) k e) (fetched ma sl t m start (first + n) k e))
+          ≡ cond w (written ma sl t m start first (n + k) d) (fetched ma sl t m start first (n + k) d)
+      go true =
+          rw (move-join (stores ma sl t) (bytesFrom (d .buffer) (partOf m)) (memoryIndex ma sl t start) first n k (d .memory))
+      go false = rw (move-join all (byteRead ma sl t start (d .memory)) (indexFrom (partOf m)) first n k (d .buffer))
+
+  -- ranges outside of which the bytes lie are left alone
+  pub carried-memory : (first n lo hi : ℕ) (d : Store)
+      → ((i : ℕ) → first ≤ i → i < first + n → hasLane ma sl i ≡ true → Outside (memoryIndex ma sl t start i) lo hi)
+      → Agree lo hi (carriedBytes ma sl t m start first n d .memory) (d .memory)
+  unfolding carriedBytes written fetched
+  carried-memory first n lo hi d h = go (t .write)
+    where
+      go : (w : Bool)
+          → Agree lo hi (cond w (written ma sl t m start first n d) (fetched ma sl t m start first n d) .memory) (d .memory)
+      go true =
+          move-apart (stores ma sl t) (bytesFrom (d .buffer) (partOf m)) (memoryIndex ma sl t start) first n lo hi (d .memory)
+          (λ i p q on. h i p q (stores-lane ma sl t i on))
+      go false = agree-refl lo hi (d .memory)
+
+  pub carried-buffer : (first n lo hi : ℕ) (d : Store) → Apart (partOf m + first) (partOf m + (first + n)) lo hi
+      → Agree lo hi (carriedBytes ma sl t m start first n d .buffer) (d .buffer)
+  unfolding carriedBytes written fetched
+  carried-buffer first n lo hi d h = go (t .write)
+    where
+      go : (w : Bool)
+          → Agree lo hi (cond w (written ma sl t m start first n d) (fetched ma sl t m start first n d) .buffer) (d .buffer)
+      go true = agree-refl lo hi (d .buffer)
+      go false =
+          move-apart all (byteRead ma sl t start (d .memory)) (indexFrom (partOf m)) first n lo hi (d .buffer)
+          (λ i p q on. ⊎-elim (λ r. inl (omega arith)) (λ r. inr (omega arith)) h)
+
+  -- stores that are alike where the bytes lie are alike there afterwards
+  pub carried-alike : (first n lo hi lo′ hi′ : ℕ) {d e : Store}
+      → ((i : ℕ) → first ≤ i → i < first + n → hasLane ma sl i ≡ true
+      → (lo ≤ memoryIndex ma sl t start i) × (memoryIndex ma sl t start i < hi))
+      → lo′ ≤ partOf m + first → partOf m + (first + n) ≤ hi′ → Alike lo hi lo′ hi′ d e
+      → Alike lo hi lo′ hi′ (carriedBytes ma sl t m start first n d) (carriedBytes ma sl t m start first n e)
+  unfolding carriedBytes written fetched
+  carried-alike first n lo hi lo′ hi′ {d} {e} within low high h = go (t .write)
+    where
+      go : (w : Bool)
+          → Alike lo hi lo′ hi′ (cond w (written ma sl t m start first n d) (fetched ma sl t m start first n d))
+          (cond w (written ma sl t m start first n e) (fetched ma sl t m start first n e))
+      go true = record {
+        memoryLength = simp length-move (h .memoryLength);
+        bufferLength = h .bufferLength;
+        memory =
+            move-agree (stores ma sl t) (bytesFrom (d .buffer) (partOf m)) (bytesFrom (e .buffer) (partOf m))
+            (memoryIndex ma sl t start) first n lo hi (h .memoryLength) (h .memory)
+            (λ i a b. h .buffer .same (partOf m + i) (omega arith) (omega arith));
+        buffer = h .buffer;
+      }
+      go false = record {
+        memoryLength = h .memoryLength;
+        bufferLength = simp length-move (h .bufferLength);
+        memory = h .memory;
+        buffer =
+            move-agree all (byteRead ma sl t start (d .memory)) (byteRead ma sl t start (e .memory)) (indexFrom (partOf m))
+            first n lo′ hi′ (h .bufferLength) (h .buffer)
+            (λ i a b.
+            read-same ma sl t start (d .memory) (e .memory) i
+            (λ l. let w = within i a b l in h .memory .same (memoryIndex ma sl t start i) (w .0) (w .1)));
+      }
+
+  -- ---- an access has its own bytes, which keep the lengths
+
+  pub length-memory : (a : ℕ) (d : Store) → length (carriedAccess ma sl t m start a d .memory) ≡ length (d .memory)
+  unfolding carriedAccess
+  length-memory a d = carried-memory-length _ _ d
+
+  pub length-buffer : (a : ℕ) (d : Store) → length (carriedAccess ma sl t m start a d .buffer) ≡ length (d .buffer)
+  unfolding carriedAccess
+  length-buffer a d = carried-buffer-length _ _ d
 
 -- ---- the parts of two masters
 

@@ -1,15 +1,16 @@
 -- Memory and buffer: the bytes that a post and an access move (rules 2.1 to 2.3, 3.2, 4.11).
 -- Assumes nothing.
-use mathlib.Core.Bool.{Bool, cond}
+use mathlib.Core.Bool.{Bool, cond, _&&_}
 use mathlib.Core.List.{List}
-use Prim.Native.Nat.{ℕ, _+_, _-_, _*_, _%_}
-use lib.ListN.{length}
+use Prim.Native.Nat.{ℕ, _+_, _*_, _%_}
+use lib.ListN.{length, getD}
 use Rattle.common_laws.specs.Bits.{bit}
 use Rattle.description_board.specs.declared.Master.{Master}
 use Rattle.description_board.specs.declared.Slave.{Slave}
 use Rattle.fabric_accesses.specs.declared.Transfer.{Transfer}
-use Rattle.fabric_accesses.specs.Accesses.{accessBytes, firstByte}
-use Rattle.fabric_bytes.specs.Moving.{all, move}
+use Rattle.fabric_accesses.specs.Alignment.{accessBytes, hasLane, byteOffset}
+use Rattle.fabric_accesses.specs.Accesses.{firstByte}
+use Rattle.fabric_bytes.specs.Moving.{all, bytesFrom, indexFrom, move}
 
 -- rules 2.1, 2.2: the lent memory and the lent buffer
 pub record Store : Type 0 where
@@ -26,31 +27,41 @@ partOf m = 512 * m
 
 -- rule 3.2: the buffer with the words of a post at the front of the part of master m
 unfoldable pub postedWords : ℕ → List ℕ → List ℕ → List ℕ
-postedWords m words buffer = move all words 0 (partOf m) 0 (length words) buffer
+postedWords m words buffer = move all (λ i. getD words i 0) (indexFrom (partOf m)) 0 (length words) buffer
 
--- rules 2.3, 3.1: byte i of the transfer t is enabled by lane i modulo the master's width
-unfoldable pub enabled : Master → Transfer → ℕ → Bool
-enabled ma t i = bit (t .lanes) (i % ma .width)
+-- rules 2.1, 6.8: the index in the memory of byte i of the transfer t, for a slave whose span starts at `start`
+unfoldable pub memoryIndex : Master → Slave → Transfer → ℕ → ℕ → ℕ
+memoryIndex ma sl t start i = start + byteOffset ma sl t i
 
--- rules 2.1, 6.8: the index in the memory of the transfer's first byte, for a slave whose span starts at `start`
-unfoldable pub memoryIndex : Slave → Transfer → ℕ → ℕ
-memoryIndex sl t start = start + (t .address - sl .base)
+-- rules 2.3, 4.11: a write changes byte i where lane i modulo the master's width is enabled, and the slave has a lane for it
+unfoldable pub stores : Master → Slave → Transfer → ℕ → Bool
+stores ma sl t i = bit (t .lanes) (i % ma .width) && hasLane ma sl i
 
--- rule 4.11: access a of a write
-unfoldable pub written : Master → Slave → Transfer → ℕ → ℕ → ℕ → Store → Store
-written ma sl t m start a d = record {
+-- rules 3.5, 4.10: what a read brings for byte i, whichever lanes it names: the memory's byte, or 0 where the slave has no lane
+-- for it
+unfoldable pub byteRead : Master → Slave → Transfer → ℕ → List ℕ → ℕ → ℕ
+byteRead ma sl t start memory i = cond (hasLane ma sl i) (getD memory (memoryIndex ma sl t start i) 0) 0
+
+-- rule 4.11: bytes first .. first + n − 1 of a write of master m
+unfoldable pub written : Master → Slave → Transfer → ℕ → ℕ → ℕ → ℕ → Store → Store
+written ma sl t m start first n d = record {
   memory =
-      move (enabled ma t) (d .buffer) (partOf m) (memoryIndex sl t start) (firstByte ma sl a) (accessBytes ma sl) (d .memory);
+      move (stores ma sl t) (bytesFrom (d .buffer) (partOf m)) (memoryIndex ma sl t start) first n (d .memory);
   buffer = d .buffer;
 }
 
--- rules 3.2, 3.5: access a of a read, with all its bytes
-unfoldable pub fetched : Master → Slave → Transfer → ℕ → ℕ → ℕ → Store → Store
-fetched ma sl t m start a d = record {
+-- rule 3.2: bytes first .. first + n − 1 of a read of master m
+unfoldable pub fetched : Master → Slave → Transfer → ℕ → ℕ → ℕ → ℕ → Store → Store
+fetched ma sl t m start first n d = record {
   memory = d .memory;
-  buffer = move all (d .memory) (memoryIndex sl t start) (partOf m) (firstByte ma sl a) (accessBytes ma sl) (d .buffer);
+  buffer = move all (byteRead ma sl t start (d .memory)) (indexFrom (partOf m)) first n (d .buffer);
 }
 
--- rule 4.8: access a, carried out, of the transfer t that master number m holds
+-- rule 4.8: bytes first .. first + n − 1 of the transfer t that master m holds, moved
+unfoldable pub carriedBytes : Master → Slave → Transfer → ℕ → ℕ → ℕ → ℕ → Store → Store
+carriedBytes ma sl t m start first n d =
+    cond (t .write) (written ma sl t m start first n d) (fetched ma sl t m start first n d)
+
+-- rule 4.8: access a, carried out
 unfoldable pub carriedAccess : Master → Slave → Transfer → ℕ → ℕ → ℕ → Store → Store
-carriedAccess ma sl t m start a d = cond (t .write) (written ma sl t m start a d) (fetched ma sl t m start a d)
+carriedAccess ma sl t m start a d = carriedBytes ma sl t m start (firstByte ma sl a) (accessBytes ma sl) d

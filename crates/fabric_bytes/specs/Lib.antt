@@ -1,3 +1,4 @@
 pub mod Moving
 pub mod Bytes
+pub mod Cards
 pub mod Code

@@ -5,26 +5,35 @@ use description_board::Master;
 use description_board::Slave;
 use fabric_accesses::Transfer;
 ghost use mathlib.Core.Path.{_≡_};
-ghost use mathlib.Core.Bool.{true};
-ghost use Prim.Native.Nat.{_+_, _%_, _≤_, _<_};
-ghost use lib.ListN.{length};
+ghost use Prim.Native.Nat.{_+_, _≤_, _<_};
+ghost use lib.ListN.{length, getD};
 ghost use Rattle.common_laws.specs.Bits.{bit};
-ghost use Rattle.common_laws.specs.Lists.{member};
-ghost use Rattle.description_board.specs.Rules.{widths};
-ghost use Rattle.fabric_bytes.specs.Moving.{all, move};
+ghost use Rattle.fabric_bytes.specs.Moving.{all, bytesFrom, indexFrom, move};
 ghost use Rattle.fabric_bytes.specs.Bytes.{bufferLength, partOf, postedWords, carriedAccess};
 ghost use Rattle.fabric_bytes.specs.Code.Reaching.{Reached};
 
-// Bytes first up to first + count of a transfer go to the part (rule 3.2): its words at a post, from 0 on, or the bytes of a read
-// access; the transfer's byte 0 has index `from` in the source.
-fn store_words(source: &[u8], from: usize, part: &mut [u8], first: usize, count: usize)
-    requires { ⌜ (from + (first + count) ≤ length (now source)) × (first + count ≤ length (now part)) ⌝ }
-    ensures { λ r. ⌜ now (part .exit) ≡ move all (now (source .entry)) from 0 first count (now (part .entry)) ⌝ }
+// So many bytes of the source from index `from` on go to index `at` of the part and behind it (rule 3.2): the words of a post, or
+// those bytes of a read access that the slave has lanes for.
+fn store_words(source: &[u8], from: usize, part: &mut [u8], at: usize, count: usize)
+    requires { ⌜ (from + count ≤ length (now source)) × (at + count ≤ length (now part)) ⌝ }
+    ensures { λ r. ⌜ now (part .exit)
+        ≡ move all (bytesFrom (now (source .entry)) from) (indexFrom at) 0 count (now (part .entry)) ⌝ }
 {
     let mut k = 0;
     while k < count {
-        let i = first + k;
-        part[i] = source[from + i];
+        part[at + k] = source[from + k];
+        k += 1;
+    }
+}
+
+// So many bytes of the part from index `at` on become 0 (rule 4.10): the slave has no lanes for them.
+fn clear_words(part: &mut [u8], at: usize, count: usize)
+    requires { ⌜ at + count ≤ length (now part) ⌝ }
+    ensures { λ r. ⌜ now (part .exit) ≡ move all (λ k. 0) (indexFrom at) 0 count (now (part .entry)) ⌝ }
+{
+    let mut k = 0;
+    while k < count {
+        part[at + k] = 0;
         k += 1;
     }
 }
@@ -40,15 +49,27 @@ pub fn post_words(buffer: &mut [u8], m: usize, words: &[u8])
     store_words(words, 0, &mut buffer[start..end], 0, count);
 }
 
-// A read access of master m (rules 2.2, 3.2, 3.5).
+// The bytes of a read access of master m that the slave has lanes for (rules 2.2, 3.2, 3.5).
 fn read_access(memory: &[u8], from: usize, buffer: &mut [u8], m: usize, first: usize, count: usize)
     requires { ⌜ (length (now buffer) ≡ bufferLength) × (m < 8) × (first + count ≤ 512)
-        × (from + (first + count) ≤ length (now memory)) ⌝ }
-    ensures { λ r. ⌜ now (buffer .exit) ≡ move all (now (memory .entry)) from (partOf m) first count (now (buffer .entry)) ⌝ }
+        × (from + count ≤ length (now memory)) ⌝ }
+    ensures { λ r. ⌜ now (buffer .exit) ≡ move all (bytesFrom (now (memory .entry)) from)
+        (λ k. partOf m + (first + k)) 0 count (now (buffer .entry)) ⌝ }
 {
     let start = PART_BYTES * m;
     let end = start + PART_BYTES;
     store_words(memory, from, &mut buffer[start..end], first, count);
+}
+
+// The bytes that it has no lanes for (rule 4.10).
+fn clear_access(buffer: &mut [u8], m: usize, first: usize, count: usize)
+    requires { ⌜ (length (now buffer) ≡ bufferLength) × (m < 8) × (first + count ≤ 512) ⌝ }
+    ensures { λ r. ⌜ now (buffer .exit)
+        ≡ move all (λ k. 0) (λ k. partOf m + (first + k)) 0 count (now (buffer .entry)) ⌝ }
+{
+    let start = PART_BYTES * m;
+    let end = start + PART_BYTES;
+    clear_words(&mut buffer[start..end], first, count);
 }
 
 // Whether lane k is enabled (rule 3.1).
@@ -64,22 +85,19 @@ fn write_words(
     memory: &mut [u8],
     at: usize,
     part: &[u8],
-    first: usize,
+    from: usize,
     count: usize,
     lanes: u32,
-    width: u32,
+    lane: usize,
 )
-    requires { ⌜ (at + (first + count) ≤ length (now memory)) × (first + count ≤ length (now part))
-        × (member width widths ≡ true) × (first % width + count ≤ width) ⌝ }
-    ensures { λ r. ⌜ now (memory .exit)
-        ≡ move (λ i. bit lanes (i % width)) (now (part .entry)) 0 at first count (now (memory .entry)) ⌝ }
+    requires { ⌜ (at + count ≤ length (now memory)) × (from + count ≤ length (now part)) × (lane + count ≤ 8) ⌝ }
+    ensures { λ r. ⌜ now (memory .exit) ≡ move (λ k. bit lanes (lane + k)) (bytesFrom (now (part .entry)) from)
+        (indexFrom at) 0 count (now (memory .entry)) ⌝ }
 {
-    let lane = first & (width - 1) as usize;
     let mut k = 0;
     while k < count {
-        let i = first + k;
         if lane_on(lanes, lane + k) {
-            memory[at + i] = part[i];
+            memory[at + k] = part[from + k];
         }
         k += 1;
     }
@@ -94,20 +112,20 @@ fn write_access(
     first: usize,
     count: usize,
     lanes: u32,
-    width: u32,
+    lane: usize,
 )
     requires { ⌜ (length (now buffer) ≡ bufferLength) × (m < 8) × (first + count ≤ 512)
-        × (at + (first + count) ≤ length (now memory))
-        × (member width widths ≡ true) × (first % width + count ≤ width) ⌝ }
-    ensures { λ r. ⌜ now (memory .exit)
-        ≡ move (λ i. bit lanes (i % width)) (now (buffer .entry)) (partOf m) at first count (now (memory .entry)) ⌝ }
+        × (at + count ≤ length (now memory)) × (lane + count ≤ 8) ⌝ }
+    ensures { λ r. ⌜ now (memory .exit) ≡ move (λ k. bit lanes (lane + k))
+        (λ k. getD (now (buffer .entry)) (partOf m + (first + k)) 0) (indexFrom at) 0 count (now (memory .entry)) ⌝ }
 {
     let start = PART_BYTES * m;
     let end = start + PART_BYTES;
-    write_words(memory, at, &buffer[start..end], first, count, lanes, width);
+    write_words(memory, at, &buffer[start..end], first, count, lanes, lane);
 }
 
-// Access a of the transfer that master m holds, carried out at a slave whose span starts at `start` (rules 2.1, 4.8).
+// Access a of the transfer that master m holds, carried out at a slave whose span starts at `start` (rules 2.1, 4.8): the bytes
+// that the slave has lanes for are moved, and a read clears the others.
 pub fn carry_access(
     ma: Master,
     sl: Slave,
@@ -122,12 +140,16 @@ pub fn carry_access(
     ensures { λ r. ⌜ record { memory = now (memory .exit); buffer = now (buffer .exit) }
         ≡ carriedAccess ma sl t m start a (record { memory = now (memory .entry); buffer = now (buffer .entry) }) ⌝ }
 {
-    let index = start + ((t.address - sl.base) as usize);
-    let first = fabric_accesses::first_byte(ma, sl, a) as usize;
-    let count = fabric_accesses::access_bytes(ma, sl) as usize;
+    let at = start + (fabric_accesses::access_offset(ma, sl, t, a) as usize);
+    let from = fabric_accesses::first_byte(ma, sl, a);
+    let first = from as usize;
+    let count = fabric_accesses::lane_bytes(ma, sl) as usize;
     if t.write {
-        write_access(memory, index, buffer, m, first, count, t.lanes, ma.width);
+        let lane = fabric_accesses::over_width(from, ma.width) as usize;
+        write_access(memory, at, buffer, m, first, count, t.lanes, lane);
         return;
     }
-    read_access(memory, index, buffer, m, first, count);
+    let bytes = fabric_accesses::access_bytes(ma, sl) as usize;
+    read_access(memory, at, buffer, m, first, count);
+    clear_access(buffer, m, first + count, bytes - count);
 }

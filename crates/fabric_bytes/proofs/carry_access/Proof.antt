@@ -1,39 +1,36 @@
 -- `fabric_bytes::carry_access` meets its contract.
--- The first byte and the count of the access are those of the definitions, so each branch ends in what its callee ensures.
+-- The numbers of the access are those of the definitions, so each branch ends in what its callees ensure.
 -- Assumes nothing.
-use mathlib.Core.Path.{refl}
 use native.Mathlib.Omega.{arith}
-use Rattle.fabric_bytes.proofs.CarriedLaws.{index-fits, reads, writes, read-done, write-done}
 use borrow.Author.Needs.{needs}
+use Rattle.fabric_bytes.proofs.CarriedLaws.{lanes-fit, reads, clears, writes, read-done, write-done}
 use Rattle.fabric_bytes.proofs.carry_access.Statement.{statement}
 use Rattle.fabric_bytes.proofs.carry_access.Tie as tie
 
--- from the access's first byte back to the start
-abbrev start : tie.After-first-byte → tie.Start
-start c = c .before .before .before .before .before
+access-offset-requires : tie.Need-access-offset-requires
+access-offset-requires c κs = search needs
 
-sub-index : tie.Need-sub-index
-sub-index c = search needs
-
-cast-index : tie.Need-cast-index
-cast-index c = search needs
-
-add-index : tie.Need-add-index
-add-index c = omega (arith, index-fits _ _ _ _ _ _ _ refl refl (c .before .before .before .before .pre))
+add-at : tie.Need-add-at
+add-at c = search needs
 
 first-byte-requires : tie.Need-first-byte-requires
 first-byte-requires c κs = search needs
 
-access-bytes-requires : tie.Need-access-bytes-requires
-access-bytes-requires c κs = search needs
+lane-bytes-requires : tie.Need-lane-bytes-requires
+lane-bytes-requires c κs = search needs
 
 cast-count : tie.Need-cast-count
 cast-count c = search needs
 
+over-width-requires : tie.Need-over-width-requires
+over-width-requires c κs = search needs
+
 write-access-requires : tie.Need-write-access-requires
 write-access-requires c κs =
-    let first = c .before .before .before .before in
-    writes _ _ _ _ _ _ _ (first .first-byte .ensures) (c .before .before .before .access-bytes .ensures) (start first .pre)
+    let lane = c .before .before .before .before in
+    let first = lane .before in
+    writes _ _ _ _ _ _ _ (first .before .before .before .before .pre) (first .before .access-offset .ensures)
+    (first .first-byte .ensures) (lane .lane-bytes .ensures) (c .before .before .over-width .ensures)
 
 same-length : tie.Need-same-length
 same-length c = search needs
@@ -43,14 +40,51 @@ same-length-2 c = search needs
 
 returns : tie.Need-returns
 returns c =
-    let test = c .before .before .before .before .before in
-    write-done _ _ _ _ _ _ _ (test .before .before .first-byte .ensures) (test .before .access-bytes .ensures) (test .if1 .taken)
-    (c .before .before .write-access .ensures)
+    let lent = c .before .before .before in
+    let lane = lent .before .before .before .before in
+    let first = lane .before in
+    write-done _ _ _ _ _ _ _ (first .before .before .before .before .pre) (first .before .access-offset .ensures)
+    (first .first-byte .ensures) (lane .lane-bytes .ensures) (lent .before .before .before .if1 .taken)
+    (lent .before .before .over-width .ensures) (c .before .before .write-access .ensures)
+
+access-bytes-requires : tie.Need-access-bytes-requires
+access-bytes-requires c κs = search needs
+
+cast-bytes : tie.Need-cast-bytes
+cast-bytes c = search needs
 
 read-access-requires : tie.Need-read-access-requires
 read-access-requires c κs =
-    let first = c .before .before .before .before in
-    reads _ _ _ _ _ _ _ (first .first-byte .ensures) (c .before .before .before .access-bytes .ensures) (start first .pre)
+    let lane = c .before .before .before .before in
+    let first = lane .before in
+    let all = reads _ _ _ _ _ _ _ (first .before .before .before .before .pre) (first .before .access-offset .ensures)
+    (first .first-byte .ensures) (lane .lane-bytes .ensures) in
+    (all .0, omega (arith, all .1), all .2, all .3)
+
+add-clear-access : tie.Need-add-clear-access
+add-clear-access c = search needs
+
+sub-clear-access : tie.Need-sub-clear-access
+sub-clear-access c =
+    let bytes = c .before .before .before .before .before .before in
+    let lane = bytes .before .before in
+    let first = lane .before in
+    omega (
+      arith,
+      bytes .access-bytes .ensures,
+      lanes-fit _ _ _ _ _ _ _ (first .before .before .before .before .pre) (first .before .access-offset .ensures)
+          (first .first-byte .ensures) (lane .lane-bytes .ensures),
+    )
+
+clear-access-requires : tie.Need-clear-access-requires
+clear-access-requires c κs =
+    let bytes = c .before .before .before .before .before .before in
+    let lane = bytes .before .before in
+    let first = lane .before in
+    let start = first .before .before .before .before in
+    let all = clears _ _ _ _ _ _ _ (start .pre) (first .before .access-offset .ensures) (first .first-byte .ensures)
+    (lane .lane-bytes .ensures) _ _ (bytes .access-bytes .ensures) (c .before .before .before .read-access .ensures) in
+    (all .0, all .1, omega (arith, all .2))
 
 same-length-3 : tie.Need-same-length-3
 same-length-3 c = search needs
@@ -60,25 +94,34 @@ same-length-4 c = search needs
 
 returns-2 : tie.Need-returns-2
 returns-2 c =
-    let test = c .before .before .before .before .before in
-    read-done _ _ _ _ _ _ _ (test .before .before .first-byte .ensures) (test .before .access-bytes .ensures) (test .if1 .left)
-    (c .before .before .read-access .ensures)
+    let lent = c .before .before .before in
+    let bytes = lent .before .before .before .before .before .before in
+    let lane = bytes .before .before in
+    let first = lane .before in
+    read-done _ _ _ _ _ _ _ (first .before .before .before .before .pre) (first .before .access-offset .ensures)
+    (first .first-byte .ensures) (lane .lane-bytes .ensures) (bytes .before .if1 .left) (bytes .access-bytes .ensures)
+    (lent .before .before .before .read-access .ensures) (c .before .before .clear-access .ensures)
 
 pub carry-access-spec : {M : Type 1} → statement M
 carry-access-spec =
     tie.close
     (tie.spec
-    sub-index
-    cast-index
-    add-index
+    access-offset-requires
+    add-at
     first-byte-requires
-    access-bytes-requires
+    lane-bytes-requires
     cast-count
+    over-width-requires
     write-access-requires
     same-length
     same-length-2
     returns
+    access-bytes-requires
+    cast-bytes
     read-access-requires
+    add-clear-access
+    sub-clear-access
+    clear-access-requires
     same-length-3
     same-length-4
     returns-2)

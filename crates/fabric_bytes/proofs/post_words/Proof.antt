@@ -1,10 +1,15 @@
 -- `fabric_bytes::post_words` meets its contract. The part that was lent comes back with the words at its front.
 -- Assumes nothing.
+use mathlib.Core.Path.{_∙_}
+use denote.Ref.{now}
 use borrow.Author.Needs.{needs}
+use Prim.Native.Nat.{_+_, _*_}
+use lib.ListN.{length}
 use native.Mathlib.Omega.{arith}
-use Rattle.fabric_bytes.specs.Moving.{all}
+use Rattle.fabric_bytes.specs.Moving.{all, bytesFrom}
 use Rattle.fabric_bytes.specs.Bytes.{postedWords}
 use Rattle.fabric_bytes.proofs.PartLaws.{into-part}
+use Rattle.fabric_bytes.proofs.CarriedLaws.{words-posted}
 use Rattle.fabric_bytes.proofs.post_words.Statement.{statement}
 use Rattle.fabric_bytes.proofs.post_words.Tie as tie
 
@@ -34,7 +39,10 @@ unfolding postedWords
 returns c =
     let lent = c .before .before in
     let start = lent .before .before .before .before in
-    into-part all 0 _ _ _ _ _ 0 (lent .store-words .ensures) (omega (arith, start .pre))
+    let a = start .args in
+    into-part all (length (now (a .words))) (512 * a .m) (512 * a .m + 512) _ (bytesFrom (now (a .words)) 0) 0
+    (lent .store-words .ensures) (omega (arith, start .pre))
+    ∙ words-posted (now (a .words)) (512 * a .m) (length (now (a .words))) (now (a .buffer))
 
 pub post-words-spec : {M : Type 1} → statement M
 post-words-spec =

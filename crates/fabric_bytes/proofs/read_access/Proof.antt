@@ -1,8 +1,10 @@
 -- `fabric_bytes::read_access` meets its contract. The part that was lent comes back with the bytes of the access.
 -- Assumes nothing.
+use denote.Ref.{now}
 use borrow.Author.Needs.{needs}
+use Prim.Native.Nat.{_+_, _*_}
 use native.Mathlib.Omega.{arith}
-use Rattle.fabric_bytes.specs.Moving.{all}
+use Rattle.fabric_bytes.specs.Moving.{all, bytesFrom}
 use Rattle.fabric_bytes.proofs.PartLaws.{into-part}
 use Rattle.fabric_bytes.proofs.read_access.Statement.{statement}
 use Rattle.fabric_bytes.proofs.read_access.Tie as tie
@@ -32,7 +34,9 @@ returns : tie.Need-returns
 returns c =
     let lent = c .before .before in
     let start = lent .before .before .before .before in
-    into-part all _ _ _ _ _ _ _ (lent .store-words .ensures) (omega (arith, start .pre))
+    let a = start .args in
+    into-part all (a .count) (512 * a .m) (512 * a .m + 512) _ (bytesFrom (now (a .memory)) (a .from)) (a .first)
+    (lent .store-words .ensures) (omega (arith, start .pre))
 
 pub read-access-spec : {M : Type 1} → statement M
 read-access-spec =

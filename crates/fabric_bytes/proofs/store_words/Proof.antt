@@ -1,33 +1,34 @@
--- `fabric_bytes::store_words` meets its contract. The loop's invariant: the first k bytes of the access are moved.
+-- `fabric_bytes::store_words` meets its contract. The loop's invariant: the first k bytes are moved.
 -- Assumes nothing.
 use mathlib.Core.Path.{_≡_, refl, ap, _∙_}
 use denote.Ref.{now}
 use Prim.Native.Nat.{ℕ, _≤_, _-_}
 use native.Mathlib.Omega.{arith}
 use lib.ListN.{length, length-set}
-use Rattle.fabric_bytes.specs.Moving.{all, move}
+use Rattle.fabric_bytes.specs.Moving.{all, bytesFrom, indexFrom, move}
 use Rattle.fabric_bytes.proofs.MoveLaws.{move-none, move-put}
 use Rattle.fabric_bytes.proofs.store_words.Statement.{statement}
 use Rattle.fabric_bytes.proofs.store_words.Tie as tie
 
 abbrev Inv-loop : tie.InvT-loop
-Inv-loop source from part₀ first count k₀ part k =
-    (k ≤ count) × (length part ≡ length part₀) × (part ≡ move all source from 0 first k part₀)
+Inv-loop source from part₀ at count k₀ part k =
+    (k ≤ count) × (length part ≡ length part₀) × (part ≡ move all (bytesFrom source from) (indexFrom at) 0 k part₀)
 
 abbrev μ-loop : tie.MeasureT-loop
-μ-loop source from part₀ first count k₀ part k = count - k
+μ-loop source from part₀ at count k₀ part k = count - k
 
 loop-holds : tie.Need-loop-holds Inv-loop μ-loop
-loop-holds c = (omega arith, refl, move-none all _ _ 0 _ _)
-
-add-i : tie.Need-add-i Inv-loop μ-loop
-add-i c = omega arith
+loop-holds c = let a = c .args in
+    (omega arith, refl, move-none all (bytesFrom (now (a .source)) (a .from)) (indexFrom (a .at)) _)
 
 add-part : tie.Need-add-part Inv-loop μ-loop
 add-part c = omega arith
 
 shared-slice-read-part : tie.Need-shared-slice-read-part Inv-loop μ-loop
 shared-slice-read-part c = omega arith
+
+add-part-2 : tie.Need-add-part-2 Inv-loop μ-loop
+add-part-2 c = omega arith
 
 slice-write-part : tie.Need-slice-write-part Inv-loop μ-loop
 slice-write-part c = omega arith
@@ -39,15 +40,21 @@ loop-less : tie.Need-loop-less Inv-loop μ-loop
 loop-less c = omega arith
 
 loop-again : tie.Need-loop-again Inv-loop μ-loop
-loop-again c = let l = c .before .before .loop in
-    (omega arith, length-set (l .part) _ _ ∙ l .inv .1, move-put all _ _ 0 _ (l .k) _ _ _ (l .inv .2) refl (omega arith) refl)
+loop-again c =
+    let l = c .before .before .loop in
+    let a = c .before .before .before .args in (
+      omega arith,
+      length-set (l .part) _ _ ∙ l .inv .1,
+      move-put all (bytesFrom (now (a .source)) (a .from)) (indexFrom (a .at)) (l .k) _ _ _ (l .inv .2) refl refl refl,
+    )
 
 same-length : tie.Need-same-length Inv-loop μ-loop
 same-length c = c .before .loop .inv .1
 
 returns : tie.Need-returns Inv-loop μ-loop
 returns c = let a = c .before .before .args in
-    c .before .loop .inv .2 ∙ ap (λ (k : ℕ). move all (now (a .source)) (a .from) 0 (a .first) k (now (a .part))) (omega arith)
+    c .before .loop .inv .2
+    ∙ ap (λ (k : ℕ). move all (bytesFrom (now (a .source)) (a .from)) (indexFrom (a .at)) 0 k (now (a .part))) (omega arith)
 
 pub store-words-spec : {M : Type 1} → statement M
 store-words-spec =
@@ -56,9 +63,9 @@ store-words-spec =
     Inv-loop
     μ-loop
     loop-holds
-    add-i
     add-part
     shared-slice-read-part
+    add-part-2
     slice-write-part
     add-k
     loop-less

@@ -32,7 +32,7 @@ returns : tie.Need-returns
 returns c =
     let lent = c .before .before in
     let start = lent .before .before .before .before .before in
-    out-of-part _ _ _ _ (512 * start .args .m + 512) _ _ _ (lent .write-words .ensures) (omega (arith, start .pre))
+    out-of-part _ _ _ (512 * start .args .m + 512) _ _ _ _ (lent .write-words .ensures) (omega (arith, start .pre))
 
 pub write-access-spec : {M : Type 1} → statement M
 write-access-spec =
