@@ -1,7 +1,7 @@
 -- Where the accesses of a sound state lie: in the slave's words, in the lent memory, in the master's part and words.
 -- Assumes nothing.
 use mathlib.Core.Path.{_≡_}
-use mathlib.Core.Bool.{true}
+use mathlib.Core.Bool.{true, false}
 use Prim.Native.Nat.{ℕ, _+_, _-_, _*_, _≤_, _<_}
 use native.Mathlib.Numerals.{add-one}
 use native.Mathlib.Omega.{arith}
@@ -9,16 +9,19 @@ use lib.ListN.{length}
 use Rattle.common_laws.proofs.Arithmetic.{product-le}
 use Rattle.description_board.specs.declared.Board.{Board}
 use Rattle.description_board.specs.Records.{masterAt, slaveAt, startOf, memoryLength}
+use Rattle.description_board.specs.Rules.{tooNarrow}
 use Rattle.description_board.specs.Legal.{Legal}
 use Rattle.description_board.proofs.RuleLaws.{burst-bound, span-bound}
+use Rattle.description_board.proofs.PairLaws.{pair-wide}
 use Rattle.description_board.proofs.StartLaws as board
 use Rattle.fabric_accesses.specs.declared.Transfer.{Transfer}
 use Rattle.fabric_accesses.specs.Accesses.{accesses}
 use Rattle.fabric_accesses.proofs.DecodeLaws.{span-of}
-use Rattle.fabric_accesses.proofs.AccessLaws.{width-pos, width-le, base-aligned, first-in-word, first-byte-within}
-use Rattle.fabric_accesses.proofs.AccessLaws.{word-within, in-word, ratio-le, accesses-le}
-use Rattle.fabric_accesses.proofs.PowerLaws.{legal-pair}
-use Rattle.fabric_bytes.specs.Bytes.{Store, bufferLength, memoryIndex}
+use Rattle.fabric_accesses.proofs.AlignmentLaws.{ratio-le}
+use Rattle.fabric_accesses.proofs.AccessLaws.{width-pos, width-le, base-aligned, first-byte-within, offset-within}
+use Rattle.fabric_accesses.proofs.AccessLaws.{word-within, in-word, accesses-le}
+use Rattle.fabric_accesses.proofs.PowerLaws.{legal-widths, legal-pair}
+use Rattle.fabric_bytes.specs.Bytes.{Store, bufferLength}
 use Rattle.fabric_bytes.specs.Code.Reaching.{Reached}
 use Rattle.fabric_state.specs.declared.State.{State}
 use Rattle.fabric_state.specs.Records.{transferAt}
@@ -38,6 +41,9 @@ module _ (b : Board) (legal : Legal b) (m s : ℕ) (t : Transfer) (known : m < b
   ends : t .address - slaveAt b s .base + t .beats * masterAt b m .width ≤ slaveAt b s .span
   ends = omega (arith, ok .low, ok .end)
 
+  wide : tooNarrow (masterAt b m) (slaveAt b s) ≡ false
+  wide = pair-wide b legal m s known (ok .within) (ok .shares)
+
   pub accepted-placed : Placed (masterAt b m) (slaveAt b s) t a
   accepted-placed =
       let wm = legal .master m known .width in
@@ -55,14 +61,13 @@ module _ (b : Board) (legal : Legal b) (m s : ℕ) (t : Transfer) (known : m < b
             (base-aligned (slaveAt b s .base) (slaveAt b s .span) (slaveAt b s .width) (sl .aligned) (sl .span) (sl .width));
         offset = omega (
           arith,
-          word-within (masterAt b m) (slaveAt b s) wm (sl .width) t a more ends span,
+          word-within (masterAt b m) (slaveAt b s) wm (sl .width) t a more wide ends span,
           width-pos (slaveAt b s .width) (sl .width),
         );
       }
 
   pub accepted-reached : (d : Store) → b .«master_count» ≤ 8 → length (d .memory) ≡ memoryLength b
       → length (d .buffer) ≡ bufferLength → Reached (masterAt b m) (slaveAt b s) t m (startOf b s) a d
-  unfolding memoryIndex
   accepted-reached d few p q =
       let wm = legal .master m known .width in
       let ws = legal .slave s (ok .within) .width in
@@ -74,10 +79,12 @@ module _ (b : Board) (legal : Legal b) (m s : ℕ) (t : Transfer) (known : m < b
         master = omega arith;
         buffer = q;
         part = omega arith;
-        address = ok .low;
-        memory = omega (arith, ends, board.end-inside b s (ok .within));
-        width = wm;
-        word = first-in-word (masterAt b m) (slaveAt b s) wm ws a;
+        wide = legal-widths (masterAt b m) (slaveAt b s) (legal .master m known) (legal .slave s (ok .within));
+        memory = omega (
+          arith,
+          offset-within (masterAt b m) (slaveAt b s) wm ws t a more wide ends,
+          board.end-inside b s (ok .within),
+        );
       }
 
 -- so is the access of a slave that serves after rule 1
