@@ -5,26 +5,27 @@ use lib.ListN.{length}
 use Rattle.common_laws.specs.Bytes.{bytesOf}
 use Rattle.common_laws.specs.Lists.{member, gather, table, sum}
 use Rattle.common_text.specs.Digits.{digitsIn, digits, fieldsText, lineText}
-use Rattle.description_board.specs.Records.{noBoard, connected, totalSpan, startOf, memoryLength}
-use Rattle.description_board.specs.Rules.{slaveValues, meets, overlaps, masterRefusal, slaveRefusal, shareRefusal, itemRefusal}
+use Rattle.description_board.specs.Records.{noBoard, isNative, connected, totalSpan, startOf, memoryLength}
+use Rattle.description_board.specs.Rules.{slaveValues, meets, overlaps, tooNarrow}
+use Rattle.description_board.specs.Rules.{masterRefusal, slaveRefusal, shareRefusal, itemRefusal}
 use Rattle.description_board.specs.Rules.{withMaster, withSlave, withShare, withItem, isShare}
 use Rattle.description_board.specs.Rules.{refused, start, taken, step, stepAll, finish}
 use Rattle.description_board.specs.Rules.{described}
 use Rattle.description_board.specs.Items.{masterItem, slaveItem, shareItem, items, boardRefusal}
-use Rattle.fabric_accesses.specs.Accesses.{ratio}
+use Rattle.fabric_accesses.specs.Alignment.{ratio}
 use Rattle.wait_turns.specs.Waits.{longestAccess, mostBeats, single, serve, turn, otherTurn, turnsOf, quotedWait, serveOf}
 use Rattle.wait_table.specs.Tables.{heading, pairLine, pairLines, tableText}
 use Rattle.wait_table.specs.Longest.{longestTable, largest}
 
 pub largest-accepted : boardRefusal largest ≡ 0
 unfolding
-    member gather table noBoard totalSpan startOf memoryLength slaveValues meets overlaps masterRefusal slaveRefusal
-    shareRefusal itemRefusal withMaster withSlave withShare withItem isShare refused start taken step stepAll finish described
-    masterItem slaveItem shareItem items boardRefusal largest
+    member gather table noBoard isNative totalSpan startOf memoryLength slaveValues meets overlaps tooNarrow masterRefusal
+    slaveRefusal shareRefusal itemRefusal withMaster withSlave withShare withItem isShare refused start taken step stepAll
+    finish described masterItem slaveItem shareItem items boardRefusal largest
 largest-accepted = refl
 
 pub largest-longest : length (tableText largest) ≡ longestTable
 unfolding
-    bytesOf gather table sum digitsIn digits fieldsText lineText connected ratio longestAccess mostBeats single serve turn
-    otherTurn turnsOf quotedWait serveOf heading pairLine pairLines tableText longestTable largest
+    bytesOf gather table sum digitsIn digits fieldsText lineText isNative connected ratio longestAccess mostBeats single serve
+    turn otherTurn turnsOf quotedWait serveOf heading pairLine pairLines tableText longestTable largest
 largest-longest = refl

@@ -11,12 +11,20 @@ unfoldable pub longestTable : ℕ
 longestTable = 24 + 8 * (10 * 19 + 6 * 20)
 
 -- an accepted board whose table has so many: the widest masters with the longest bursts and the most shares, at the narrowest
--- slaves with the longest waits
+-- slaves with bus sizing and the longest waits
 unfoldable pub largest : Board
 largest = record {
   «master_count» = 8;
   «slave_count» = 16;
   masters = replicate 8 (record { width = 8; burst = 64 });
-  slaves = table (λ s. record { base = 4096 * s; span = 4096; width = 1; burst = 64; «read_wait» = 255; «write_wait» = 255 }) 16;
+  slaves = table (λ s. record {
+    base = 4096 * s;
+    span = 4096;
+    width = 1;
+    burst = 64;
+    «read_wait» = 255;
+    «write_wait» = 255;
+    native = 0;
+  }) 16;
   shares = replicate 128 100;
 }
