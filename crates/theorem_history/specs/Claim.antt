@@ -8,13 +8,13 @@ use Prim.Native.Nat.{ℕ, _+_, _*_, _≤_, _<_}
 use lib.Dec.{eqb, ltb}
 use lib.ListN.{length, getD, take, drop}
 use Rattle.common_laws.specs.Bits.{bit}
-use Rattle.common_laws.specs.Lists.{some}
+use Rattle.common_laws.specs.Lists.{some, table}
 use Rattle.description_board.specs.declared.Board.{Board}
 use Rattle.description_board.specs.Records.{masterAt, slaveAt, connected, startOf, memoryLength}
 use Rattle.fabric_accesses.specs.Accesses.{ownLength}
 use Rattle.fabric_accesses.specs.Decoding.{targetOf}
 use Rattle.fabric_bytes.specs.Moving.{move}
-use Rattle.fabric_bytes.specs.Bytes.{Store, bufferLength, partOf, memoryIndex, enabled}
+use Rattle.fabric_bytes.specs.Bytes.{Store, bufferLength, partOf, memoryIndex, stores, byteRead}
 use Rattle.fabric_state.specs.declared.State.{State}
 use Rattle.fabric_state.specs.declared.Line.{Line}
 use Rattle.fabric_state.specs.declared.Clocked.{Clocked}
@@ -146,29 +146,32 @@ referenceAt memory = record {
 unfoldable pub bytesIn : Board → Request → ℕ
 bytesIn b q = q .beats * masterAt b (q .master) .width
 
--- rule 6.8: the index in memory of its first byte; the others follow it, beat behind beat
-unfoldable pub indexInMemory : Board → Request → ℕ
-indexInMemory b q = memoryIndex (slaveAt b (slaveFor b q)) (transferOf q) (startOf b (slaveFor b q))
-
--- rule 6.8: the bytes behind its step: a write has stored its words' bytes of enabled lanes, a read nothing
-unfoldable pub bytesAfter : Board → Request → List ℕ → List ℕ
-bytesAfter b q bytes =
+-- rule 6.8: the bytes behind the step of a request for slave s: a write has stored its words' bytes of enabled lanes, each where
+-- it lies in memory, a read nothing
+unfoldable pub bytesAfter : Board → ℕ → Request → List ℕ → List ℕ
+bytesAfter b s q bytes =
+    let ma = masterAt b (q .master) in
+    let sl = slaveAt b s in
+    let t = transferOf q in
     cond (q .write)
-    (move (enabled (masterAt b (q .master)) (transferOf q)) (q .words) 0 (indexInMemory b q) 0 (bytesIn b q) bytes)
+    (move (stores ma sl t) (λ i. getD (q .words) i 0) (memoryIndex ma sl t (startOf b s)) 0 (bytesIn b q) bytes)
     bytes
 
--- rule 6.8: the bytes that a read's step gives
-unfoldable pub given : Board → Request → List ℕ → List ℕ
-given b q bytes = take (bytesIn b q) (drop (indexInMemory b q) bytes)
+-- rule 6.8: the bytes that a read's step gives, one behind another
+unfoldable pub given : Board → ℕ → Request → List ℕ → List ℕ
+given b s q bytes =
+    table (byteRead (masterAt b (q .master)) (slaveAt b s) (transferOf q) (startOf b s) bytes) (bytesIn b q)
 
 -- rule 6.7: the step, whole, of the transfer of master m
 unfoldable pub stepped : Board → ℕ → Reference → Reference
-stepped b m r = record {
-  bytes = bytesAfter b (r .request m) (r .bytes);
-  request = r .request;
-  waiting = update (r .waiting) m false;
-  given = update (r .given) m (given b (r .request m) (r .bytes));
-}
+stepped b m r =
+    let q = r .request m in
+    record {
+      bytes = bytesAfter b (slaveFor b q) q (r .bytes);
+      request = r .request;
+      waiting = update (r .waiting) m false;
+      given = update (r .given) m (given b (slaveFor b q) q (r .bytes));
+    }
 
 -- rule 6.7: what one line makes of it: the step of its owner's transfer, where this is that one's first cycle
 unfoldable pub seen : Board → Line → Reference → Reference

@@ -21,7 +21,8 @@ use Rattle.description_board.proofs.RuleLaws.{width-bound, burst-bound, span-bo
 use Rattle.fabric_accesses.specs.declared.Transfer.{Transfer}
 use Rattle.fabric_lanes.specs.Lanes.{allLanes, lowest, adjacent, legalLanes, postLanes}
 use Rattle.fabric_accesses.specs.Decoding.{selects, targetOf}
-use Rattle.fabric_accesses.specs.Accesses.{ratio, waitOf, ownLength}
+use Rattle.fabric_accesses.specs.Alignment.{ratio}
+use Rattle.fabric_accesses.specs.Accesses.{waitOf, ownLength}
 use Rattle.fabric_accesses.proofs.AccessLaws.{base-aligned, accesses-full}
 use Rattle.fabric_accesses.proofs.SelectLaws.{selects-of, selects-target}
 use Rattle.fabric_state.specs.declared.State.{State}

@@ -2,15 +2,25 @@
 -- refused for its own part.
 -- Assumes nothing.
 use mathlib.Core.Path.{_≡_, _∙_}
+use mathlib.Core.Bool.{Bool, true, false, cond, not}
 use mathlib.Core.List.{List}
 use mathlib.Core.Logic.{_⊎_}
-use Prim.Native.Nat.{_≤_}
+use Prim.Native.Nat.{ℕ, _≤_}
+use native.Mathlib.Omega.{arith}
+use lib.Dec.{eqb, leb}
 use lib.ListN.{length}
 use Rattle.description_board.specs.declared.Board.{Board}
+use Rattle.description_board.specs.Records.{masterAt, slaveAt}
 use Rattle.description_board.specs.Items.{boardRefusal}
 use Rattle.description_board.specs.Legal.{Legal}
-use Rattle.fabric_state.specs.Posting.{Request, transferOf}
-use Rattle.fabric.specs.Calls.{World, postRefusal, post, clock}
+use Rattle.fabric_accesses.specs.Decoding.{targetOf}
+use Rattle.fabric_bytes.specs.Bytes.{bufferLength}
+use Rattle.fabric_state.specs.declared.State.{State}
+use Rattle.fabric_state.specs.Records.{transferAt}
+use Rattle.fabric_state.specs.Posting.{Request, transferOf, wrongBeats, unaligned, wrongLanes, unmapped, passesEnd}
+use Rattle.fabric_state.specs.Posting.{transferRefusalBy, transferRefusal}
+use Rattle.fabric_state.specs.Soundness.{sound}
+use Rattle.fabric.specs.Calls.{World, wrongWords, requestRefusal, postRefusalBy, postRefusal, post, clock}
 use Rattle.fabric.proofs.PostLaws as posts
 use Rattle.fabric.proofs.ClockLaws.{not-refused}
 use Rattle.fabric_state.proofs.SoundLaws.{sound-test}
@@ -18,6 +28,37 @@ use Rattle.theorem_history.specs.Claim.{Call, Start, Lent, History, afte
 use Rattle.theorem_history.proofs.Histories.CallCases.{TakesPost, TakesClock, clock-number}
 use Rattle.theorem_history.proofs.Histories.OnePost.{Taken}
 use Rattle.theorem_history.proofs.Histories.Standing.{Standing, start-checked, history-stands}
+
+-- a board that is not refused is not refused with 19 either: a post answers 18 at the most, whatever else it is handed
+at-most : (c : Bool) (n x : ℕ) → n ≤ 18 → x ≤ 18 → cond c n x ≤ 18
+at-most true n x p q = p
+at-most false n x p q = q
+
+module _ (b : Board) (ok : boardRefusal b ≡ 0) (st : State) (buffer : List ℕ) (q : Request) where
+  own-number : transferRefusal b (q .master) (transferOf q) ≤ 18
+  unfolding transferRefusal transferRefusalBy
+  own-number =
+      let ma = masterAt b (q .master) in
+      let t = transferOf q in
+      let k = targetOf b (q .master) (q .address) in
+      at-most (wrongBeats ma t) 13 _ (omega arith)
+      (at-most (unaligned ma t) 14 _ (omega arith)
+      (at-most (wrongLanes ma t) 15 _ (omega arith)
+      (at-most (unmapped k (b .«slave_count»)) 16 _ (omega arith)
+      (at-most (passesEnd ma (slaveAt b k) t) 17 0 (omega arith) (omega arith)))))
+
+  pub post-number : post b st buffer q .number ≤ 18
+  unfolding post postRefusal postRefusalBy requestRefusal
+  post-number =
+      let m = q .master in
+      let t = transferOf q in
+      at-most (not (eqb (boardRefusal b) 0)) (boardRefusal b) _ (omega (arith, ok))
+      (at-most (not (eqb (length buffer) bufferLength)) 8 _ (omega arith)
+      (at-most (not (sound b st)) 9 _ (omega arith)
+      (at-most (leb (b .«master_count») m) 11 _ (omega arith)
+      (at-most (transferAt st m .held) 12 _ (omega arith)
+      (at-most (not (eqb (transferRefusal b m t) 0)) (transferRefusal b m t) _ own-number
+      (at-most (wrongWords (masterAt b m) t (length (q .words))) 18 0 (omega arith) (omega arith)))))))
 
 module _ (b : Board) (legal : Legal b) where
   module _ (ok : boardRefusal b ≡ 0) (w : World) (x : Standing b w) where

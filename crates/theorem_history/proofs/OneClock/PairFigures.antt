@@ -16,7 +16,8 @@ use Rattle.description_board.specs.Records.{masterAt, slaveAt, sharesAt, connec
 use Rattle.description_board.specs.Legal.{Legal}
 use Rattle.description_board.proofs.RuleLaws.{width-bound, burst-bound, span-bound}
 use Rattle.fabric_accesses.specs.declared.Transfer.{Transfer}
-use Rattle.fabric_accesses.specs.Accesses.{ratio, waitOf, ownLength}
+use Rattle.fabric_accesses.specs.Alignment.{ratio}
+use Rattle.fabric_accesses.specs.Accesses.{waitOf, ownLength}
 use Rattle.fabric_accesses.proofs.AccessLaws.{accesses-le}
 use Rattle.fabric_state.proofs.RequestLaws.{Accepted}
 use Rattle.wait_turns.specs.Waits as waits

@@ -14,7 +14,9 @@ use Rattle.description_board.specs.declared.Board.{Board}
 use Rattle.description_board.specs.Records.{masterAt, slaveAt}
 use Rattle.description_board.specs.Legal.{Legal}
 use Rattle.description_board.proofs.RuleLaws.{width-bound, burst-bound}
+use Rattle.description_board.proofs.PairLaws.{pair-wide}
 use Rattle.description_board.proofs.StartLaws.{end-inside}
+use Rattle.fabric_accesses.proofs.AlignmentLaws.{byte-within}
 use Rattle.fabric_accesses.proofs.AccessLaws.{first-all}
 use Rattle.fabric_bytes.specs.Bytes.{Store, memoryIndex}
 use Rattle.fabric_bytes.proofs.MoveLaws.{less-or}
@@ -64,13 +66,20 @@ module _ (b : Board) (legal : Legal b) (st : State) (sound : Sound b st) where
       let burst = burst-bound (masterAt b m .burst) (legal .master m (h .0) .burst) in
       let width = width-bound (masterAt b m .width) (legal .master m (h .0) .width) in
       let beats : t .beats ≤ 64 = omega (arith, a .few, burst .1) in
+      let ma = masterAt b m in
+      let sl = slaveAt b k in
+      let wm = legal .master m (h .0) .width in
+      let ws = legal .slave k (a .within) .width in
+      let wide = pair-wide b legal m k (h .0) (a .within) (a .shares) in
       record {
         known = omega (arith, h .0, legal .fewMasters);
         few = mul-le-mul beats (width .1);
-        low = omega arith;
-        high = omega (arith, a .low, a .end);
+        placed = λ i h l. (
+          omega arith,
+          omega (arith, byte-within ma sl wm ws t wide (omega (arith, a .low, a .end)) i h l),
+        );
         inside = end-inside b k (a .within);
-        whole = first-all (masterAt b m) (slaveAt b k) (legal .master m (h .0) .width) (legal .slave k (a .within) .width) t;
+        whole = first-all ma sl wm ws t;
       }
 
   module _ (k : ℕ) (below : k < b .«slave_count») where

@@ -4,20 +4,20 @@
 use mathlib.Core.Path.{_≡_, refl, sym, ap, _∙_}
 use mathlib.Core.Bool.{Bool, true, false, cond, not, _&&_, true≢false}
 use mathlib.Core.List.{List}
-use mathlib.Core.Logic.{⊎-elim, _≢_}
+use mathlib.Core.Logic.{⊎-elim, inl, inr, _≢_}
 use Prim.Native.Nat.{ℕ, _+_, _*_, _≤_, _<_}
 use native.Mathlib.Omega.{arith}
 use lib.Dec.{eqb}
-use lib.ListN.{length, take, drop}
-use lib.Seq.{take-length}
+use lib.ListN.{length, getD, take, drop}
 use borrow.Author.Tests.{eq-eqb, ne-eqb}
 use Rattle.common_laws.specs.Bits.{bit}
+use Rattle.common_laws.proofs.FillLaws.{table-is}
 use Rattle.description_board.specs.declared.Board.{Board}
 use Rattle.description_board.specs.Records.{masterAt, startOf, memoryLength}
 use Rattle.description_board.specs.Legal.{Legal}
 use Rattle.fabric_accesses.specs.declared.Transfer.{Transfer}
 use Rattle.fabric_accesses.specs.Decoding.{targetOf}
-use Rattle.fabric_bytes.specs.Moving.{all}
+use Rattle.fabric_bytes.specs.Moving.{all, indexFrom}
 use Rattle.fabric_bytes.specs.Bytes.{Store, bufferLength, partOf, postedWords}
 use Rattle.fabric_bytes.proofs.MoveLaws.{equal-or, less-or}
 use Rattle.fabric_bytes.proofs.Ranges.{agree-refl, agree-sym, move-apart, front-moved}
@@ -105,8 +105,11 @@ module _
     other-master m h = record {
       part =
           agree-sym
-          (move-apart all (q .words) 0 (partOf (q .master)) 0 (length (q .words)) (partOf m) (partOf m + 512) (d .buffer)
-          (parts-apart (q .master) m 0 (length (q .words)) (λ e. h (sym e)) (omega (arith, words-few))));
+          (move-apart all (λ i. getD (q .words) i 0) (indexFrom (partOf (q .master))) 0 (length (q .words)) (partOf m)
+          (partOf m + 512) (d .buffer)
+          (λ i x y on.
+          ⊎-elim (λ z. inl (omega arith)) (λ z. inr (omega arith))
+          (parts-apart (q .master) m 0 (length (q .words)) (λ e. h (sym e)) (omega (arith, words-few)))));
       request = rw (ne-eqb m (q .master) h);
       waiting = rw (ne-eqb m (q .master) h);
       given = refl;
@@ -122,9 +125,9 @@ module _
           many = rw e (fresh .words);
           there =
               rw e
-              (front-moved (q .words) 0 (partOf (q .master)) (length (q .words)) (d .buffer)
-              (omega (arith, words-few, fresh .master, legal .fewMasters)) (omega arith)
-              ∙ take-length (q .words));
+              (front-moved (λ i. getD (q .words) i 0) (partOf (q .master)) (length (q .words)) (d .buffer)
+              (omega (arith, words-few, fresh .master, legal .fewMasters))
+              ∙ sym (table-is (λ i. getD (q .words) i 0) (length (q .words)) 0 (q .words) refl (λ i l. refl)));
         }
 
     module _ (k : ℕ) (x : Slot) (c : Right b (transferAt st) d r k x) where

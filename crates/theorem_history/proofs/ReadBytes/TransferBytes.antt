@@ -2,37 +2,41 @@
 -- that are still to come carried out too, the slave's span is that of the byte memory, and a read has brought what its step gave.
 -- Assumes nothing.
 use mathlib.Core.Path.{_≡_, refl, _∙_, sym}
-use mathlib.Core.Bool.{Bool, true, false, cond, true≢false}
+use mathlib.Core.Bool.{Bool, true, false, cond}
 use mathlib.Core.List.{List}
 use mathlib.Core.Logic.{⊎-elim, inl, inr, _≢_}
 use Prim.Native.Nat.{ℕ, _+_, _-_, _*_, _≤_, _<_}
-use native.Mathlib.Nat.{zero-add}
 use native.Mathlib.Omega.{arith}
 use lib.ListN.{length, getD}
 use borrow.Author.Tests.{eq-eqb}
+use Rattle.common_laws.specs.Lists.{table}
+use Rattle.common_laws.proofs.FrontLaws.{table-same}
 use Rattle.description_board.specs.declared.Board.{Board}
 use Rattle.description_board.specs.Records.{masterAt, slaveAt, startOf, memoryLength}
 use Rattle.fabric_accesses.specs.declared.Transfer.{Transfer}
-use Rattle.fabric_accesses.specs.Accesses.{accesses, accessBytes, firstByte}
+use Rattle.fabric_accesses.specs.Alignment.{accessBytes, hasLane}
+use Rattle.fabric_accesses.specs.Accesses.{accesses, firstByte}
 use Rattle.fabric_accesses.specs.Decoding.{targetOf}
 use Rattle.fabric_accesses.proofs.AccessLaws.{first-zero, first-next, first-le}
-use Rattle.fabric_bytes.specs.Moving.{move}
-use Rattle.fabric_bytes.specs.Bytes.{Store, bufferLength, partOf, enabled, memoryIndex, written, carriedAccess}
+use Rattle.fabric_bytes.specs.Moving.{bytesFrom, move}
+use Rattle.fabric_bytes.specs.Bytes.{Store, bufferLength, partOf, memoryIndex, stores, byteRead, written, fetched}
+use Rattle.fabric_bytes.specs.Bytes.{carriedBytes, carriedAccess}
 use Rattle.fabric_bytes.proofs.MoveLaws.{length-move}
-use Rattle.fabric_bytes.proofs.Ranges.{Agree, agree-refl, agree-sym, agree-trans, Apart, move-apart, move-agree, front, front-at}
-use Rattle.fabric_bytes.proofs.Ranges.{front-same, front-moved}
-use Rattle.fabric_bytes.proofs.StoreLaws.{length-memory, length-buffer, accessed-write, carry, accessed-carries, Alike}
-use Rattle.fabric_bytes.proofs.StoreLaws.{parts-apart, carry-none, carry-join, carry-memory, carry-buffer, carry-alike}
+use Rattle.fabric_bytes.proofs.Ranges.{Agree, agree-refl, agree-sym, agree-trans, Apart, Outside, move-apart, move-agree}
+use Rattle.fabric_bytes.proofs.Ranges.{front, front-at, front-same, front-moved}
+use Rattle.fabric_bytes.proofs.StoreLaws.{length-memory, length-buffer, stores-lane, read-same, Alike, carried-write}
+use Rattle.fabric_bytes.proofs.StoreLaws.{carried-read, carried-none, carried-join, carried-memory, carried-buffer}
+use Rattle.fabric_bytes.proofs.StoreLaws.{carried-alike, parts-apart}
 use Rattle.fabric_state.specs.Posting.{transferOf}
-use Rattle.theorem_history.specs.Claim.{Reference, slaveFor, bytesIn, indexInMemory, bytesAfter, given, stepped}
+use Rattle.theorem_history.specs.Claim.{Reference, slaveFor, bytesIn, bytesAfter, given, stepped}
 
 -- the bytes of the transfer t of master m
 abbrev pub bytesHeld : Board → ℕ → Transfer → ℕ
 bytesHeld b m t = t .beats * masterAt b m .width
 
--- the index in memory of its first byte, at slave k (rule 6.8), and of the end of that slave's span
-abbrev indexAt : Board → ℕ → Transfer → ℕ
-indexAt b k t = memoryIndex (slaveAt b k) t (startOf b k)
+-- the index in memory of its byte i, at slave k (rule 6.8), and of the end of that slave's span
+abbrev indexAt : Board → ℕ → ℕ → Transfer → ℕ → ℕ
+indexAt b k m t i = memoryIndex (masterAt b m) (slaveAt b k) t (startOf b k) i
 
 abbrev pub endOf : Board → ℕ → ℕ
 endOf b k = startOf b k + slaveAt b k .span
@@ -57,8 +61,8 @@ access-lengths b k m t a d = (
 pub record Lies (b : Board) (m k : ℕ) (t : Transfer) : Type 0 where
   pub known : m < 8
   pub few : bytesHeld b m t ≤ 512
-  pub low : startOf b k ≤ indexAt b k t
-  pub high : indexAt b k t + bytesHeld b m t ≤ endOf b k
+  pub placed : (i : ℕ) → i < bytesHeld b m t → hasLane (masterAt b m) (slaveAt b k) i ≡ true
+      → (startOf b k ≤ indexAt b k m t i) × (indexAt b k m t i < endOf b k)
   pub inside : endOf b k ≤ memoryLength b
   pub whole : firstByte (masterAt b m) (slaveAt b k) (accessesAt b k m t) ≡ bytesHeld b m t
 
@@ -73,7 +77,7 @@ pub record Asked (b : Board) (d : Store) (r : Reference) (m : ℕ) (t : Transfer
 unfoldable pub rest : Board → ℕ → ℕ → Transfer → ℕ → Store → Store
 rest b k m t a d =
     let first = firstByte (masterAt b m) (slaveAt b k) a in
-    carry (t .write) (enabled (masterAt b m) t) (partOf m) (indexAt b k t) first (bytesHeld b m t - first) d
+    carriedBytes (masterAt b m) (slaveAt b k) t m (startOf b k) first (bytesHeld b m t - first) d
 
 -- slave k has carried out a accesses of the transfer t of master m: with the rest carried out, the slave's span of the
 -- memory is that of the byte memory, and the front of the master's part is what a read gave
@@ -88,15 +92,22 @@ pub record Done (b : Board) (d : Store) (r : Reference) (k m : ℕ) (t : Transfe
   pub reads : t .write ≡ false → front (bytesHeld b m t) (partOf m) (d .buffer) ≡ r .given m
 
 module _ (b : Board) (k m : ℕ) (t : Transfer) (lies : Lies b m k t) where
-  -- its bytes, the index of the first of them in memory, and which of them are enabled
+  -- its bytes: how many, the index of each in memory, which of them a write stores, and what a read brings
   abbrev size : ℕ
   size = bytesHeld b m t
 
-  abbrev index : ℕ
-  index = indexAt b k t
+  abbrev index : ℕ → ℕ
+  index = memoryIndex (masterAt b m) (slaveAt b k) t (startOf b k)
 
   abbrev on : ℕ → Bool
-  on = enabled (masterAt b m) t
+  on = stores (masterAt b m) (slaveAt b k) t
+
+  abbrev brought : List ℕ → ℕ → ℕ
+  brought memory = byteRead (masterAt b m) (slaveAt b k) t (startOf b k) memory
+
+  -- so many of them from one on, moved
+  abbrev moved : ℕ → ℕ → Store → Store
+  moved from n d = carriedBytes (masterAt b m) (slaveAt b k) t m (startOf b k) from n d
 
   -- the first byte of access a, and the bytes of an access
   abbrev first : ℕ → ℕ
@@ -115,20 +126,20 @@ module _ (b : Board) (k m : ℕ) (t : Transfer) (lies : Lies b m k t) where
 
   rest-next : (a : ℕ) (d : Store) → a < accessesAt b k m t
       → rest b k m t (a + 1) (accessAt b k m t a d) ≡ rest b k m t a d
-  unfolding rest
+  unfolding rest carriedAccess
   rest-next a d h =
       let l = access-few a h in
       let e : each + (size - (first a + each)) ≡ size - first a = omega arith in
-      rw (accessed-carries, first-next (masterAt b m) (slaveAt b k) a)
-      (carry-join (t .write) on (partOf m) index (first a) each (size - (first a + each)) d ∙ rw e)
+      rw (first-next (masterAt b m) (slaveAt b k) a)
+      (carried-join (masterAt b m) (slaveAt b k) t m (startOf b k) (first a) each (size - (first a + each)) d ∙ rw e)
 
   rest-none : (a : ℕ) (d : Store) → a ≡ accessesAt b k m t → rest b k m t a d ≡ d
   unfolding rest
   rest-none a d e =
       let z : size - size ≡ 0 = omega arith in
-      rw (e, lies .whole, z) (carry-none (t .write) on (partOf m) index size d)
+      rw (e, lies .whole, z) (carried-none (masterAt b m) (slaveAt b k) t m (startOf b k) size d)
 
-  rest-whole : (d : Store) → rest b k m t 0 d ≡ carry (t .write) on (partOf m) index 0 size d
+  rest-whole : (d : Store) → rest b k m t 0 d ≡ moved 0 size d
   unfolding rest
   rest-whole d =
       let z : size - 0 ≡ size = omega arith in
@@ -147,35 +158,36 @@ module _ (b : Board) (k m : ℕ) (t : Transfer) (lies : Lies b m k t) where
       record { range = rw (rest-none a d e) at (s .range); reads = λ f. rw (rest-none a d e) at (s .reads f) }
 
   -- what lies apart from the slave's span lies apart from the transfer's bytes
-  apart-from : (lo hi i n : ℕ) → i + n ≤ size → Apart (startOf b k) (endOf b k) lo hi → Apart (index + i) (index + (i + n)) lo hi
-  apart-from lo hi i n h p =
-      let x = lies .low in
-      let y = lies .high in
+  apart-from : (lo hi i : ℕ) → i < size → hasLane (masterAt b m) (slaveAt b k) i ≡ true → Apart (startOf b k) (endOf b k) lo hi
+      → Outside (index i) lo hi
+  apart-from lo hi i h l p =
+      let x = lies .placed i h l in
       ⊎-elim (λ (u : endOf b k ≤ lo). inl (omega arith)) (λ (u : hi ≤ startOf b k). inr (omega arith)) p
 
   -- an access changes neither another slave's span nor another master's part
   pub access-memory : (a : ℕ) (d : Store) → a < accessesAt b k m t → (lo hi : ℕ) → Apart (startOf b k) (endOf b k) lo hi
       → Agree lo hi (accessAt b k m t a d .memory) (d .memory)
+  unfolding carriedAccess
   access-memory a d h lo hi p =
-      rw accessed-carries
-      (carry-memory (t .write) on (partOf m) index (first a) each lo hi d (apart-from lo hi (first a) each (access-few a h) p))
+      carried-memory (masterAt b m) (slaveAt b k) t m (startOf b k) (first a) each lo hi d
+      (λ i x y l. apart-from lo hi i (omega (arith, access-few a h)) l p)
 
   pub access-buffer : (a : ℕ) (d : Store) → a < accessesAt b k m t → (j : ℕ) → m ≢ j
       → Agree (partOf j) (partOf j + 512) (accessAt b k m t a d .buffer) (d .buffer)
+  unfolding carriedAccess
   access-buffer a d h j q =
-      rw accessed-carries
-      (carry-buffer (t .write) on (partOf m) index (first a) each (partOf j) (partOf j + 512) d
-      (parts-apart m j (first a) each q (omega (arith, access-few a h, lies .few))))
+      carried-buffer (masterAt b m) (slaveAt b k) t m (startOf b k) (first a) each (partOf j) (partOf j + 512) d
+      (parts-apart m j (first a) each q (omega (arith, access-few a h, lies .few)))
 
   -- nor its own master's words
   pub asked-accessed : (a : ℕ) (d : Store) (r : Reference) → Asked b d r m t → Asked b (accessAt b k m t a d) r m t
-  unfolding written
+  unfolding carriedAccess written
   asked-accessed a d r h =
       record { master = h .master; transfer = h .transfer; many = h .many; there = go (t .write) refl }
     where
       go : (w : Bool) → t .write ≡ w
           → front (length (r .request m .words)) (partOf m) (accessAt b k m t a d .buffer) ≡ r .request m .words
-      go true e = rw (accessed-write (masterAt b m) (slaveAt b k) t m (startOf b k) a d e) (h .there)
+      go true e = rw (carried-write (masterAt b m) (slaveAt b k) t m (startOf b k) (first a) each d e) (h .there)
       go false e =
           let z : length (r .request m .words) ≡ 0 = h .many ∙ rw e in
           rw z (rw z at (h .there))
@@ -189,12 +201,10 @@ module _ (b : Board) (k m : ℕ) (t : Transfer) (lies : Lies b m k t) where
   unfolding rest
   served-kept a d e r s h y g v =
       let l = first-few a (v .done) in
-      let p = lies .low in
-      let q = lies .high in
       let x = lies .few in
       let z =
-      carry-alike (t .write) on (partOf m) index (first a) (size - first a) (startOf b k) (endOf b k) (partOf m)
-      (partOf m + 512) (omega arith) (omega arith) (omega arith) (omega arith) h in
+      carried-alike (masterAt b m) (slaveAt b k) t m (startOf b k) (first a) (size - first a) (startOf b k) (endOf b k)
+      (partOf m) (partOf m + 512) (λ i p q. lies .placed i (omega arith)) (omega arith) (omega arith) h in
       record {
         done = v .done;
         range = agree-trans (agree-sym (z .memory)) (agree-trans (v .range) y);
@@ -206,73 +216,101 @@ module _ (b : Board) (k m : ℕ) (t : Transfer) (lies : Lies b m k t) where
 
   -- ---- the first cycle: the whole step is taken on the byte memory
 
-  whole-step : (write : Bool) (lanes : ℕ → Bool) (d : Store) (words bytes : List ℕ) → length (d .memory) ≡ length bytes
+  -- what the step leaves of the byte memory
+  abbrev stepWhole : List ℕ → List ℕ → List ℕ
+  stepWhole words bytes = cond (t .write) (move on (λ i. getD words i 0) index 0 size bytes) bytes
+
+  whole-step : (d : Store) (words bytes : List ℕ) → length (d .memory) ≡ length bytes
       → Agree (startOf b k) (endOf b k) (d .memory) bytes
-      → (write ≡ true → (i : ℕ) → i < size → getD (d .buffer) (partOf m + i) 0 ≡ getD words i 0)
-      → Agree (startOf b k) (endOf b k) (carry write lanes (partOf m) index 0 size d .memory)
-      (cond write (move lanes words 0 index 0 size bytes) bytes)
-  unfolding carry
-  whole-step true lanes d words bytes l g h =
-      move-agree lanes (d .buffer) words (partOf m) 0 index 0 size (startOf b k) (endOf b k) l g
-      (λ i x y. rw zero-add (h refl i (omega arith)))
-  whole-step false lanes d words bytes l g h = g
+      → (t .write ≡ true → (i : ℕ) → i < size → getD (d .buffer) (partOf m + i) 0 ≡ getD words i 0)
+      → Agree (startOf b k) (endOf b k) (moved 0 size d .memory) (stepWhole words bytes)
+  unfolding carriedBytes written fetched
+  whole-step d words bytes l g h = go (t .write) h
+    where
+      go : (w : Bool) → (w ≡ true → (i : ℕ) → i < size → getD (d .buffer) (partOf m + i) 0 ≡ getD words i 0)
+          → Agree (startOf b k) (endOf b k)
+          (cond w (written (masterAt b m) (slaveAt b k) t m (startOf b k) 0 size d)
+          (fetched (masterAt b m) (slaveAt b k) t m (startOf b k) 0 size d) .memory)
+          (cond w (move on (λ i. getD words i 0) index 0 size bytes) bytes)
+      go true h =
+          move-agree on (bytesFrom (d .buffer) (partOf m)) (λ i. getD words i 0) index 0 size (startOf b k) (endOf b k) l g
+          (λ i x y. h refl i (omega arith))
+      go false h = g
 
-  whole-length : (write : Bool) (lanes : ℕ → Bool) (words bytes : List ℕ)
-      → length (cond write (move lanes words 0 index 0 size bytes) bytes) ≡ length bytes
-  whole-length true lanes words bytes = length-move lanes words 0 index 0 size bytes
-  whole-length false lanes words bytes = refl
+  whole-length : (words bytes : List ℕ) → length (stepWhole words bytes) ≡ length bytes
+  whole-length words bytes = go (t .write)
+    where
+      go : (w : Bool) → length (cond w (move on (λ i. getD words i 0) index 0 size bytes) bytes) ≡ length bytes
+      go true = length-move on (λ i. getD words i 0) index 0 size bytes
+      go false = refl
 
-  whole-apart : (lo hi : ℕ) → Apart (startOf b k) (endOf b k) lo hi → (write : Bool) (lanes : ℕ → Bool) (words bytes : List ℕ)
-      → Agree lo hi (cond write (move lanes words 0 index 0 size bytes) bytes) bytes
-  whole-apart lo hi h true lanes words bytes =
-      move-apart lanes words 0 index 0 size lo hi bytes (apart-from lo hi 0 size (omega arith) h)
-  whole-apart lo hi h false lanes words bytes = agree-refl lo hi bytes
+  whole-apart : (lo hi : ℕ) → Apart (startOf b k) (endOf b k) lo hi → (words bytes : List ℕ)
+      → Agree lo hi (stepWhole words bytes) bytes
+  whole-apart lo hi h words bytes = go (t .write)
+    where
+      go : (w : Bool) → Agree lo hi (cond w (move on (λ i. getD words i 0) index 0 size bytes) bytes) bytes
+      go true =
+          move-apart on (λ i. getD words i 0) index 0 size lo hi bytes
+          (λ i p q l. apart-from lo hi i (omega arith) (stores-lane (masterAt b m) (slaveAt b k) t i l) h)
+      go false = agree-refl lo hi bytes
 
-  whole-front : (write : Bool) (lanes : ℕ → Bool) (d : Store) → length (d .memory) ≡ memoryLength b
-      → length (d .buffer) ≡ bufferLength → write ≡ false
-      → front size (partOf m) (carry write lanes (partOf m) index 0 size d .buffer) ≡ front size index (d .memory)
-  unfolding carry
-  whole-front true lanes d l f e = absurd (true≢false e)
-  whole-front false lanes d l f e =
+  whole-front : (d : Store) → length (d .buffer) ≡ bufferLength → t .write ≡ false
+      → front size (partOf m) (moved 0 size d .buffer) ≡ table (brought (d .memory)) size
+  unfolding fetched
+  whole-front d f e =
       let x = lies .few in
-      let y = lies .high in
-      let z = lies .inside in
       let w = lies .known in
-      front-moved (d .memory) index (partOf m) size (d .buffer) (omega arith) (omega arith)
+      rw (carried-read (masterAt b m) (slaveAt b k) t m (startOf b k) 0 size d e)
+      (front-moved (brought (d .memory)) (partOf m) size (d .buffer) (omega arith))
+
+  -- a read brings the same from memories that agree on the slave's span
+  brought-same : (d e : List ℕ) → Agree (startOf b k) (endOf b k) d e → table (brought d) size ≡ table (brought e) size
+  brought-same d e g =
+      table-same (brought d) (brought e) size
+      (λ i h.
+      read-same (masterAt b m) (slaveAt b k) t (startOf b k) d e i
+      (λ l. let x = lies .placed i h l in g .same (index i) (x .0) (x .1)))
 
   module _ (d : Store) (r : Reference) (asked : Asked b d r m t) (target : targetOf b m (t .address) ≡ k) where
     pub bytes-in : bytesIn b (r .request m) ≡ size
     unfolding bytesIn
     bytes-in = λ i. asked .transfer i .beats * masterAt b (asked .master i) .width
 
-    index-of : indexInMemory b (r .request m) ≡ indexAt b k t
-    unfolding indexInMemory slaveFor
-    index-of =
-        let e : indexInMemory b (r .request m) ≡ indexAt b (targetOf b m (t .address)) t =
-        λ i. indexAt b (targetOf b (asked .master i) (asked .transfer i .address)) (asked .transfer i) in
-        e ∙ rw target
+    for-slave : slaveFor b (r .request m) ≡ k
+    unfolding slaveFor
+    for-slave =
+        let e : slaveFor b (r .request m) ≡ targetOf b m (t .address) =
+        λ i. targetOf b (asked .master i) (asked .transfer i .address) in
+        e ∙ target
 
-    step-bytes : bytesAfter b (r .request m) (r .bytes)
-        ≡ cond (t .write) (move on (r .request m .words) 0 index 0 size (r .bytes)) (r .bytes)
+    -- what the request's step leaves, and gives
+    abbrev bytesThen : List ℕ
+    bytesThen = bytesAfter b (slaveFor b (r .request m)) (r .request m) (r .bytes)
+
+    step-bytes : bytesThen ≡ stepWhole (r .request m .words) (r .bytes)
     unfolding bytesAfter
     step-bytes =
-        rw (bytes-in, index-of)
+        rw (bytes-in, for-slave)
         (λ i.
-        cond (asked .transfer i .write)
-        (move (enabled (masterAt b (asked .master i)) (asked .transfer i)) (r .request m .words) 0 index 0 size
+        let ma = masterAt b (asked .master i) in
+        let u = asked .transfer i in
+        cond (u .write)
+        (move (stores ma (slaveAt b k) u) (λ j. getD (r .request m .words) j 0) (memoryIndex ma (slaveAt b k) u (startOf b k)) 0
+        size (r .bytes))
         (r .bytes))
-        (r .bytes))
 
-    pub step-length : length (bytesAfter b (r .request m) (r .bytes)) ≡ length (r .bytes)
-    step-length = rw step-bytes (whole-length (t .write) on (r .request m .words) (r .bytes))
+    pub step-length : length bytesThen ≡ length (r .bytes)
+    step-length = rw step-bytes (whole-length (r .request m .words) (r .bytes))
 
-    pub step-apart : (lo hi : ℕ) → Apart (startOf b k) (endOf b k) lo hi
-        → Agree lo hi (bytesAfter b (r .request m) (r .bytes)) (r .bytes)
-    step-apart lo hi h = rw step-bytes (whole-apart lo hi h (t .write) on (r .request m .words) (r .bytes))
+    pub step-apart : (lo hi : ℕ) → Apart (startOf b k) (endOf b k) lo hi → Agree lo hi bytesThen (r .bytes)
+    step-apart lo hi h = rw step-bytes (whole-apart lo hi h (r .request m .words) (r .bytes))
 
-    step-given : given b (r .request m) (r .bytes) ≡ front size index (r .bytes)
+    step-given : given b (slaveFor b (r .request m)) (r .request m) (r .bytes) ≡ table (brought (r .bytes)) size
     unfolding given
-    step-given = rw (bytes-in, index-of)
+    step-given =
+        rw (bytes-in, for-slave)
+        (λ i.
+        table (byteRead (masterAt b (asked .master i)) (slaveAt b k) (asked .transfer i) (startOf b k) (r .bytes)) size)
 
     words-there : t .write ≡ true → (i : ℕ) → i < size
         → getD (d .buffer) (partOf m + i) 0 ≡ getD (r .request m .words) i 0
@@ -287,9 +325,8 @@ module _ (b : Board) (k m : ℕ) (t : Transfer) (lies : Lies b m k t) where
     served-begins l f n g = record {
       done = omega arith;
       range = rw (rest-whole, step-bytes)
-          (whole-step (t .write) on d (r .request m .words) (r .bytes) (l ∙ sym n) g words-there);
+          (whole-step d (r .request m .words) (r .bytes) (l ∙ sym n) g words-there);
       reads = λ e.
           rw (rest-whole, eq-eqb m m refl, step-given)
-          (whole-front (t .write) on d l f e
-          ∙ front-same size index (startOf b k) (endOf b k) (l ∙ sym n) g (lies .low) (lies .high));
+          (whole-front d f e ∙ brought-same (d .memory) (r .bytes) g);
     }
