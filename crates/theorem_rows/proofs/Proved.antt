@@ -1,4 +1,4 @@
--- Every example of Rows and of Examples holds: each side computes to the same.
+-- Every example of Rows, Examples and NativeRows holds: each side computes to the same.
 -- Assumes nothing.
 use mathlib.Core.Path.{refl}
 use lib.Count.{ones, onesIn, trailingZeros}
@@ -8,8 +8,9 @@ use Rattle.common_laws.specs.Lists.{member, same, gather, table, sum, every, so
 use Rattle.common_text.specs.Fields.{push, split, isDigit, scan, shaped, numberOf, numberRefusal, numberValue, noNumbers}
 use Rattle.common_text.specs.Fields.{withNumber, collect, numbersOf}
 use Rattle.common_text.specs.Digits.{digitsIn, digits, fieldsText, lineText}
-use Rattle.description_board.specs.Records.{noBoard, connected, totalSpan, startOf, memoryLength}
-use Rattle.description_board.specs.Rules.{slaveValues, meets, overlaps, masterRefusal, slaveRefusal, shareRefusal, itemRefusal}
+use Rattle.description_board.specs.Records.{isNative, noBoard, connected, totalSpan, startOf, memoryLength}
+use Rattle.description_board.specs.Rules.{slaveValues, meets, overlaps, masterRefusal, slaveRefusal, tooNarrow, shareRefusal}
+use Rattle.description_board.specs.Rules.{itemRefusal}
 use Rattle.description_board.specs.Rules.{withMaster, withSlave, withShare, withItem, isShare, refused, start, taken, step}
 use Rattle.description_board.specs.Rules.{stepAll, finish, described}
 use Rattle.description_board.specs.Items.{masterItem, slaveItem, shareItem, items, boardRefusal}
@@ -20,13 +21,14 @@ use Rattle.description_lines.specs.Reader.{itemsOf}
 use Rattle.description.specs.Reader.{mostBytes, reading, readText}
 use Rattle.fabric_lanes.specs.Lanes.{lowest, adjacent, legalLanes, postLanes}
 use Rattle.fabric_accesses.specs.Decoding.{agrees, selects, targetOf}
-use Rattle.fabric_accesses.specs.Accesses.{ratio, accesses, accessBytes, firstByte, accessOffset, wordOffset, writeLanes}
+use Rattle.fabric_accesses.specs.Alignment.{ratio, laneBytes, accessBytes, hasLane, byteOffset}
+use Rattle.fabric_accesses.specs.Accesses.{accesses, firstByte, accessOffset, wordOffset, writeLanes}
 use Rattle.fabric_accesses.specs.Accesses.{slaveLanes, waitOf, ownLength}
 use Rattle.fabric_accesses.specs.Runs.{runLimit, placeOf, runOf}
 use Rattle.fabric_arbiter.specs.Choosing.{nextMaster, tried, firstRequester}
 use Rattle.fabric_arbiter.specs.Granting.{kept, grantTo, granted, arbiterAfter}
 use Rattle.fabric_bytes.specs.Moving.{move}
-use Rattle.fabric_bytes.specs.Bytes.{postedWords, enabled, memoryIndex, written, fetched, carriedAccess}
+use Rattle.fabric_bytes.specs.Bytes.{postedWords, memoryIndex, stores, byteRead, written, fetched, carriedBytes, carriedAccess}
 use Rattle.fabric_state.specs.Records.{noState}
 use Rattle.fabric_state.specs.Posting.{wrongBeats, unaligned, wrongLanes, unmapped, passesEnd, transferRefusalBy, transferRefusal}
 use Rattle.fabric_state.specs.Posting.{withTransfer}
@@ -45,16 +47,19 @@ use Rattle.wait.specs.Answers.{bytes64, pairBytes, pairRefusal, waitRefusal, wa
 use Rattle.wait_table.specs.Tables.{heading, pairLine, pairLines, tableText, tableOf, refusedText, printed}
 use Rattle.theorem_rows.specs.RowCalls.{runs, started, lineNow, phases, grants}
 use Rattle.theorem_rows.specs.Examples.{readAnswers, slaveAnswers, Examples}
+use Rattle.theorem_rows.specs.NativeRows.{nativeText, nativeBoard, nativeStart, clockedWith, shownWith, nativeAnswers}
+use Rattle.theorem_rows.specs.NativeRows.{joined, NativeRows}
 use Rattle.theorem_rows.specs.Rows.{boardText, sharesText, tableOutput, Rows}
 
--- one list of definitions for both tables, crate by crate
-proved : Rows × Examples
+-- one list of definitions for all tables, crate by crate
+proved : Rows × Examples × NativeRows
 unfolding
     ones onesIn trailingZeros
     bytesOf bit member same gather table sum every some firstFrom first
     push split isDigit scan shaped numberOf numberRefusal numberValue noNumbers withNumber collect numbersOf digitsIn digits
     fieldsText lineText
-    noBoard connected totalSpan startOf memoryLength slaveValues meets overlaps masterRefusal slaveRefusal shareRefusal
+    isNative noBoard connected totalSpan startOf memoryLength slaveValues meets overlaps masterRefusal slaveRefusal tooNarrow
+    shareRefusal
     itemRefusal withMaster withSlave withShare withItem isShare refused start taken step stepAll finish described masterItem
     slaveItem shareItem items boardRefusal
     itemText itemsText
@@ -62,10 +67,11 @@ unfolding
     masterLine slaveLine shareLine itemOfFields itemOf unended itemsOfPieces itemsOf
     mostBytes reading readText
     lowest adjacent legalLanes postLanes
-    agrees selects targetOf ratio accesses accessBytes firstByte accessOffset wordOffset writeLanes slaveLanes waitOf ownLength
+    agrees selects targetOf ratio laneBytes accessBytes hasLane byteOffset accesses firstByte accessOffset wordOffset writeLanes
+    slaveLanes waitOf ownLength
     runLimit placeOf runOf
     nextMaster tried firstRequester kept grantTo granted arbiterAfter
-    move postedWords enabled memoryIndex written fetched carriedAccess
+    move postedWords memoryIndex stores byteRead written fetched carriedBytes carriedAccess
     noState wrongBeats unaligned wrongLanes unmapped passesEnd transferRefusalBy transferRefusal withTransfer requests
     soundTransfer soundOwner soundRemaining soundService soundRest soundSlotBy soundSlot sound grantAt slotBy slotGranted
     slotAfterGrant lineOf waits slotWaiting slotAccessed slotFinished served stepOf lineAfter slotAfter finishes finished maskOf
@@ -77,6 +83,7 @@ unfolding
     quoteRefusal quoteOf bytes64 pairBytes pairRefusal waitRefusal waitOutput
     heading pairLine pairLines tableText tableOf refusedText printed
     runs started lineNow phases grants readAnswers slaveAnswers boardText sharesText tableOutput
+    nativeText nativeBoard nativeStart clockedWith shownWith nativeAnswers joined
 proved = (
   record {
     sixteen = refl;
@@ -113,6 +120,26 @@ proved = (
     quotedMaster = refl;
     quotedSlave = refl;
   },
+  record {
+    word = refl;
+    wordBytes = refl;
+    burst = refl;
+    burstBytes = refl;
+    noLane = refl;
+    noByte = refl;
+    twoLanes = refl;
+    twoBytes = refl;
+    lastWord = refl;
+    pastEnd = refl;
+    narrow = refl;
+    asWide = refl;
+    lentNarrow = refl;
+    lentWide = refl;
+    lentSized = refl;
+    sixNumbers = refl;
+    two = refl;
+    figures = refl;
+  },
 )
 
 pub rows : Rows
@@ -120,3 +147,6 @@ rows = proved .0
 
 pub examples : Examples
 examples = proved .1
+
+pub native-rows : NativeRows
+native-rows = proved .2

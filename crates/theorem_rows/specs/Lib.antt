@@ -1,3 +1,4 @@
 pub mod Rows
 pub mod Examples
 pub mod RowCalls
+pub mod NativeRows
