@@ -17,10 +17,15 @@ use common_numbers::NOT_CONNECTED;
 use common_numbers::OVERLAP;
 use common_numbers::PAST_END;
 use common_numbers::SHORT_OUTPUT;
+use common_numbers::SLAVE_FIELDS;
 use common_numbers::SPAN_TOTAL;
+use common_numbers::TOO_NARROW;
 use description::Refusal;
 use libc::STDERR_FILENO;
 use libc::STDOUT_FILENO;
+
+// The commas of a slave line that lacks its last number.
+const OLD_SLAVE_COMMAS: u32 = SLAVE_FIELDS as u32 - 1;
 
 fn say_decimal(fd: i32, n: u64) -> bool {
     let mut digits = [0u8; 20];
@@ -36,7 +41,7 @@ fn say_of_text(fd: i32, number: u32) -> bool {
     }
 }
 
-// Refusals 1 to 7 where a line is to blame.
+// Refusals 1 to 7 and 19 where a line is to blame.
 fn say_of_line(fd: i32, number: u32) -> bool {
     match number {
         BAD_TEXT => program_streams::write_all(
@@ -48,6 +53,7 @@ fn say_of_line(fd: i32, number: u32) -> bool {
         BAD_BASE => program_streams::write_all(fd, b"base no multiple of span"),
         OVERLAP => program_streams::write_all(fd, b"slave overlaps an earlier one"),
         SPAN_TOTAL => program_streams::write_all(fd, b"spans total over 65536"),
+        TOO_NARROW => program_streams::write_all(fd, b"master narrower than native slave"),
         _ => program_streams::write_all(
             fd,
             b"share line names no master or slave, or a pair twice",
@@ -79,9 +85,9 @@ fn say_of_call(fd: i32, number: u32) -> bool {
     }
 }
 
-// A number by itself: of 1 and 2 both kinds of cause.
+// A number by itself: of 1 and 2 both kinds of cause. 19 came behind the numbers of the calls, and is a line's.
 fn say_number(fd: i32, number: u32) -> bool {
-    if BAD_SHARE < number {
+    if (BAD_SHARE < number) & (number != TOO_NARROW) {
         return say_of_call(fd, number);
     }
     if number <= BAD_ORDER {
@@ -105,9 +111,72 @@ pub fn explain_number(number: u32) {
     program_streams::write_all(STDERR_FILENO, b"\n");
 }
 
+// The commas of a line of the text, which is charged and so has a number from 1 on; no more than 255 are counted.
+fn commas_on(text: &[u8], line: usize) -> u32 {
+    let mut ahead = line;
+    let mut commas: u32 = 0;
+    for i in 0..text.len() {
+        if (text[i] == b',') & (ahead == 1) {
+            if commas < 255 {
+                commas += 1;
+            }
+        }
+        if text[i] == b'\n' {
+            if 0 < ahead {
+                ahead -= 1;
+            }
+        }
+    }
+    commas
+}
+
+// Where that line begins.
+fn line_start(text: &[u8], line: usize) -> usize {
+    let mut ahead = line;
+    let mut start: usize = 0;
+    for i in 0..text.len() {
+        if text[i] == b'\n' {
+            if 1 < ahead {
+                ahead -= 1;
+                start = i + 1;
+            }
+        }
+    }
+    start
+}
+
+// Whether a line begins like a slave line; a share line has another second letter.
+fn begins_slave(line: &[u8]) -> bool {
+    if line.len() < 2 {
+        return false;
+    }
+    (line[0] == b's') & (line[1] == b'l')
+}
+
+// Whether the line at index start is a slave line without its last number, as in descriptions that were written before there was
+// that number.
+fn lacks_native(text: &[u8], start: usize, commas: u32) -> bool {
+    if start > text.len() {
+        return false;
+    }
+    begins_slave(&text[start..]) & (commas == OLD_SLAVE_COMMAS)
+}
+
+fn say_of_old_line(text: &[u8], r: Refusal) {
+    if r.number != BAD_TEXT {
+        return;
+    }
+    if lacks_native(text, line_start(text, r.line), commas_on(text, r.line)) {
+        program_streams::write_all(
+            STDERR_FILENO,
+            b"; a slave line has 7 numbers, the last is native: 0 bus sizing, 1 native alignment",
+        );
+    }
+}
+
 // One line on standard error, as `line 3: refusal 4: base no multiple of span`. Of 1 and 2 the cause is told by whether a line is
 // charged.
-pub fn explain(r: Refusal) {
+pub fn explain(text: &[u8], r: Refusal) {
     if r.line == 0 {
         say_refusal(r.number);
         say_of_text(STDERR_FILENO, r.number);
@@ -117,6 +186,7 @@ pub fn explain(r: Refusal) {
         program_streams::write_all(STDERR_FILENO, b": ");
         say_refusal(r.number);
         say_of_line(STDERR_FILENO, r.number);
+        say_of_old_line(text, r);
     }
     program_streams::write_all(STDERR_FILENO, b"\n");
 }
@@ -138,6 +208,11 @@ pub fn list(fd: i32, last: u32) -> bool {
         }
     }
     true
+}
+
+// The same for the numbers that a description is refused with.
+pub fn list_of_text(fd: i32) -> bool {
+    list(fd, BAD_SHARE) && say_entry(fd, TOO_NARROW)
 }
 
 // What a program prints of a description that is refused.

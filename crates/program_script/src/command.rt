@@ -71,7 +71,7 @@ const FIELDS: [[u8; LETTERS]; KINDS] = [
     *b"mffwbb     ",
     *b"cbbfhb     ",
     *b"mbb        ",
-    *b"cwwbbbb    ",
+    *b"cwwbbbbw   ",
     *b"mcb        ",
     *b"bb         ",
     *b"           ",

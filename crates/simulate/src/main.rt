@@ -34,7 +34,7 @@ fn refuse(path: &[u8], text: &[u8]) {
     io::write_all(STDERR_FILENO, b"simulate: ");
     io::write_all(STDERR_FILENO, path);
     io::write_all(STDERR_FILENO, b": ");
-    program_refusals::explain(r);
+    program_refusals::explain(text, r);
 }
 
 // Obeys the script on the board that a text describes.

@@ -1,6 +1,5 @@
 // Reads a description on standard input, and prints its table, or its refusal, on standard output. What the refusal means goes
 // to standard error: standard output is read by other programs.
-use common_numbers::BAD_SHARE;
 use common_numbers::TEXT_ROOM;
 ghost use Prim.Native.Nat.{_<_};
 ghost use lib.ListN.{length};
@@ -11,14 +10,13 @@ use libc::STDIN_FILENO;
 use libc::STDOUT_FILENO;
 use program_options::Mode;
 
-// The refusals up to BAD_SHARE are a description's.
 fn usage(fd: i32) -> bool {
     program_streams::write_all(fd, b"usage: table < BOARD\n")
         && program_streams::write_all(
             fd,
             b"Prints master,slave,wait,serve of every connected pair, or refused, and a number:\n",
         )
-        && program_refusals::list(fd, BAD_SHARE)
+        && program_refusals::list_of_text(fd)
 }
 
 fn help() {
@@ -30,7 +28,7 @@ fn explain(text: &[u8]) {
     let r = description::refused_at(text);
     if r.number != 0 {
         io::write_all(STDERR_FILENO, b"table: ");
-        program_refusals::explain(r);
+        program_refusals::explain(text, r);
     }
 }
 
