@@ -2,7 +2,7 @@
 //! code is put into the caller's, and nothing that they write is left out because nobody looks at it.
 
 /// Board, state and lines: the numbers of the header's structs, in their order.
-pub const BOARD: usize = 242;
+pub const BOARD: usize = 258;
 pub const STATE: usize = 120;
 pub const LINES: usize = 96;
 

@@ -24,9 +24,16 @@ pub struct Slave {
     pub burst: u8,
     pub read_wait: u8,
     pub write_wait: u8,
+    /// 0 for bus sizing, 1 for native alignment; a board set by hand may have any number, and it is refused as it stands.
+    pub native: u32,
 }
 
 impl Slave {
+    /// Whether word k of the slave is word k of the master, whatever the two widths.
+    pub fn is_native(&self) -> bool {
+        self.native == 1
+    }
+
     /// The clocks that each access of this direction waits.
     pub fn wait(&self, write: bool) -> u8 {
         if write {
@@ -66,11 +73,16 @@ impl Board {
             .flat_map(move |master| (0..slaves).map(move |slave| (master, slave)))
     }
 
-    /// The accesses of one beat: more than 1 only for a master wider than the slave.
+    /// Whether bytes of the slave's word would have no lane of the master's: a native slave cannot be joined to such a master.
+    pub fn too_narrow(&self, master: usize, slave: usize) -> bool {
+        self.slaves[slave].is_native() && self.masters[master].width < self.slaves[slave].width
+    }
+
+    /// The accesses of one beat: more than 1 only for a master wider than a slave with bus sizing.
     pub fn ratio(&self, master: usize, slave: usize) -> u64 {
         let master_width = self.masters[master].width as u64;
         let slave_width = self.slaves[slave].width as u64;
-        if master_width > slave_width {
+        if master_width > slave_width && !self.slaves[slave].is_native() {
             master_width / slave_width
         } else {
             1

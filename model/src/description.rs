@@ -20,6 +20,7 @@ pub enum Line {
         burst: u64,
         read_wait: u64,
         write_wait: u64,
+        native: u64,
     },
     Share {
         master: u64,
@@ -74,7 +75,7 @@ fn parse_line(line: &[u8]) -> Option<Line> {
             Some(Line::Master { width, burst })
         }
         b"slave" => {
-            let [base, span, width, burst, read_wait, write_wait] = numbers(&fields[1..])?;
+            let [base, span, width, burst, read_wait, write_wait, native] = numbers(&fields[1..])?;
             Some(Line::Slave {
                 base,
                 span,
@@ -82,6 +83,7 @@ fn parse_line(line: &[u8]) -> Option<Line> {
                 burst,
                 read_wait,
                 write_wait,
+                native,
             })
         }
         b"share" => {
@@ -104,7 +106,7 @@ struct Draft {
 }
 
 impl Draft {
-    /// Refusals 2 to 7 of one line, lowest first; a good line is taken.
+    /// Refusals 2 to 7 and 19 of one line, lowest first; a good line is taken.
     fn take(&mut self, line: &Line) -> Result<(), u8> {
         match *line {
             Line::Master { width, burst } => self.take_master(width, burst),
@@ -115,7 +117,8 @@ impl Draft {
                 burst,
                 read_wait,
                 write_wait,
-            } => self.take_slave([base, span, width, burst, read_wait, write_wait]),
+                native,
+            } => self.take_slave([base, span, width, burst, read_wait, write_wait, native]),
             Line::Share {
                 master,
                 slave,
@@ -140,8 +143,8 @@ impl Draft {
         Ok(())
     }
 
-    fn take_slave(&mut self, values: [u64; 6]) -> Result<(), u8> {
-        let [base, span, width, burst, read_wait, write_wait] = values;
+    fn take_slave(&mut self, values: [u64; 7]) -> Result<(), u8> {
+        let [base, span, width, burst, read_wait, write_wait, native] = values;
         let count = self.board.slave_count as usize;
         if self.board.master_count == 0 || self.share_lines > 0 || count == SLAVE_LIMIT {
             return Err(2);
@@ -165,6 +168,7 @@ impl Draft {
             burst: burst as u8,
             read_wait: read_wait as u8,
             write_wait: write_wait as u8,
+            native: native as u32,
         };
         self.board.slave_count += 1;
         Ok(())
@@ -190,11 +194,14 @@ impl Draft {
         if master >= self.board.master_count as u64 || slave >= self.board.slave_count as u64 {
             return Err(7);
         }
-        let entry = &mut self.board.shares[master as usize][slave as usize];
-        if *entry > 0 {
+        let (master, slave) = (master as usize, slave as usize);
+        if self.board.connected(master, slave) {
             return Err(7);
         }
-        *entry = shares as u8;
+        if self.board.too_narrow(master, slave) {
+            return Err(19);
+        }
+        self.board.shares[master][slave] = shares as u8;
         self.share_lines += 1;
         Ok(())
     }
@@ -208,8 +215,8 @@ impl Draft {
     }
 }
 
-fn slave_values_in_range(values: [u64; 6]) -> bool {
-    let [base, span, width, burst, read_wait, write_wait] = values;
+fn slave_values_in_range(values: [u64; 7]) -> bool {
+    let [base, span, width, burst, read_wait, write_wait, native] = values;
     base <= u32::MAX as u64
         && (8..=65_536).contains(&span)
         && span.is_power_of_two()
@@ -217,6 +224,7 @@ fn slave_values_in_range(values: [u64; 6]) -> bool {
         && BURSTS.contains(&burst)
         && read_wait <= 255
         && write_wait <= 255
+        && native <= 1
 }
 
 /// Refuses the length before any line, and the first bad line with its lowest number; a last line without its line feed is a
@@ -264,6 +272,7 @@ fn slave_line(board: &Board, index: usize) -> Line {
         burst: slave.burst as u64,
         read_wait: slave.read_wait as u64,
         write_wait: slave.write_wait as u64,
+        native: slave.native as u64,
     }
 }
 
@@ -295,7 +304,7 @@ fn each_line(board: &Board, mut each: impl FnMut(Line) -> Result<(), u8>) -> Res
     each_share_line(board, each)
 }
 
-/// Refusals 2 to 7 of a board that did not come through the reader: those of the lines that the writer would put.
+/// Refusals 2 to 7 and 19 of a board that did not come through the reader: those of the lines that the writer would put.
 pub fn check_board(board: &Board) -> Result<(), u8> {
     let mut draft = Draft::default();
     each_line(board, |line| draft.take(&line))?;
@@ -312,7 +321,8 @@ fn line_text(line: &Line) -> String {
             burst,
             read_wait,
             write_wait,
-        } => format!("slave,{base},{span},{width},{burst},{read_wait},{write_wait}"),
+            native,
+        } => format!("slave,{base},{span},{width},{burst},{read_wait},{write_wait},{native}"),
         Line::Share {
             master,
             slave,

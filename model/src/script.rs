@@ -240,7 +240,7 @@ impl Simulator {
     }
 
     fn run_slave(&mut self, fields: &[&[u8]]) -> Option<()> {
-        let [slave, base, span, width, burst, read_wait, write_wait] = exactly(fields)?;
+        let [slave, base, span, width, burst, read_wait, write_wait, native] = exactly(fields)?;
         let slave = index(slave, SLAVE_LIMIT)?;
         self.board.slaves[slave] = Slave {
             base: number32(base)?,
@@ -249,6 +249,7 @@ impl Simulator {
             burst: byte(burst)?,
             read_wait: byte(read_wait)?,
             write_wait: byte(write_wait)?,
+            native: number32(native)?,
         };
         Some(())
     }

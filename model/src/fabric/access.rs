@@ -13,14 +13,24 @@ struct Access {
     offset: usize,
     /// How many bytes it covers.
     length: usize,
+    /// How many bytes of the master's word behind those have no byte of the slave: a read gets zeros there.
+    missing: usize,
     /// Which of them a write writes.
     enabled: u8,
     run: u8,
     place: u8,
 }
 
-/// The access after those done. A beat of a wider master is several accesses, lowest address first; any other beat is one.
+/// The access after those done.
 fn next_access(board: &Board, slave: usize, slot: &Slot, transfer: &Transfer) -> Access {
+    match board.slaves[slave].is_native() {
+        true => native_access(board, slave, slot, transfer),
+        false => sized_access(board, slave, slot, transfer),
+    }
+}
+
+/// Bus sizing: a beat of a wider master is several accesses, lowest address first; any other beat is one.
+fn sized_access(board: &Board, slave: usize, slot: &Slot, transfer: &Transfer) -> Access {
     let owner = slot.owner as usize;
     let master_width = board.masters[owner].width as usize;
     let slave_width = board.slaves[slave].width as usize;
@@ -30,13 +40,31 @@ fn next_access(board: &Board, slave: usize, slot: &Slot, transfer: &Transfer) ->
     let piece = done % ratio;
     let from = beat * master_width + piece * slave_width;
     let length = master_width.min(slave_width);
-    let total = total_accesses(board, owner, slave, transfer) as usize;
-    let (run, place) = run_and_place(board, owner, slave, total, done);
+    let (run, place) = run_and_place(board, slave, slot, transfer);
     Access {
         from,
         offset: (transfer.address - board.slaves[slave].base) as usize + from,
         length,
+        missing: 0,
         enabled: (transfer.lanes >> (piece * slave_width)) & all_lanes(length as u8),
+        run,
+        place,
+    }
+}
+
+/// Native alignment: a beat is one access, of the slave's word with the number that the master's word has in the span.
+fn native_access(board: &Board, slave: usize, slot: &Slot, transfer: &Transfer) -> Access {
+    let master_width = board.masters[slot.owner as usize].width as usize;
+    let slave_width = board.slaves[slave].width as usize;
+    let beat = slot.done as usize;
+    let first_word = (transfer.address - board.slaves[slave].base) as usize / master_width;
+    let (run, place) = run_and_place(board, slave, slot, transfer);
+    Access {
+        from: beat * master_width,
+        offset: (first_word + beat) * slave_width,
+        length: slave_width,
+        missing: master_width - slave_width,
+        enabled: transfer.lanes & all_lanes(slave_width as u8),
         run,
         place,
     }
@@ -44,16 +72,13 @@ fn next_access(board: &Board, slave: usize, slot: &Slot, transfer: &Transfer) ->
 
 /// The length of the access's run, and its place there. The slave's burst length cuts a transfer into runs, the last one
 /// shorter; of a narrower master each access is a run of its own.
-fn run_and_place(
-    board: &Board,
-    master: usize,
-    slave: usize,
-    total: usize,
-    done: usize,
-) -> (u8, u8) {
-    if board.masters[master].width < board.slaves[slave].width {
+fn run_and_place(board: &Board, slave: usize, slot: &Slot, transfer: &Transfer) -> (u8, u8) {
+    let owner = slot.owner as usize;
+    if board.masters[owner].width < board.slaves[slave].width {
         return (1, 0);
     }
+    let total = total_accesses(board, owner, slave, transfer) as usize;
+    let done = slot.done as usize;
     let burst = board.slaves[slave].burst as usize;
     let place = done % burst;
     let run_start = done - place;
@@ -111,7 +136,8 @@ fn slave_line(
     }
 }
 
-/// Moves the bytes: a read fetches all that the access covers, a write stores the enabled ones.
+/// Moves the bytes: a read fetches all that the access covers and zeros for those that are missing, a write stores the enabled
+/// ones.
 fn carry_out(access: &Access, write: bool, cells: &mut [u8], part: &mut [u8]) {
     for byte in 0..access.length {
         let cell = &mut cells[access.offset + byte];
@@ -121,6 +147,10 @@ fn carry_out(access: &Access, write: bool, cells: &mut [u8], part: &mut [u8]) {
         } else if access.enabled & (1 << byte) != 0 {
             *cell = *word;
         }
+    }
+    if !write {
+        let behind = access.from + access.length;
+        part[behind..behind + access.missing].fill(0);
     }
 }
 

@@ -157,6 +157,45 @@ fn connect(random: &mut Random, board: &mut Board, size: Size) {
             board.shares[master][slave] = shares(random, limit);
         }
     }
+    disconnect_narrow(board);
+}
+
+/// Takes away the shares at native slaves that are wider than the master.
+pub fn disconnect_narrow(board: &mut Board) {
+    for (master, slave) in board.pairs() {
+        if board.too_narrow(master, slave) {
+            board.shares[master][slave] = 0;
+        }
+    }
+}
+
+/// Two widths, the second one larger.
+pub fn uneven_widths(random: &mut Random) -> (u8, u8) {
+    let narrow = random.between(0, WIDTHS.len() - 2);
+    let wide = random.between(narrow + 1, WIDTHS.len() - 1);
+    (WIDTHS[narrow] as u8, WIDTHS[wide] as u8)
+}
+
+/// A width, at most the limit.
+fn width_up_to(random: &mut Random, limit: u8) -> u8 {
+    let widths: Vec<u64> = WIDTHS
+        .into_iter()
+        .filter(|&width| width <= limit as u64)
+        .collect();
+    random.pick(&widths) as u8
+}
+
+/// The width and the native field of a slave: one of three is native, and then mostly such that some master can be connected
+/// with it.
+pub fn alignment(random: &mut Random, masters: &[Master]) -> (u8, u32) {
+    if !random.chance(1, 3) {
+        return (random.pick(&WIDTHS) as u8, 0);
+    }
+    let limit = match random.chance(1, 8) {
+        true => 8,
+        false => random.pick(masters).width,
+    };
+    (width_up_to(random, limit), 1)
 }
 
 /// Puts each slave where no earlier one lies.
@@ -164,13 +203,15 @@ fn place_slaves(random: &mut Random, board: &mut Board) {
     let limit = wait_limit(random);
     let spans = spans(random, board.slave_count as usize);
     for (index, &span) in spans.iter().enumerate() {
+        let (width, native) = alignment(random, &board.masters[..board.master_count as usize]);
         board.slaves[index] = Slave {
             base: free_base(random, &board.slaves[..index], span) as u32,
             span: span as u32,
-            width: random.pick(&WIDTHS) as u8,
+            width,
             burst: random.pick(&BURSTS) as u8,
             read_wait: wait(random, limit),
             write_wait: wait(random, limit),
+            native,
         };
     }
 }
@@ -194,15 +235,18 @@ pub fn board(random: &mut Random, size: Size) -> Board {
     board
 }
 
-/// A slave whose line is as long as one can be; they lie below the highest address, downward.
+/// A slave whose line is as long as one can be; they lie below the highest address, downward. Every other one is native, and so
+/// narrow that all masters can be connected with it.
 fn longest_slave(index: usize) -> Slave {
+    let native = index % 2 == 1;
     Slave {
         base: u32::MAX - 4096 * (index as u32 + 1) + 1,
         span: 4096,
-        width: 8,
+        width: if native { 1 } else { 8 },
         burst: 64,
         read_wait: 255,
         write_wait: 255,
+        native: native as u32,
     }
 }
 

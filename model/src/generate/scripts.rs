@@ -4,6 +4,7 @@ mod clocks;
 mod corrupt;
 mod lines;
 mod malformed;
+mod native;
 mod posts;
 mod restore;
 mod slots;
@@ -75,14 +76,27 @@ impl Author {
         self.simulator.state.transfers[master].held
     }
 
+    /// The native slaves that a master is connected with.
+    fn native_slaves(&self) -> Vec<usize> {
+        let connected =
+            |slave| (0..self.masters()).any(|master| self.board.connected(master, slave));
+        (0..self.slaves())
+            .filter(|&slave| self.board.slaves[slave].is_native() && connected(slave))
+            .collect()
+    }
+
+    fn hot_slave(&mut self) -> Option<usize> {
+        let native = self.native_slaves();
+        match self.random.below(3) {
+            0 => None,
+            1 if !native.is_empty() => Some(self.random.pick(&native)),
+            _ => Some(self.random.below(self.slaves())),
+        }
+    }
+
     fn style(&mut self) -> Style {
-        let slave = self.random.below(self.slaves());
         Style {
-            hot: if self.random.chance(2, 3) {
-                Some(slave)
-            } else {
-                None
-            },
+            hot: self.hot_slave(),
             eager: self.random.pick(&[2, 5, 7, 8, 8]),
             bursts: self.random.pick(&[0, 1, 2, 4, 6, 8]),
             longest_clock: self.random.pick(&[1, 1, 2, 3, 6, 20]),
@@ -134,11 +148,12 @@ impl Author {
 
     /// Some lines that belong together.
     fn stretch(&mut self) {
-        match self.random.below(24) {
+        match self.random.below(25) {
             0..=12 => self.busy(),
             13 | 14 => self.quiet(),
             15..=20 => self.corrupt(),
             21 | 22 => self.lend(),
+            23 => self.realign(),
             _ => self.fresh(),
         }
     }

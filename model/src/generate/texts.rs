@@ -4,6 +4,7 @@ mod damage;
 mod fields;
 mod long;
 mod meaning;
+mod native;
 mod parts;
 
 use std::io::{self, Write};
@@ -15,6 +16,7 @@ use damage::{line_text, whole_text, LINE_DAMAGES, WHOLE_DAMAGES};
 use fields::{field_text, field_values, two_fields_text, two_lines_text};
 use long::long_text;
 use meaning::{meaning_text, MEANINGS};
+use native::{native_text, NATIVES};
 use parts::{damage_board, fields_of, Kind, KINDS};
 
 /// What one text is to be.
@@ -30,6 +32,8 @@ pub enum Plan {
     Whole(usize),
     /// The numbered fault in what the lines say together.
     Meaning(usize),
+    /// The numbered fault at a native slave and a master narrower than it.
+    Native(usize),
     /// A text of this length whose first fault is the numbered one.
     Long(usize, usize),
     TwoFields(Kind),
@@ -75,6 +79,7 @@ pub fn damaging_plans() -> Vec<Plan> {
     }
     plans.extend((0..WHOLE_DAMAGES).map(Plan::Whole));
     plans.extend((0..2 * MEANINGS).map(|case| Plan::Meaning(case % MEANINGS)));
+    plans.extend((0..6 * NATIVES).map(|case| Plan::Native(case % NATIVES)));
     plans.extend((0..100).map(|_| Plan::TwoLines));
     plans.extend(plans_of_lengths());
     plans
@@ -108,6 +113,7 @@ pub fn text(random: &mut Random, plan: Plan) -> Vec<u8> {
         Plan::Line(kind, damage) => line_text(random, kind, damage),
         Plan::Whole(damage) => whole_text(random, damage),
         Plan::Meaning(case) => meaning_text(random, case),
+        Plan::Native(case) => native_text(random, case),
         Plan::Long(length, fault) => long_text(random, length, fault),
         Plan::TwoFields(kind) => two_fields_text(random, kind),
         Plan::TwoLines => two_lines_text(random),

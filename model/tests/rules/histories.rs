@@ -1,7 +1,7 @@
 //! What the rules promise of every history, on random ones: what a read gives, and how long a transfer waits and lasts.
 
 use crate::fabric::{read_of, Fabric};
-use model::board::MASTER_LIMIT;
+use model::board::{Board, MASTER_LIMIT};
 use model::fabric::{SlaveLine, Transfer, PART_LENGTH};
 use model::generate::boards::{any_size, board};
 use model::generate::random::Random;
@@ -27,6 +27,24 @@ struct History {
     bytes: Vec<u8>,
     journeys: [Option<Journey>; MASTER_LIMIT],
     finished: usize,
+    /// Of these, the transfers of masters wider than a native card.
+    finished_native: usize,
+}
+
+/// Where byte number `place` of a transfer lies in the memory. A native card has a word for each word of the master, and no
+/// byte for those of the master's that are above its own width.
+fn place_of(board: &Board, master: usize, journey: &Journey, place: usize) -> Option<usize> {
+    let slave = &board.slaves[journey.slave];
+    let spans = board.slaves[..journey.slave].iter();
+    let start: usize = spans.map(|slave| slave.span as usize).sum();
+    let offset = (journey.transfer.address - slave.base) as usize + place;
+    if slave.native == 0 {
+        return Some(start + offset);
+    }
+    let master_width = board.masters[master].width as usize;
+    let (word, byte) = (offset / master_width, offset % master_width);
+    let slave_width = slave.width as usize;
+    (byte < slave_width).then_some(start + word * slave_width + byte)
 }
 
 impl History {
@@ -40,6 +58,7 @@ impl History {
             random,
             journeys: Default::default(),
             finished: 0,
+            finished_native: 0,
         }
     }
 
@@ -99,15 +118,15 @@ impl History {
             return;
         }
         journey.started = true;
-        let (slaves, width) = (&board.slaves, board.masters[master].width as usize);
-        let before: u32 = slaves[..journey.slave].iter().map(|slave| slave.span).sum();
-        let start = (before + (journey.transfer.address - slaves[journey.slave].base)) as usize;
+        let width = board.masters[master].width as usize;
         for place in 0..journey.transfer.beats as usize * width {
-            let byte = &mut self.bytes[start + place];
+            let byte = place_of(board, master, journey, place).map(|at| &mut self.bytes[at]);
             if !journey.transfer.write {
-                journey.given.push(*byte);
+                journey.given.push(byte.map_or(0, |byte| *byte));
             } else if journey.transfer.lanes & (1 << (place % width)) != 0 {
-                *byte = journey.data[place];
+                if let Some(byte) = byte {
+                    *byte = journey.data[place];
+                }
             }
         }
     }
@@ -126,6 +145,10 @@ impl History {
         let part = &self.fabric.buffer[PART_LENGTH * master..];
         assert_eq!(part[..journey.given.len()], journey.given);
         self.finished += 1;
+        let slave = &self.fabric.board.slaves[journey.slave];
+        if slave.is_native() && self.fabric.board.masters[master].width > slave.width {
+            self.finished_native += 1;
+        }
     }
 
     /// The first cycle comes at the latest after the quoted wait, the last one as many clocks later as the transfer takes.
@@ -174,22 +197,24 @@ impl History {
     }
 }
 
-/// How many transfers finish in the histories of these seeds.
-fn finished(seeds: std::ops::Range<u64>) -> usize {
-    seeds
-        .map(|seed| {
-            // shown only where the test fails
-            println!("seed {seed}");
-            let mut history = History::new(seed);
-            history.run(1000);
-            history.finished
-        })
-        .sum()
+/// How many transfers finish in the histories of these seeds, and how many of them are of masters wider than a native card.
+fn finished(seeds: std::ops::Range<u64>) -> (usize, usize) {
+    let (mut finished, mut finished_native) = (0, 0);
+    for seed in seeds {
+        // shown only where the test fails
+        println!("seed {seed}");
+        let mut history = History::new(seed);
+        history.run(1000);
+        finished += history.finished;
+        finished_native += history.finished_native;
+    }
+    (finished, finished_native)
 }
 
 #[test]
 fn reads_give_what_was_written_and_nobody_waits_longer_than_quoted() {
     // a test in which hardly anything finishes would hold the model to little
-    let finished = finished(0..100);
+    let (finished, native) = finished(0..100);
     assert!(finished > 10_000, "only {finished} transfers finished");
+    assert!(native > 2_000, "only {native} of them at native cards");
 }

@@ -7,6 +7,7 @@ mod fabric;
 mod generators;
 mod histories;
 mod lanes;
+mod native;
 mod posts;
 mod programs;
 mod waits;
@@ -14,6 +15,6 @@ mod waits;
 /// A slave with a master twice as wide and one as wide as itself.
 const BOARD: &str = "master,4,8\n\
                      master,2,1\n\
-                     slave,4096,4096,2,8,1,0\n\
+                     slave,4096,4096,2,8,1,0,0\n\
                      share,0,0,2\n\
                      share,1,0,3\n";

@@ -28,6 +28,18 @@ fn a_script_needs_no_last_line_feed() {
 }
 
 #[test]
+fn a_script_sets_the_last_number_of_a_card_to_anything() {
+    let lines =
+        [1, 257, u32::MAX].map(|native| format!("slave,0,4096,4096,2,8,1,0,{native}\nreset\n"));
+    assert_eq!(
+        printed_by_script(&lines.concat()),
+        "reset,0\nreset,3\nreset,3\n"
+    );
+    let old_line = "slave,0,4096,4096,2,8,1,0\n";
+    assert_eq!(printed_by_script(old_line), "error,1\n");
+}
+
+#[test]
 fn each_record_has_its_answer() {
     let records = format!("{}\n{BOARD}1\n\n0\n", BOARD.len());
     let mut boards = Vec::new();

@@ -12,13 +12,13 @@ fn the_table_has_wait_and_serve_of_each_pair() {
 
 #[test]
 fn no_transfer_is_longer_than_the_span() {
-    let small_span = b"master,4,64\nslave,0,8,4,8,0,0\nshare,0,0,1\n";
+    let small_span = b"master,4,64\nslave,0,8,4,8,0,0,0\nshare,0,0,1\n";
     assert_eq!(table(small_span), "master,slave,wait,serve\n0,0,0,2\n");
 }
 
 #[test]
 fn an_unconnected_pair_has_no_line() {
-    let unconnected = b"master,4,8\nslave,0,8,2,8,1,0\n";
+    let unconnected = b"master,4,8\nslave,0,8,2,8,1,0,0\n";
     assert_eq!(table(unconnected), "master,slave,wait,serve\n");
 }
 

@@ -42,10 +42,15 @@ impl Author {
             let Some(slave) = slave_at(&self.board, transfer.address) else {
                 return;
             };
-            let offset = (transfer.address - self.board.slaves[slave].base) as usize;
-            let start = slave_start(&self.board, slave) + offset;
             let width = self.board.masters[master].width as usize;
-            let count = transfer.beats as usize * width;
+            let word = (transfer.address - self.board.slaves[slave].base) as usize / width;
+            // the bytes in memory for a word of the master
+            let stride = match self.board.slaves[slave].is_native() {
+                true => self.board.slaves[slave].width as usize,
+                false => width,
+            };
+            let start = slave_start(&self.board, slave) + word * stride;
+            let count = transfer.beats as usize * stride;
             self.put(&format!("show,memory,{start},{count}"));
         }
     }
@@ -109,7 +114,7 @@ impl Author {
         }
     }
 
-    /// Random bytes at both ends of a slave's span.
+    /// Random bytes at both ends of a slave's span; of a native slave also where the words of some wider master end.
     pub fn fill_slave(&mut self, slave: usize) {
         let start = slave_start(&self.board, slave);
         let span = self.board.slaves[slave].span as usize;
@@ -117,6 +122,10 @@ impl Author {
         self.fill("memory", start, count);
         if span > count {
             self.fill("memory", start + span - count, count);
+        }
+        let end = span / self.random.pick(&[2, 4, 8]);
+        if self.board.slaves[slave].is_native() && end > count {
+            self.fill("memory", start + end - count, count);
         }
     }
 }

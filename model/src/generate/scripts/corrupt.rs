@@ -6,10 +6,12 @@ use super::{Author, Style};
 use crate::board::{Slave, BURSTS, MASTER_LIMIT, SLAVE_LIMIT, WIDTHS};
 use crate::description::check_board;
 use crate::fabric::{clock, Transfer};
-use crate::generate::boards::free_base;
+use crate::generate::boards::{alignment, free_base};
 use crate::lanes::all_lanes;
 
 const WIDTH_EDGES: [u8; 10] = [0, 1, 2, 3, 4, 5, 8, 9, 16, 255];
+/// Half of them are legal, some of the others are when they are cut to fewer bits.
+const NATIVE_EDGES: [u32; 12] = [0, 0, 1, 1, 1, 1, 2, 7, 256, 257, 65_537, u32::MAX];
 
 fn held_transfer(post: &Post) -> Transfer {
     Transfer {
@@ -101,7 +103,7 @@ impl Author {
         let mut slave = self.board.slaves[index];
         let other = self.board.slaves[self.random.below(self.slaves())];
         let any = self.random.draw() as u32;
-        match self.random.below(11) {
+        match self.random.below(14) {
             0 => slave.base = self.edge_base(&slave, &other),
             1 => slave.base = any & !slave.span.saturating_sub(1),
             2 => slave.span = self.edge_span(&slave, any),
@@ -118,6 +120,7 @@ impl Author {
                 slave.base = any & !65_535;
                 slave.span = 65_536;
             }
+            10..=12 => slave.native = self.random.pick(&NATIVE_EDGES),
             _ if slave.span >= 16 && index < self.slaves() => {
                 // a good board with less memory
                 slave.span /= 2;
@@ -180,8 +183,7 @@ impl Author {
         self.put(&format!("master,{masters},{width},{burst}"));
         self.put(&format!("count,{},{}", masters + 1, self.slaves()));
         for slave in 0..self.slaves() {
-            let shares = self.random.between(0, 3);
-            self.put(&format!("share,{masters},{slave},{shares}"));
+            self.put_new_share(masters, slave);
         }
     }
 
@@ -193,27 +195,39 @@ impl Author {
             return;
         }
         let base = free_base(&mut self.random, &self.board.slaves[..slaves], 8);
+        let masters = &self.board.masters[..self.board.master_count as usize];
+        let (width, native) = alignment(&mut self.random, masters);
         let slave = Slave {
             base: base as u32,
             span: 8,
-            width: self.random.pick(&WIDTHS) as u8,
+            width,
             burst: self.random.pick(&BURSTS) as u8,
             read_wait: self.random.below(3) as u8,
             write_wait: self.random.below(3) as u8,
+            native,
         };
         self.put(&slave_line(slaves, &slave));
         self.put(&format!("count,{},{}", self.masters(), slaves + 1));
         self.put(&format!("lend,memory,{length}"));
         for master in 0..self.masters() {
-            let shares = self.random.between(0, 3);
-            self.put(&format!("share,{master},{slaves},{shares}"));
+            self.put_new_share(master, slaves);
         }
     }
 
+    /// Shares of a pair that a good board gets, as far as the two can be connected.
+    fn put_new_share(&mut self, master: usize, slave: usize) {
+        let shares = match self.simulator.board.too_narrow(master, slave) {
+            true => 0,
+            false => self.random.between(0, 3),
+        };
+        self.put(&format!("share,{master},{slave},{shares}"));
+    }
+
     fn corrupt_line(&mut self, style: &Style) {
-        match self.random.below(14) {
+        match self.random.below(16) {
             12 => return self.grow_masters(),
             13 => return self.grow_slaves(),
+            14 | 15 => return self.join_narrow(),
             _ => {}
         }
         match self.random.below(12) {
@@ -250,7 +264,7 @@ impl Author {
     }
 
     /// Whether the simulator would clock as things stand.
-    fn usable(&self) -> bool {
+    pub fn usable(&self) -> bool {
         let board = self.simulator.board;
         let mut state = self.simulator.state;
         let mut memory = vec![0; self.simulator.memory.length];

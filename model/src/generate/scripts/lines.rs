@@ -46,8 +46,9 @@ pub fn slave_line(index: usize, slave: &Slave) -> String {
         burst,
         read_wait,
         write_wait,
+        native,
     } = slave;
-    format!("slave,{index},{base},{span},{width},{burst},{read_wait},{write_wait}")
+    format!("slave,{index},{base},{span},{width},{burst},{read_wait},{write_wait},{native}")
 }
 
 pub fn master_line(index: usize, master: &Master) -> String {

@@ -2,7 +2,7 @@
 
 use super::Author;
 
-const MALFORMED: [&str; 43] = [
+const MALFORMED: [&str; 46] = [
     "",
     "nonsense",
     "Reset",
@@ -43,7 +43,10 @@ const MALFORMED: [&str; 43] = [
     "slot,0,0,0,0,65536,0",
     "slot,0,256,0,0,0,0",
     "master,8,1,1",
-    "slave,16,0,8,1,1,0,0",
+    "slave,16,0,8,1,1,0,0,0",
+    "slave,0,0,8,1,1,0,0",
+    "slave,0,0,8,1,1,0,0,0,0",
+    "slave,0,0,8,1,1,0,0,4294967296",
     "share,0,16,1",
     "count,256,1",
 ];

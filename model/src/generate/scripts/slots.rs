@@ -89,11 +89,17 @@ impl Author {
         let low = total.saturating_sub(1);
         let any = self.random.between(0, low as usize) as u16;
         let high = wait.saturating_add(1);
+        // the last access that there would be with bus sizing
+        let (master_width, slave_width) = (
+            self.board.masters[owner].width,
+            self.board.slaves[slave].width,
+        );
+        let sized = transfer.beats as u16 * (master_width / slave_width).max(1) as u16;
+        let last_sized = sized.saturating_sub(1);
         match self.random.below(5) {
             0 | 1 => {
-                slot.done = self
-                    .random
-                    .pick(&[any, low, total, total, total + 1, u16::MAX])
+                let edges = [any, low, total, total, total + 1, last_sized, u16::MAX];
+                slot.done = self.random.pick(&edges);
             }
             2 | 3 => slot.waited = self.random.pick(&[0, wait, high, high, 255]),
             _ => {

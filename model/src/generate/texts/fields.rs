@@ -135,6 +135,22 @@ const SPAN_EDGES: [u64; 25] = [
     2_147_483_648,
 ];
 const WAIT_EDGES: [u64; 7] = [0, 1, 127, 128, 254, 255, 256];
+const NATIVE_EDGES: [u64; 14] = [
+    0,
+    1,
+    2,
+    3,
+    7,
+    10,
+    11,
+    128,
+    255,
+    256,
+    257,
+    (1 << 32) - 1,
+    1 << 32,
+    (1 << 32) + 1,
+];
 const SHARES_EDGES: [u64; 9] = [0, 1, 2, 99, 100, 101, 127, 128, 255];
 
 /// Bases near the slave's own, near the limits, and near another slave's.
@@ -190,7 +206,8 @@ fn edges(board: &Board, kind: Kind, fields: &[Vec<u8>], field: usize) -> Vec<u64
         (Kind::Master, _) | (Kind::Slave, 4) => BURST_EDGES.to_vec(),
         (Kind::Slave, 1) => base_edges(board, fields),
         (Kind::Slave, 2) => SPAN_EDGES.to_vec(),
-        (Kind::Slave, _) => WAIT_EDGES.to_vec(),
+        (Kind::Slave, 5 | 6) => WAIT_EDGES.to_vec(),
+        (Kind::Slave, _) => NATIVE_EDGES.to_vec(),
         (Kind::Share, 1) => index_edges(board.master_count as u64, MASTER_LIMIT as u64),
         (Kind::Share, 2) => index_edges(board.slave_count as u64, SLAVE_LIMIT as u64),
         (Kind::Share, _) => SHARES_EDGES.to_vec(),

@@ -28,7 +28,7 @@ impl Kind {
     pub fn field_count(self) -> usize {
         match self {
             Kind::Master => 3,
-            Kind::Slave => 7,
+            Kind::Slave => 8,
             Kind::Share => 4,
         }
     }
@@ -55,6 +55,8 @@ pub fn damage_board(random: &mut Random) -> Board {
     };
     let mut board = board(random, size);
     if board.shares.iter().flatten().all(|&shares| shares == 0) {
+        // with bus sizing any two can be connected
+        board.slaves[0].native = 0;
         board.shares[0][0] = 1;
     }
     board
