@@ -10,10 +10,10 @@
  *
  * A rule that is cited by its number, as rule 4.13, stands in docs/RULES.md. Refusal k is rule 7.k.
  *
- * Each call answers FABRIC_TAKEN or the number of a refusal. It judges in rising order of the numbers (rule 8.4), and a
- * description line by line (rule 8.2). Where it refuses, board, state, memory, buffer and out stay as they were, and all
- * numbers of lines, mask and clocks are 0 (rule 8.1). The calls keep nothing and allocate nothing: board, state, lines, memory
- * and buffer are the caller's, and calls on different ones may be made at the same time.
+ * Each call answers FABRIC_TAKEN or the number of a refusal. It judges the description, line by line (rule 8.2), or the board
+ * first, and then in rising order of the numbers (rule 8.4). Where it refuses, board, state, memory, buffer and out stay as they
+ * were, and all numbers of lines, mask and clocks are 0 (rule 8.1). The calls keep nothing and allocate nothing: board, state,
+ * lines, memory and buffer are the caller's, and calls on different ones may be made at the same time.
  *
  * A board, a state and a clock's lines are plain numbers of 32 bits, which may also be set by hand (rules 1.10 and 2.4). A
  * mark (held, write, serving) is yes unless it is 0. Every other number is judged as it stands, none is cut to fewer bits: a
@@ -34,7 +34,7 @@ extern "C" {
 #endif
 
 /* The version of this header and of the library. */
-#define FABRIC_VERSION "1.0"
+#define FABRIC_VERSION "1.1"
 
 /* The most masters and slaves of a board (rule 1.1), and the most bytes of its description (rule 1.2). */
 #define FABRIC_MASTERS 8
@@ -53,13 +53,13 @@ extern "C" {
 #define FABRIC_WAIT_BYTES 16
 
 /* How many numbers the structs below are: each may be handled as an array of uint32_t, members in their order. */
-#define FABRIC_BOARD_NUMBERS 242
+#define FABRIC_BOARD_NUMBERS 258
 #define FABRIC_STATE_NUMBERS 120
 #define FABRIC_LINES_NUMBERS 96
 
 /*
- * What the calls answer. Whoever writes the description causes 1 to 7, whoever embeds the library 8 to 10, whoever posts or
- * asks for a wait 11 to 18. The comments are reminders: rule 7.k has refusal k whole.
+ * What the calls answer. Whoever writes the description causes 1 to 7 and 19, whoever embeds the library 8 to 10, whoever posts
+ * or asks for a wait 11 to 18. The comments are reminders: rule 7.k has refusal k whole.
  */
 #define FABRIC_TAKEN 0
 #define FABRIC_BAD_TEXT 1       /* the text's length or last line feed; a line's first word, its fields, a number */
@@ -80,6 +80,7 @@ extern "C" {
 #define FABRIC_NOT_CONNECTED 16 /* the address selects no slave (rule 3.6); for a wait, no connected pair */
 #define FABRIC_PAST_END 17      /* beats beyond the slave's span */
 #define FABRIC_BAD_WORDS 18     /* words of another length than beats * width; any words of a read */
+#define FABRIC_TOO_NARROW 19    /* shares of a master that is narrower than its native slave */
 
 /* The phases of a slave's line (rule 4.13). */
 #define FABRIC_IDLE 0
@@ -99,6 +100,7 @@ struct fabric_slave {
     uint32_t burst;
     uint32_t read_wait; /* clocks in front of each access (rule 4.8) */
     uint32_t write_wait;
+    uint32_t native; /* 0 bus sizing, 1 native alignment (rule 4.10) */
 };
 
 struct fabric_board {
@@ -156,7 +158,7 @@ typedef char fabric_lines_fits[sizeof(struct fabric_lines) == FABRIC_LINES_NUMBE
  *   text, text_length   the description, FABRIC_TEXT_BYTES at the most
  *   board               where the board goes: all its numbers, those behind the counts are 0
  *
- * Refused with 1 to 7, by the first line to blame (rule 8.2).
+ * Refused with 1 to 7 and 19, by the first line to blame (rule 8.2).
  */
 uint32_t fabric_read(const uint8_t *text, size_t text_length, struct fabric_board *board);
 
@@ -177,7 +179,7 @@ uint32_t fabric_refused_at(const uint8_t *text, size_t text_length, size_t *line
  *   board   as fabric_read left it, or made by hand
  *   state   where the state goes, all its numbers
  *
- * Refused with 2 to 7, as the lines of the board's own description would be (rule 8.5).
+ * Refused with 2 to 7 and 19, as the lines of the board's own description would be (rule 8.5).
  */
 uint32_t fabric_reset(const struct fabric_board *board, struct fabric_state *state);
 
@@ -191,7 +193,7 @@ uint32_t fabric_reset(const struct fabric_board *board, struct fabric_state *sta
  *   address, lanes, beats   the first byte's address, the lanes of the master's word (rules 3.4 and 3.5), the count of words
  *   words, words_length     beats * width bytes, lowest address first; for a read 0 bytes
  *
- * Refused with 2 to 7 (the board), 8 (the buffer), 9 (the state) and 11 to 18 (the transfer).
+ * Refused with 2 to 7 and 19 (the board), 8 (the buffer), 9 (the state) and 11 to 18 (the transfer).
  */
 uint32_t fabric_post(const struct fabric_board *board, struct fabric_state *state, uint8_t *buffer, size_t buffer_length,
                      uint32_t master, uint32_t write, uint32_t address, uint32_t lanes, uint32_t beats,
@@ -206,7 +208,7 @@ uint32_t fabric_post(const struct fabric_board *board, struct fabric_state *stat
  *   lines                   what the clock shows of each slave; behind the board's slaves 0
  *   mask                    the masters that are finished: bit m for master m
  *
- * Refused with 2 to 7 (the board), 8 (memory or buffer) and 9 (the state).
+ * Refused with 2 to 7 and 19 (the board), 8 (memory or buffer) and 9 (the state).
  */
 uint32_t fabric_clock(const struct fabric_board *board, struct fabric_state *state, uint8_t *memory, size_t memory_length,
                       uint8_t *buffer, size_t buffer_length, struct fabric_lines *lines, uint32_t *mask);
@@ -234,7 +236,7 @@ uint32_t fabric_run(const struct fabric_board *board, struct fabric_state *state
  *   master, slave       their numbers, counted from 0 in the order of the description's lines
  *   out, out_length     where the figures go, in the first FABRIC_WAIT_BYTES (rule 5.8); no byte behind these is changed
  *
- * Refused with 1 to 7 (the description), 10 (out_length), 11 (the master) and 16 (the slave).
+ * Refused with 1 to 7 and 19 (the description), 10 (out_length), 11 (the master) and 16 (the slave).
  */
 uint32_t fabric_wait(const uint8_t *text, size_t text_length, uint32_t master, uint32_t slave,
                      uint8_t *out, size_t out_length);

@@ -1,6 +1,7 @@
 /*
  * What the calls do to the numbers and bytes they are lent: which numbers are refused and with what (refusal k is rule 7.k),
- * that a refusal leaves everything as it was (rule 8.1), and that a run of clocks leaves what as many clocks leave (rule 4.15).
+ * that a refusal leaves everything as it was (rule 8.1), what a native slave does with a master's word (rule 4.10), and that a
+ * run of clocks leaves what as many clocks leave (rule 4.15).
  */
 #include <stdio.h>
 #include <stdlib.h>
@@ -11,8 +12,8 @@
 static const char description[] =
     "master,4,8\n"
     "master,2,1\n"
-    "slave,4096,4096,2,8,1,0\n"
-    "slave,0,64,4,1,0,3\n"
+    "slave,4096,4096,2,8,1,0,0\n"
+    "slave,0,64,4,1,0,3,0\n"
     "share,0,0,2\n"
     "share,1,0,3\n"
     "share,0,1,1\n";
@@ -211,8 +212,12 @@ static void readings(void)
     refuses_text("a text that is too long", longest, sizeof longest, FABRIC_BAD_TEXT, 0);
     refuses_text("a text as long as may be", longest, FABRIC_TEXT_BYTES, FABRIC_BAD_TEXT, 1);
     refuses_text("no final line feed", description, strlen(description) - 1, FABRIC_BAD_TEXT, 7);
-    refuses_text("a wait of 300 in a text", "master,4,8\nslave,0,8,4,8,300,0\n", 31, FABRIC_BAD_VALUE, 2);
-    refuses_text("a base of 4", "master,4,8\nslave,4,8,4,8,0,0\n", 29, FABRIC_BAD_BASE, 2);
+    refuses_text("a wait of 300 in a text", "master,4,8\nslave,0,8,4,8,300,0,0\n", 33, FABRIC_BAD_VALUE, 2);
+    refuses_text("a base of 4", "master,4,8\nslave,4,8,4,8,0,0,0\n", 31, FABRIC_BAD_BASE, 2);
+    refuses_text("a slave line without native", "master,4,8\nslave,0,8,4,8,0,0\n", 29, FABRIC_BAD_TEXT, 2);
+    refuses_text("a native of 2 in a text", "master,4,8\nslave,0,8,4,8,0,0,2\n", 31, FABRIC_BAD_VALUE, 2);
+    refuses_text("a master narrower than a native slave", "master,2,8\nslave,0,8,4,8,0,0,1\nshare,0,0,1\n", 43,
+                 FABRIC_TOO_NARROW, 3);
     refuses_text("no slave", "master,4,8\n", 11, FABRIC_BAD_ORDER, 0);
 }
 
@@ -220,7 +225,7 @@ static void readings(void)
 static void board_read(void)
 {
     static const uint32_t masters[2 * FABRIC_MASTERS] = {4, 8, 2, 1};
-    static const uint32_t slaves[6 * FABRIC_SLAVES] = {4096, 4096, 2, 8, 1, 0, 0, 64, 4, 1, 0, 3};
+    static const uint32_t slaves[7 * FABRIC_SLAVES] = {4096, 4096, 2, 8, 1, 0, 0, 0, 64, 4, 1, 0, 3, 0};
     static const uint32_t shares[FABRIC_MASTERS * FABRIC_SLAVES] = {2, 1, 0, 0, 0, 0, 0, 0, 0, 0, 0, 0, 0, 0, 0, 0, 3};
     struct fabric_board board;
 
@@ -322,6 +327,20 @@ static void boards(void)
     tried.board.slave[0].base = 65536;
     tried.board.slave[0].span = 65536;
     refuses_board("spans of 65600", &tried.board.slave[1].base, 0, FABRIC_SPAN_TOTAL);
+}
+
+/* The same of native slaves; a share line with several faults answers the lowest number. */
+static void native_boards(void)
+{
+    tried = fresh;
+    refuses_board("a native of 2", &tried.board.slave[0].native, 2, FABRIC_BAD_VALUE);
+    refuses_board("a native of 256", &tried.board.slave[1].native, 256, FABRIC_BAD_VALUE);
+    refuses_board("the largest native", &tried.board.slave[1].native, UINT32_MAX, FABRIC_BAD_VALUE);
+    tried.board.slave[0].native = tried.board.slave[1].native = 1;
+    refuses_board("a master narrower than a native slave", &tried.board.master[1].width, 1, FABRIC_TOO_NARROW);
+    refuses_board("shares of a narrower master at a native slave", &tried.board.shares[1][1], 1, FABRIC_TOO_NARROW);
+    refuses_board("101 shares of a narrower master", &tried.board.shares[1][1], 101, FABRIC_BAD_VALUE);
+    refuses_board("shares of no master at a native slave", &tried.board.shares[2][1], 1, FABRIC_BAD_SHARE);
 }
 
 /* One number of the state is another: neither a post nor a clock takes the state. */
@@ -427,6 +446,56 @@ static void lengths(void)
     refuses_lengths("no buffer", sizeof tried.memory, 0);
 }
 
+/* A clock in which slave 0 carries out an access of master 0. */
+static void accesses(const char *name, uint32_t offset, uint32_t lanes, uint32_t length, uint32_t place)
+{
+    const struct fabric_line *l = &tried.lines.line[0];
+
+    check_number(name, clock_once(&tried), FABRIC_TAKEN);
+    check(name, l->phase == FABRIC_ACCESS && l->owner == 0 && l->offset == offset && l->lanes == lanes);
+    check(name, l->run == length && l->place == place);
+}
+
+/* Slave 0, half as wide as master 0, is native: word k, at 4 * k for the master, is written at 2 * k, the lower half of it. */
+static void native_writes(void)
+{
+    tried = fresh;
+    tried.board.slave[0].native = 1;
+    other = tried;
+    check_number("a write above a native slave's width", post(&tried, 0, 1, 4100, 12, 1, 4), FABRIC_TAKEN);
+    accesses("it is an access with no lane", 2, 0, 1, 0);
+    check("it finishes", tried.mask == 1);
+    check("it changes no byte", memcmp(tried.memory, other.memory, sizeof tried.memory) == 0);
+    check_number("a burst to a native slave", post(&tried, 0, 1, 4104, 15, 2, 8), FABRIC_TAKEN);
+    accesses("its first word", 4, 3, 2, 0);
+    accesses("its second word", 6, 3, 2, 1);
+    check("the burst finishes", tried.mask == 1);
+    memcpy(other.memory + 4, words, 2);
+    memcpy(other.memory + 6, words + 4, 2);
+    check("the lower halves are written", memcmp(tried.memory, other.memory, sizeof tried.memory) == 0);
+}
+
+/* The same slave's last words for master 0, which lie at half its span: the upper half of each reads as 0. */
+static void native_reads(void)
+{
+    tried = fresh;
+    tried.board.slave[0].native = 1;
+    memset(tried.buffer, 0xa5, sizeof tried.buffer);
+    refuses_post("a burst past a native slave's end", FABRIC_PAST_END, 0, 0, 8164, 15, 8, 0);
+    check_number("the last words of a native slave", post(&tried, 0, 0, 8160, 15, 8, 0), FABRIC_TAKEN);
+    check_number("the first clock", clock_once(&tried), FABRIC_TAKEN);
+    refuses_state("as many accesses done as a native slave's beats", &tried.state.slot[0].done, 8);
+    other = tried;
+    for (uint32_t k = 0; k < 8; k++) {
+        memset(other.buffer + 4 * k, 0, 4);
+        memcpy(other.buffer + 4 * k, other.memory + 2032 + 2 * k, 2);
+    }
+    check_number("the clocks of 8 words", run(&tried, 1000), FABRIC_TAKEN);
+    check("a beat is one access", tried.clocks == 15 && tried.mask == 1);
+    check("upper halves are 0", memcmp(tried.buffer, other.buffer, sizeof tried.buffer) == 0);
+    check("a read changes no byte", memcmp(tried.memory, fresh.memory, sizeof tried.memory) == 0);
+}
+
 /* Both of two that are the same post a master's transfer number i; lengths, kinds and addresses go by turns. */
 static void post_both(uint32_t m, uint32_t i)
 {
@@ -441,12 +510,13 @@ static void post_both(uint32_t m, uint32_t i)
 }
 
 /* Runs of clocks beside as many clocks: the same numbers and bytes, and no master finished before the last clock. */
-static void runs(void)
+static void runs(uint32_t native)
 {
     uint32_t posted[2] = {0, 0};
     unsigned long finished = 0, cut = 0;
 
     tried = fresh;
+    tried.board.slave[0].native = tried.board.slave[1].native = native;
     other = tried;
     for (uint32_t i = 0; i < 400; i++) {
         uint32_t most = i % 7 == 0 ? i % 5 : 1000;
@@ -477,10 +547,14 @@ int main(void)
     readings();
     board_read();
     boards();
+    native_boards();
     states();
     posts();
     lengths();
-    runs();
+    native_writes();
+    native_reads();
+    runs(0);
+    runs(1);
     if (!failed)
         printf("calls: ok, %d checks\n", checks);
     return failed;

@@ -5,8 +5,9 @@
  *
  * Both get the same transfers: reads and writes, singles with some lanes or all, and bursts, drawn from SEED, now many at a
  * time, now few. After each clock the line of every slave, the mask and every byte of memory and buffer are compared. Where
- * all agree it prints one line, and the exit status is 0. At a difference it prints what each side has, and the status is 1.
- * Status 2: wrong arguments, a board that is refused, a file that cannot be read, or output that cannot be written.
+ * all agree it prints one line, and the exit status is 0; of a board with native slaves the line also says what they got. At
+ * a difference it prints what each side has, and the status is 1. Status 2: wrong arguments, a board that is refused, a file
+ * that cannot be read, or output that cannot be written.
  *
  * The simulator here is simulator.c; simulator.h says what another one has to offer. --mistake makes it go wrong on purpose,
  * to see that a difference is found; --mistakes lists the names.
@@ -27,7 +28,7 @@
 #define DEGREES 8
 
 struct post {
-    uint32_t master, write, address, lanes, beats;
+    uint32_t master, slave, write, address, lanes, beats;
     uint32_t length; /* of its words */
     uint8_t words[MOST_WORDS];
 };
@@ -43,6 +44,8 @@ static size_t memory_length;
 /* The traffic: who holds a transfer, and what was posted. */
 static uint32_t held;
 static unsigned long posts, writes, bursts, parts;
+/* At native slaves: transfers to narrower ones than the master and to equally wide ones, their bursts, writes to no lane. */
+static unsigned long narrower, narrower_bursts, equal, equal_bursts, laneless;
 static uint64_t drawn;
 
 /* A number below n, the next of a series that SEED fixes. */
@@ -83,6 +86,7 @@ static void draw(struct post *p, uint32_t m, uint32_t s)
     uint32_t room;
 
     p->master = m;
+    p->slave = s;
     p->write = below(2);
     p->beats = below(2) == 0 ? 1 : 1 + below(1 + below(most));
     room = words - p->beats + 1;
@@ -91,6 +95,25 @@ static void draw(struct post *p, uint32_t m, uint32_t s)
     p->length = p->write != 0 ? p->beats * width : 0;
     for (uint32_t i = 0; i < p->length; i++)
         p->words[i] = (uint8_t)below(256);
+}
+
+/* Counts a transfer by its kind: traffic that leaves a kind out compares nothing of it. */
+static void tally(const struct post *p)
+{
+    const struct fabric_slave *sl = &board->slave[p->slave];
+    uint32_t width = board->master[p->master].width;
+
+    posts++;
+    writes += p->write != 0;
+    bursts += p->beats > 1;
+    parts += p->beats == 1 && p->lanes != (1u << width) - 1;
+    if (sl->native == 0)
+        return;
+    narrower += sl->width < width;
+    narrower_bursts += sl->width < width && p->beats > 1;
+    equal += sl->width == width;
+    equal_bursts += sl->width == width && p->beats > 1;
+    laneless += p->write != 0 && p->lanes >> sl->width << sl->width == p->lanes;
 }
 
 /* Hands both sides a transfer; 1 where the library refuses it. */
@@ -105,10 +128,7 @@ static int post(const struct post *p, uint32_t clock)
     }
     simulator_post(p->master, p->write, p->address, p->lanes, p->beats, p->words);
     held |= 1u << p->master;
-    posts++;
-    writes += p->write != 0;
-    bursts += p->beats > 1;
-    parts += p->beats == 1 && p->lanes != (1u << board->master[p->master].width) - 1;
+    tally(p);
     return 0;
 }
 
@@ -252,6 +272,17 @@ static void fill_memory(void)
     memcpy(simulator_memory, memory, memory_length);
 }
 
+/* What was compared. */
+static void print_agreed(const char *name, uint32_t clocks)
+{
+    printf("lockstep: %s: %" PRIu32 " clocks agree, %lu transfers: %lu writes, %lu bursts, %lu with some of the lanes", name,
+           clocks, posts, writes, bursts, parts);
+    if (narrower + equal > 0)
+        printf("; native: %lu narrower (%lu bursts), %lu equal (%lu bursts), %lu writes to no lane", narrower, narrower_bursts,
+               equal, equal_bursts, laneless);
+    putchar('\n');
+}
+
 static int compare(const char *name, uint32_t clocks, uint32_t seed, const char *mistake)
 {
     int status = read_board(name);
@@ -263,8 +294,7 @@ static int compare(const char *name, uint32_t clocks, uint32_t seed, const char 
     simulator_reset(board, mistake);
     if (clock_both(clocks))
         return ended(1);
-    printf("lockstep: %s: %" PRIu32 " clocks agree, %lu transfers: %lu writes, %lu bursts, %lu with some of the lanes\n", name,
-           clocks, posts, writes, bursts, parts);
+    print_agreed(name, clocks);
     return ended(0);
 }
 

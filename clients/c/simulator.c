@@ -10,6 +10,8 @@
 
 /* The most accesses of a transfer: 64 beats of 8 bytes at a slave of width 1. */
 #define MOST_ACCESSES 512
+/* The place of a byte that the slave does not have. */
+#define NOWHERE UINT32_MAX
 
 struct access {
     struct fabric_line shown; /* as of an access */
@@ -22,7 +24,7 @@ struct request {
     int standing;
     int write;
     uint32_t slave;
-    uint32_t first; /* of the slave's bytes */
+    uint32_t first; /* its address, from the slave's base: whole words of the master */
     uint32_t lanes;
     uint32_t beats;
     uint32_t count; /* of its accesses */
@@ -106,12 +108,29 @@ static void cut_runs(struct request *r, uint32_t limit)
     }
 }
 
-/* Lists the accesses (rule 4.10): each has as many bytes as the narrower of master and slave; its lanes are set byte by byte. */
+/*
+ * Where the slave keeps byte i of a transfer, from its own front (rule 4.10). A native slave has a word for each word of the
+ * master, and its words lie side by side: the bytes that the master's word has beyond the slave's are NOWHERE.
+ */
+static uint32_t kept_at(const struct request *r, uint32_t width, uint32_t i)
+{
+    const struct fabric_slave *sl = &board.slave[r->slave];
+    uint32_t from_base = r->first + i;
+
+    if (!sl->native)
+        return from_base;
+    return i % width < sl->width ? from_base / width * sl->width + i % width : NOWHERE;
+}
+
+/*
+ * Lists the accesses (rule 4.10): each has as many bytes as the narrower of master and slave, at a native slave always a whole
+ * word of the master. Its lanes are set byte by byte; a write that has only lanes beyond a native slave is still listed.
+ */
 static void list_accesses(struct request *r, uint32_t m)
 {
     const struct fabric_slave *sl = &board.slave[r->slave];
     uint32_t width = board.master[m].width;
-    uint32_t unit = width < sl->width ? width : sl->width;
+    uint32_t unit = sl->native || width < sl->width ? width : sl->width;
     uint32_t bytes = r->beats * width;
     int own_lanes = r->write || mistake("read-lanes");
 
@@ -119,12 +138,12 @@ static void list_accesses(struct request *r, uint32_t m)
     r->next = 0;
     for (uint32_t i = 0; i < bytes; i++) {
         struct access *a = &r->access[i / unit];
-        uint32_t lane = (r->first + i) % sl->width;
+        uint32_t at = kept_at(r, width, i);
 
         if (i % unit == 0) {
             a->shown.phase = FABRIC_ACCESS;
             a->shown.owner = m;
-            a->shown.offset = r->first + i - lane;
+            a->shown.offset = at - at % sl->width;
             a->shown.lanes = own_lanes ? 0 : (1u << sl->width) - 1;
             a->wait = r->write ? sl->write_wait : sl->read_wait;
             if (mistake("wait-per-beat") && i % width != 0)
@@ -132,8 +151,8 @@ static void list_accesses(struct request *r, uint32_t m)
             a->from = i;
             a->to = i + unit;
         }
-        if (!r->write || (r->lanes >> i % width & 1) != 0)
-            a->shown.lanes |= 1u << lane;
+        if (at != NOWHERE && (!r->write || (r->lanes >> i % width & 1) != 0))
+            a->shown.lanes |= 1u << at % sl->width;
     }
     cut_runs(r, width < sl->width ? 1 : sl->burst);
 }
@@ -198,17 +217,19 @@ static void grant(uint32_t s)
     c->wait = request[c->owner].access[request[c->owner].next].wait;
 }
 
-/* Moves the bytes of an access between the slave and the master's words (rules 3.2 and 4.11). */
+/* Moves the bytes of an access between the slave and the master's words (rules 3.2 and 4.11): what is NOWHERE reads as 0. */
 static void move_bytes(const struct card *c, const struct request *r, const struct access *a)
 {
     uint8_t *words = simulator_buffer + FABRIC_PART_BYTES * c->owner;
     uint32_t width = board.master[c->owner].width;
 
     for (uint32_t i = a->from; i < a->to; i++) {
+        uint32_t at = kept_at(r, width, i);
+
         if (!r->write)
-            words[i] = c->bytes[r->first + i];
-        else if ((r->lanes >> i % width & 1) != 0 || mistake("every-lane"))
-            c->bytes[r->first + i] = words[i];
+            words[i] = at == NOWHERE ? 0 : c->bytes[at];
+        else if (at != NOWHERE && ((r->lanes >> i % width & 1) != 0 || mistake("every-lane")))
+            c->bytes[at] = words[i];
     }
 }
 

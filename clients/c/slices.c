@@ -9,7 +9,15 @@
 static const char board[] =
     "master,4,8\n"
     "master,2,1\n"
-    "slave,4096,4096,2,8,1,0\n"
+    "slave,4096,4096,2,8,1,0,0\n"
+    "share,0,0,2\n"
+    "share,1,0,3\n";
+
+/* The same with a native slave: a word of master 0 is one access, not two. */
+static const char native_board[] =
+    "master,4,8\n"
+    "master,2,1\n"
+    "slave,4096,4096,2,8,1,0,1\n"
     "share,0,0,2\n"
     "share,1,0,3\n";
 
@@ -44,17 +52,22 @@ int main(void)
 {
     static const uint8_t first[16] = {6, 0, 0, 0, 0, 0, 0, 0, 32};
     static const uint8_t second[16] = {36, 0, 0, 0, 0, 0, 0, 0, 2};
+    static const uint8_t native_first[16] = {6, 0, 0, 0, 0, 0, 0, 0, 16};
+    static const uint8_t native_second[16] = {18, 0, 0, 0, 0, 0, 0, 0, 2};
 
     expect("exact output", board, 0, 0, 16, 0, first, 16);
     expect("long output", board, 1, 0, ROOM, 0, second, 16);
+    expect("a wider master's native slave", native_board, 0, 0, 16, 0, native_first, 16);
+    expect("an equal master's native slave", native_board, 1, 0, 16, 0, native_second, 16);
     expect("short output", board, 0, 0, 15, 10, NULL, 0);
     expect("no output", board, 0, 0, 0, 10, NULL, 0);
     expect("no such master", board, 2, 0, 16, 11, NULL, 0);
     expect("largest master", board, UINT32_MAX, 0, 16, 11, NULL, 0);
     expect("no such slave", board, 0, 1, 16, 16, NULL, 0);
     expect("largest slave", board, 0, UINT32_MAX, 16, 16, NULL, 0);
-    expect("not connected", "master,4,8\nmaster,4,8\nslave,0,8,4,1,0,0\nshare,0,0,1\n", 1, 0, 16, 16, NULL, 0);
+    expect("not connected", "master,4,8\nmaster,4,8\nslave,0,8,4,1,0,0,0\nshare,0,0,1\n", 1, 0, 16, 16, NULL, 0);
     expect("refused text", "master,3,8\n", 0, 0, 16, 3, NULL, 0);
+    expect("narrower master", "master,1,8\nslave,0,8,2,1,0,0,1\nshare,0,0,1\n", 0, 0, 16, 19, NULL, 0);
     expect("text before output", "master,4,8", 0, 0, 0, 1, NULL, 0);
     expect("output before master", board, 2, 0, 15, 10, NULL, 0);
     expect("master before slave", board, 2, 1, 16, 11, NULL, 0);

@@ -70,23 +70,63 @@ expect 0 "wait,6
 serve,32" "$board" 0 0
 expect 0 "wait,36
 serve,2" "$board" 1 0
+expect 0 "wait,3
+serve,24" "$root/boards/encoder.txt" 0 1
+expect 0 "wait,27
+serve,3" "$root/boards/encoder.txt" 1 1
 expect 1 "refused,11" "$board" 2 0
 expect 1 "refused,16" "$board" 0 1
 printf 'master,4,8' >"$work/unended"
 expect 1 "refused,1" "$work/unended" 0 0
-printf 'master,4,8\nslave,4,8,4,8,0,0\n' >"$work/fourth"
+printf 'master,4,8\nslave,4,8,4,8,0,0,0\n' >"$work/fourth"
 expect 1 "refused,4" "$work/fourth" 0 0
+printf 'master,4,8\nslave,0,8,4,8,0,0\n' >"$work/six"
+expect 1 "refused,1" "$work/six" 0 0
+printf 'master,2,8\nslave,0,8,4,8,0,0,1\nshare,0,0,1\n' >"$work/narrow"
+expect 1 "refused,19" "$work/narrow" 0 0
 : >"$work/empty"
 expect 1 "refused,2" "$work/empty" 0 0
 head -c 8193 /dev/zero >"$work/long"
 expect 1 "refused,1" "$work/long" 0 0
+
+# native cards: each as wide as one of its masters and narrower than the others, one of burst 1, one of span 8; the last card
+# has bus sizing, for masters that have native cards too
+cat >"$work/native" <<'END'
+master,8,64
+master,4,16
+master,2,4
+master,1,2
+slave,0,1024,1,4,0,2,1
+slave,1024,512,2,16,1,0,1
+slave,2048,256,4,1,2,1,1
+slave,4096,2048,8,32,0,0,1
+slave,16384,8,2,64,1,1,1
+slave,8192,64,2,8,1,3,0
+share,0,0,2
+share,0,1,1
+share,0,2,3
+share,0,3,2
+share,0,4,1
+share,0,5,2
+share,1,0,3
+share,1,1,2
+share,1,2,1
+share,1,4,2
+share,2,0,1
+share,2,1,2
+share,2,4,3
+share,2,5,1
+share,3,0,2
+share,3,5,1
+END
 
 # every pair of the larger boards and of generated ones, against the model's table
 model="$root/target/model/release/model"
 cargo build --release --offline --quiet --manifest-path "$root/model/Cargo.toml" --target-dir "$root/target/model"
 mkdir "$work/boards"
 "$model" gen-boards 5 40 "$work/boards"
-cp "$root/boards/crane.txt" "$root/boards/largest.txt" "$work/boards"
+cp "$root/boards/crane.txt" "$root/boards/encoder.txt" "$root/boards/largest.txt" "$work/boards"
+cp "$work/native" "$work/boards/native.txt"
 pairs=0
 for described in "$work"/boards/*.txt; do
     "$model" table <"$described" | grep '^[0-9]' >"$work/lines" || true
@@ -189,9 +229,17 @@ for described in "$root"/boards/*.txt "$work"/boards/[0-9]*.txt; do
 done
 [ "$compared" -gt 30 ] || { echo "only $compared boards were compared"; failed=1; }
 lockstep "$work/lockstep" 0 "$root/boards/largest.txt" 200000
-for described in "$root"/boards/*.txt; do
+for described in "$root"/boards/*.txt "$work/native"; do
     lockstep "$watch $work/lockstep$watched" 0 "$described" 500
 done
+
+# native cards: of each of the five kinds of traffic that lockstep counts there, enough to find a difference
+for suffix in '' $cpp; do
+    lockstep "$work/lockstep$suffix" 0 "$work/native" 50000
+done
+compared=$((compared + 1))
+kinds=$(sed -n 's/.*; native: //p' "$work/printed" | grep -o '[0-9]*' | awk '$1 > 100' | wc -l)
+[ "$kinds" = 5 ] || { echo "too little traffic at native cards:"; cat "$work/printed"; failed=1; }
 
 # a difference is found: every mistake of the simulator, printed for both sides
 mistakes=0
@@ -215,7 +263,7 @@ cmp "$work/difference" "$work/printed" || failed=1
 
 # words that say nothing, boards that are none, output that is lost
 for words in '' "$board" "$board x" "$board 1 x" "$board 1 1 1" "--mistake none $board 1" "--mistake" "$work/absent 1" \
-    "$work/empty 1" "$work 1"; do
+    "$work/empty 1" "$work/narrow 1" "$work 1"; do
     lockstep "$work/lockstep" 2 $words
 done
 lockstep "$work/lockstep" 2 "$work/fourth" 1
