@@ -47,22 +47,34 @@ refused() {
 }
 
 line='no final line feed, unknown first word, wrong count of fields, or bad number'
-slave='slave,0,8,1,1,0,0'
+slave='slave,0,8,1,1,0,0,0'
 refused 'boss,4,8\n' 1 "line 1: refusal 1: $line"
 refused 'master,4,8\n\n' 1 "line 2: refusal 1: $line"
 refused "master,4,8\n$slave\nshare,0,0\n" 1 "line 3: refusal 1: $line"
 refused "master,4,8\n$slave\nshare,0,0,01\n" 1 "line 3: refusal 1: $line"
 refused "master,4,8\n$slave" 1 "line 2: refusal 1: $line"
+old='a slave line has 7 numbers, the last is native: 0 bus sizing, 1 native alignment'
+refused 'master,4,8\nslave,0,8,1,1,0,0\nshare,0,0,1\n' 1 "line 2: refusal 1: $line; $old"
+refused "master,4,8\n$slave\nslave,8,8,1,1,0,0" 1 "line 3: refusal 1: $line; $old"
+refused "master,4,8\n$slave\nslave,8,8,1,1,0,0,0,0\n" 1 "line 3: refusal 1: $line"
+refused "master,4,8\n$slave\nslave,8,8,1,1,0,0,00\n" 1 "line 3: refusal 1: $line"
+refused "master,4,8\n$slave\nshare,0,0,1,1,1,1\nslave,8,8,1,1,0,0\n" 1 "line 3: refusal 1: $line"
+refused 's,1,1,1,1,1,1\n' 1 "line 1: refusal 1: $line"
 refused "$slave" 1 "line 1: refusal 1: $line"
 refused "$slave\n" 2 'line 1: refusal 2: line kind out of order or over the count'
 refused "master,4,8\n$slave\nmaster,4,8\n" 2 'line 3: refusal 2: line kind out of order or over the count'
 refused 'master,3,8\n' 3 'line 1: refusal 3: value outside its list or range'
-refused "master,4,8\n$slave\nslave,4100,4096,1,1,0,0\n" 4 'line 3: refusal 4: base no multiple of span'
+refused 'master,4,8\nslave,0,8,1,1,0,0,2\n' 3 'line 2: refusal 3: value outside its list or range'
+refused "master,4,8\n$slave\nslave,4100,4096,1,1,0,0,0\n" 4 'line 3: refusal 4: base no multiple of span'
 refused "master,4,8\n$slave\n$slave\n" 5 'line 3: refusal 5: slave overlaps an earlier one'
-refused "master,4,8\n$slave\nslave,65536,65536,1,1,0,0\nbad\n" 6 'line 3: refusal 6: spans total over 65536'
+refused "master,4,8\n$slave\nslave,65536,65536,1,1,0,0,0\nbad\n" 6 'line 3: refusal 6: spans total over 65536'
 share='share line names no master or slave, or a pair twice'
 refused "master,4,8\n$slave\nshare,0,0,1\nshare,1,0,1\n" 7 "line 4: refusal 7: $share"
 refused "master,4,8\n$slave\nshare,0,0,1\nshare,0,0,1\n" 7 "line 4: refusal 7: $share"
+narrow='master narrower than native slave'
+native='slave,0,8,2,1,0,0,1'
+refused "master,2,8\nmaster,1,8\n$native\nshare,0,0,1\nshare,1,0,1\n" 19 "line 5: refusal 19: $narrow"
+refused "master,1,8\n$native\nshare,1,0,1\n" 7 "line 3: refusal 7: $share"
 
 # No line is to blame: the end of the text, and its length (rule 8.3).
 refused '' 2 'refusal 2: at the end, no master or no slave'
@@ -77,7 +89,7 @@ try table board.txt 'master,slave,wait,serve
 try simulate script.txt '' '' board.txt
 
 # A script, a format of printf, on the board of docs/RULES.md, section 9: what is printed, and what is explained.
-printf 'master,4,8\nmaster,2,1\nslave,4096,4096,2,8,1,0\nshare,0,0,2\nshare,1,0,3\n' > fabric.txt
+printf 'master,4,8\nmaster,2,1\nslave,4096,4096,2,8,1,0,0\nshare,0,0,2\nshare,1,0,3\n' > fabric.txt
 called() {
     # shellcheck disable=SC2059
     printf "$1" > calls.txt
@@ -119,12 +131,13 @@ refused_call 'post,0,read,4096,15,1,11223344\n' post 18 'data not beats times wi
 # A board that the script has overwritten is refused by the call that it is handed to (rule 8.5).
 called 'count,0,1\nreset\n' 'reset,2' \
     'simulate: script line 2: refusal 2: at the end, no master or no slave; line kind out of order or over the count'
-called 'reset\nslave,0,4100,4096,2,8,1,0\npost,0,read,4096,15,1,-\nclock,1\nwait,0,0\n' 'reset,0
+called 'reset\nslave,0,4100,4096,2,8,1,0,0\npost,0,read,4096,15,1,-\nclock,1\nwait,0,0\n' 'reset,0
 post,4
 clock,4,0
 wait,0,6,32' 'simulate: script line 3: refusal 4: base no multiple of span
 simulate: script line 4: refusal 4: base no multiple of span'
 called 'share,0,1,1\nreset\n' 'reset,7' "simulate: script line 2: refusal 7: $share"
+called 'slave,0,4096,4096,4,8,1,0,1\nreset\n' 'reset,19' "simulate: script line 2: refusal 19: $narrow"
 
 # A line with many refused clocks is explained once, and only lines that are refused are.
 called 'reset\nclock,1\nlend,buffer,0\nclock,1000\nlend,buffer,4096\nclock,1\nclock,0\n' "reset,0
@@ -158,7 +171,8 @@ problem 'transfer,8,0,0,0,0,0' "$range"
 problem 'transfer,0,2,0,0,0,0' "$range"
 problem 'slot,16,0,0,0,0,0' "$range"
 problem 'slot,0,0,0,0,65536,0' "$range"
-problem 'slave,0,0,0,0,0,0,256' "$range"
+problem 'slave,0,0,0,0,0,0,256,0' "$range"
+problem 'slave,0,0,0,0,0,0,0,4294967296' "$range"
 problem 'share,0,16,1' "$range"
 problem 'count,256,1' "$range"
 problem 'lend,memory,4105' "$range"
@@ -183,7 +197,8 @@ problem 'fill,memory,0,0' "$form"
 problem 'fill,memory,0,0G' "$form"
 problem 'fill,cards,0,00' "$form"
 problem 'post,0,fetch,4096,15,1,-' "$form"
-problem 'slave,0,0,0,0,0,0,0,0' "$form"
+problem 'slave,0,0,0,0,0,0,0' "$form"
+problem 'slave,0,0,0,0,0,0,0,0,0' "$form"
 
 # Where both go to one file, an explanation comes right behind the answer.
 printf 'reset\npost,2,read,4096,15,1,-\nclock,2\nwait,2,0\nreset' > calls.txt
@@ -217,7 +232,8 @@ meanings="  1 text over 8192 bytes; $line
   7 $share"
 usage="usage: table < BOARD
 Prints master,slave,wait,serve of every connected pair, or refused, and a number:
-$meanings"
+$meanings
+  19 $narrow"
 try table board.txt "$usage" '' --help
 try table board.txt "$usage" '' -h
 try table board.txt "table (Zelgwy) $version" '' --version
@@ -241,7 +257,8 @@ $meanings
   15 lanes not legal, or a burst without all lanes
   16 no connected slave there
   17 burst passes the slave's end
-  18 data not beats times width bytes"
+  18 data not beats times width bytes
+  19 $narrow"
 try simulate script.txt "$help" '' --help
 try simulate script.txt "$help" '' -h
 try simulate script.txt "simulate (Zelgwy) $version" '' --version

@@ -222,10 +222,10 @@ writes
 streams
 through_pipes 3
 
-# 1,000 records of 73 bytes: the first 65,536 have 897 of them, and 55 bytes of the next one.
+# 1,000 records of 75 bytes: the first 65,536 have 873 of them, and 61 bytes of the next one.
 seq 1000 | while read -r _; do head -n 6 records; done > records.many
 seq 1000 | while read -r _; do head -n 6 read; done > all
-head -n $((897 * 6)) all > first
+head -n $((873 * 6)) all > first
 subject texts records.many all
 pieces
 try 'FAULT_CALL=write FAULT_FD=1 FAULT_AT=1' '' none 'texts: standard output: Input/output error'

@@ -1,5 +1,5 @@
 #!/bin/sh
-# Compares the examples of README.md, and that of docs/SIMULATE.md, byte for byte with the files that they show and with what the
+# Compares the examples of README.md, and those of docs/SIMULATE.md, byte for byte with the files that they show and with what the
 # programs print. An example of README.md that begins with `$ ` is a command, with what it prints below it: each is tried, so that a
 # new one needs no line here. Wants the programs (rt check) and the archive (rt staticlib fabric_c).
 set -eu
@@ -69,7 +69,7 @@ sed -n '/^gcc /p' "$root/README.md" > build
 sh -e build
 {
     printf '#include <stdio.h>\n#include "fabric.h"\nstatic const uint8_t text[] = '
-    printf '"master,4,8\\nslave,4096,4096,4,8,0,0\\nshare,0,0,1\\n";\n'
+    printf '"master,4,8\\nslave,4096,4096,4,8,0,0,0\\nshare,0,0,1\\n";\n'
     printf 'int main(void)\n{\nsize_t text_length = sizeof text - 1;\n'
     example README.md 'struct fabric_board board;'
     printf 'return 0;\n}\n'
@@ -103,12 +103,16 @@ commands=$(grep -c '^\$ ' shown) || :
 examples=$((examples + commands - 1))
 same 'README.md, commands: something else is printed'
 
-# The example of docs/SIMULATE.md.
+# The examples of docs/SIMULATE.md.
 example docs/SIMULATE.md 'master,' > board.txt
 example docs/SIMULATE.md 'fill,' > script.txt
 example docs/SIMULATE.md 'reset,0' > shown
 target/bin/simulate board.txt < script.txt > is 2>&1
 same 'docs/SIMULATE.md: something else is printed'
+example docs/SIMULATE.md 'fill,memory,8194' > script.txt
+example docs/SIMULATE.md 'slave,1,' > shown
+target/bin/simulate boards/encoder.txt < script.txt > is 2>&1
+same 'docs/SIMULATE.md, an encoder card: something else is printed'
 
 echo "readme: $examples examples, $different differences"
 [ "$different" -eq 0 ]
