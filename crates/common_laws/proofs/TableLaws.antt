@@ -137,6 +137,23 @@ module _ (test : ℕ → Bool) (n : ℕ) where
           let l : first test n < n = omega (arith, ltb-false r (first test n) q) in
           f (first test n) l (first-is .found l)
 
+-- the first number from i on that passes, of those below n: i itself, one further on, or none
+module _ (test : ℕ → Bool) (n i : ℕ) where
+  one-more : i < n → n - i ≡ suc (n - (i + 1))
+  one-more h = omega arith
+
+  pub first-here : i < n → test i ≡ true → firstFrom test i (n - i) ≡ i
+  unfolding firstFrom
+  first-here h e = rw (one-more h, e)
+
+  pub first-later : i < n → test i ≡ false → firstFrom test i (n - i) ≡ firstFrom test (i + 1) (n - (i + 1))
+  unfolding firstFrom
+  first-later h e = rw (one-more h, e)
+
+  pub first-none : n ≤ i → firstFrom test i (n - i) ≡ i
+  unfolding firstFrom
+  first-none h = let z : n - i ≡ 0 = omega arith in rw z
+
 -- a power of two added to a smaller number is its bit there, and leaves the bits below
 bit-added : (x n : ℕ) → x < 2 ^ n → (c : Bool) → bit (x + cond c (2 ^ n) 0) n ≡ c
 unfolding bit

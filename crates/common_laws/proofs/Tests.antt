@@ -1,8 +1,8 @@
--- What a test made of tests says of each of them, and what a number says that is 0 only where every test fails.
+-- What a test made of tests says of each of them, and of a number that tests choose: what it says where it is 0, and how large it is.
 -- Assumes nothing.
 use mathlib.Core.Path.{_≡_, refl}
 use mathlib.Core.Bool.{Bool, true, false, cond, _&&_, _||_, false≢true, true≢false}
-use Prim.Native.Nat.{ℕ, suc}
+use Prim.Native.Nat.{ℕ, suc, _≤_}
 use native.Mathlib.Omega.{arith}
 use lib.Dec.{T}
 
@@ -23,3 +23,8 @@ neither false b e = (refl, e)
 pub passed : (t : Bool) (n x : ℕ) → cond t (suc n) x ≡ 0 → (t ≡ false) × (x ≡ 0)
 passed true n x e = absurd (omega arith)
 passed false n x e = (refl, e)
+
+-- a refusal's number, and what follows, are at most k: so is what is answered
+pub at-most : {k : ℕ} (t : Bool) (n x : ℕ) → n ≤ k → x ≤ k → cond t n x ≤ k
+at-most true n x p q = p
+at-most false n x p q = q

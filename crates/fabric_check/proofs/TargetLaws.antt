@@ -3,7 +3,7 @@
 use mathlib.Core.Path.{_≡_, refl, sym, ap, _∙_}
 use mathlib.Core.Bool.{Bool, true, false, cond, _&&_, true≢false}
 use mathlib.Core.List.{List}
-use Prim.Native.Nat.{ℕ, suc, _+_, _-_, _%_, _^_, _≤_, _<_}
+use Prim.Native.Nat.{ℕ, _+_, _-_, _%_, _^_, _≤_, _<_}
 use native.Mathlib.Decide.{ℕ-discrete}
 use native.Mathlib.Nat.{mod-eq-of-lt, mod-lt, add-zero}
 use native.Mathlib.Numerals.{add-one}
@@ -13,7 +13,7 @@ use lib.ListN.{length, getD, set, replicate, length-replicate, List·getD-eq-def
 use lib.Pow.{pow-mono}
 use borrow.Author.Tests.{lt-ltb, le-ltb, ltb-true, ltb-false, eq-eqb, ne-eqb}
 use Rattle.common_laws.specs.Bits.{bit}
-use Rattle.common_laws.specs.Lists.{firstFrom, table, sum}
+use Rattle.common_laws.specs.Lists.{table, sum}
 use Rattle.common_laws.proofs.TableLaws.{getD-table, getD-replicate-all, mask, mask-lt, bit-mask, bit-mask-past}
 use Rattle.common_laws.proofs.FillLaws.{table-is, set-table}
 use Rattle.common_laws.proofs.FrontLaws.{table-same}
@@ -33,23 +33,6 @@ use Rattle.fabric_check.specs.Code.Targets.{heldTarget, targetIn, target
 use Rattle.fabric_check.specs.Code.Decoded.{Decodes}
 use Rattle.fabric_accesses.proofs.SelectLaws.{target-first, selects-target}
 use Rattle.fabric_state.proofs.RequestLaws.{requests-not}
-
--- the first number from i on that passes, of those below n: i itself, one further on, or none
-module _ (test : ℕ → Bool) (n i : ℕ) where
-  one-more : i < n → n - i ≡ suc (n - (i + 1))
-  one-more h = omega arith
-
-  pub first-here : i < n → test i ≡ true → firstFrom test i (n - i) ≡ i
-  unfolding firstFrom
-  first-here h e = rw (one-more h, e)
-
-  pub first-later : i < n → test i ≡ false → firstFrom test i (n - i) ≡ firstFrom test (i + 1) (n - (i + 1))
-  unfolding firstFrom
-  first-later h e = rw (one-more h, e)
-
-  pub first-none : n ≤ i → firstFrom test i (n - i) ≡ i
-  unfolding firstFrom
-  first-none h = let z : n - i ≡ 0 = omega arith in rw z
 
 -- a slave of the board is selected where its address agrees and the master has shares there; one of the two says that it is not
 module _ (b : Board) (m address s : ℕ) where

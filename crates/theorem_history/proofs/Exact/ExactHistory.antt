@@ -10,6 +10,7 @@ use native.Mathlib.Omega.{arith}
 use Rattle.description_board.specs.declared.Board.{Board}
 use Rattle.description_board.specs.Records.{sharesAt, connected}
 use Rattle.description_board.specs.Legal.{Legal}
+use Rattle.description_board.proofs.PairLaws.{connected-pair}
 use Rattle.fabric_accesses.specs.declared.Transfer.{Transfer}
 use Rattle.fabric_state.specs.declared.State.{State}
 use Rattle.fabric_state.specs.Records.{transferAt, slotAt}
@@ -20,7 +21,7 @@ use Rattle.wait_turns.specs.Waits.{quotedWait}
 use Rattle.theorem_bounds.proofs.Credit.{credit-zero}
 use Rattle.theorem_bounds.proofs.Potential.{quoted-between}
 use Rattle.theorem_history.specs.Claim.{Start, Lent, History, after, slaveFor, waitFor, Accepted, afterPosting, Exact}
-use Rattle.theorem_history.proofs.OneClock.PairFigures.{connected-pair, sharesOf, singleOf, longestOf, turnsBetween}
+use Rattle.theorem_history.proofs.OneClock.PairFigures.{sharesOf, singleOf, longestOf, turnsBetween}
 use Rattle.theorem_history.proofs.OneClock.PairFigures.{wait-quoted}
 use Rattle.theorem_history.proofs.OneClock.SlaveClock.{potAt, left-rests}
 use Rattle.theorem_history.proofs.Histories.CallCases.{withPost, post-leaves}

@@ -2,13 +2,14 @@
 -- refused for its own part.
 -- Assumes nothing.
 use mathlib.Core.Path.{_≡_, _∙_}
-use mathlib.Core.Bool.{Bool, true, false, cond, not}
+use mathlib.Core.Bool.{not}
 use mathlib.Core.List.{List}
 use mathlib.Core.Logic.{_⊎_}
 use Prim.Native.Nat.{ℕ, _≤_}
 use native.Mathlib.Omega.{arith}
 use lib.Dec.{eqb, leb}
 use lib.ListN.{length}
+use Rattle.common_laws.proofs.Tests.{at-most}
 use Rattle.description_board.specs.declared.Board.{Board}
 use Rattle.description_board.specs.Records.{masterAt, slaveAt}
 use Rattle.description_board.specs.Items.{boardRefusal}
@@ -29,11 +30,7 @@ use Rattle.theorem_history.proofs.Histories.CallCases.{TakesPost, Takes
 use Rattle.theorem_history.proofs.Histories.OnePost.{Taken}
 use Rattle.theorem_history.proofs.Histories.Standing.{Standing, start-checked, history-stands}
 
--- a board that is not refused is not refused with 19 either: a post answers 18 at the most, whatever else it is handed
-at-most : (c : Bool) (n x : ℕ) → n ≤ 18 → x ≤ 18 → cond c n x ≤ 18
-at-most true n x p q = p
-at-most false n x p q = q
-
+-- a board that is not refused is not refused with 19 or 20 either: a post answers 18 at the most, whatever else it is handed
 module _ (b : Board) (ok : boardRefusal b ≡ 0) (st : State) (buffer : List ℕ) (q : Request) where
   own-number : transferRefusal b (q .master) (transferOf q) ≤ 18
   unfolding transferRefusal transferRefusalBy

@@ -6,8 +6,7 @@ use Prim.Native.Nat.{ℕ, zero, suc, _+_, _-_, _*_, _/_, _≤_, _<_, max}
 use native.Mathlib.Nat.{mul-le-mul, one-mul, le-div-iff-mul-le}
 use native.Mathlib.Omega.{arith}
 use lib.Dec.{ltb, eqb}
-use borrow.Author.Tests.{lt-ltb, ltb-true}
-use Rattle.common_laws.proofs.Tests.{both}
+use borrow.Author.Tests.{lt-ltb}
 use Rattle.common_laws.proofs.FillLaws.{sum-same}
 use Rattle.description_board.specs.declared.Master.{Master}
 use Rattle.description_board.specs.declared.Slave.{Slave}
@@ -24,13 +23,6 @@ use Rattle.wait_turns.specs.Waits as waits
 use Rattle.theorem_bounds.proofs.Order.{between}
 use Rattle.theorem_bounds.proofs.Credit.{credit, credit-zero, credit-suc}
 use Rattle.theorem_bounds.proofs.Potential.{quoted, pot}
-
--- a connected pair: the slave is one of the board's, and the master has shares there
-pub connected-pair : (b : Board) (m s : ℕ) → connected b m s ≡ true → (s < b .«slave_count») × (1 ≤ sharesAt b m s)
-unfolding connected
-connected-pair b m s c =
-    let p = both (ltb s (b .«slave_count»)) (ltb 0 (sharesAt b m s)) c in
-    (ltb-true s (b .«slave_count») (p .0), ltb-true 0 (sharesAt b m s) (p .1))
 
 -- the wait of a direction is no longer than the longer one
 wait-longest : (sl : Slave) (t : Transfer) → 1 + waitOf sl t ≤ waits.longestAccess sl

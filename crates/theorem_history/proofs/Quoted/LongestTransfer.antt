@@ -8,6 +8,7 @@ use Rattle.description_board.specs.declared.Board.{Board}
 use Rattle.description_board.specs.Records.{masterAt, slaveAt, sharesAt, connected}
 use Rattle.description_board.specs.Items.{boardRefusal}
 use Rattle.description_board.specs.Legal.{Legal}
+use Rattle.description_board.proofs.PairLaws.{connected-pair}
 use Rattle.fabric_accesses.specs.Accesses.{ownLength}
 use Rattle.fabric_state.specs.Records.{transferAt}
 use Rattle.fabric_state.specs.Posting.{Request}
@@ -18,7 +19,6 @@ use Rattle.wait.specs.declared.Quoted.{Quoted}
 use Rattle.wait.specs.Calls.{quoteOf}
 use Rattle.wait.proofs.LookUpLaws.{quote-connected}
 use Rattle.theorem_history.specs.Claim.{Start, Lent, Accepted, slaveFor, lengthOf, Longest}
-use Rattle.theorem_history.proofs.OneClock.PairFigures.{connected-pair}
 use Rattle.theorem_history.proofs.Histories.OnePost.{Taken}
 use Rattle.theorem_history.proofs.Histories.Standing.{start-state, start-stands}
 use Rattle.theorem_history.proofs.Histories.Unrefused.{post-free}

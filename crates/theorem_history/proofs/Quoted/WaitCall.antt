@@ -13,6 +13,7 @@ use Rattle.description_board.specs.Records.{connected}
 use Rattle.description_board.specs.Items.{boardRefusal}
 use Rattle.description_board.specs.Legal.{Legal}
 use Rattle.description_board.proofs.Accepted.{accepted-legal}
+use Rattle.description_board.proofs.PairLaws.{connected-pair}
 use Rattle.description.specs.declared.Parsed.{Parsed}
 use Rattle.description.specs.Reader.{readText}
 use Rattle.description.specs.Writer.{writeText}
@@ -22,7 +23,6 @@ use Rattle.wait.specs.Answers.{spelled, pairBytes, pairRefusal, waitRefusal, wa
 use Rattle.wait.proofs.FigureBytes.{wait-fits, serve-fits, wait-spelled, serve-spelled}
 use Rattle.wait.proofs.WrittenLaws.{masters-trimmed, connected-trimmed, wait-trimmed, serve-trimmed, written-board}
 use Rattle.theorem_history.specs.WaitCall.{WaitAnswered}
-use Rattle.theorem_history.proofs.OneClock.PairFigures.{connected-pair}
 
 module _ (text : List ℕ) (accepted : readText text .number ≡ 0) where
   abbrev b : Board
