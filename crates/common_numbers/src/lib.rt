@@ -42,8 +42,10 @@ pub const BAD_WORDS: u32 = 18;
 
 pub const TOO_NARROW: u32 = 19;
 
+pub const NO_SHARE: u32 = 20;
+
 // The highest refusal.
-pub const LAST_REFUSAL: u32 = TOO_NARROW;
+pub const LAST_REFUSAL: u32 = NO_SHARE;
 
 // Rules 1.1, 1.8: the most masters and slaves, and the most pairs, each with a number for its shares.
 pub const MASTERS: usize = 8;

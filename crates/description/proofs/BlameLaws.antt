@@ -1,17 +1,19 @@
 -- The lines of a text, read and counted from a position of it on.
 -- Assumes nothing.
+use mathlib.Core.Bool.{cond}
 use mathlib.Core.List.{List, _∷_}
 use mathlib.Core.Path.{_≡_, refl, ap, ap₂, sym, _∙_}
 use Prim.Native.Nat.{ℕ, _+_, _≤_, _<_}
 use native.Mathlib.Omega.{arith}
+use lib.Dec.{eqb}
 use lib.ListN.{length, drop, drop-of-length-le}
 use borrow.Author.Tests.{lt-ltb, le-ltb, eq-eqb, ne-eqb}
 use Rattle.common_text.specs.Fields.{split}
 use Rattle.description_board.specs.declared.Item.{Item}
 use Rattle.description_board.specs.declared.Item.the-variants.{Malformed}
 use Rattle.description_board.specs.declared.Reading.{Reading}
-use Rattle.description_board.specs.Rules.{refused, start, step, stepAll, finish, described}
-use Rattle.description_board.proofs.StepAllLaws.{run-stays, finish-stays}
+use Rattle.description_board.specs.Rules.{refused, start, step, stepAll, withoutShare, finish, described}
+use Rattle.description_board.proofs.StepAllLaws.{run-stays, finish-stays, step-number}
 use Rattle.description_layout.specs.Layout.{boardIn}
 use Rattle.description_rules.specs.declared.Progress.{Progress}
 use Rattle.description_rules.specs.Code.Readings.{readingOf}
@@ -19,9 +21,9 @@ use Rattle.description_lines.specs.Reader.{itemsOf, itemsOfPieces, unended}
 use Rattle.description_lines.specs.Code.LineFrom.{LineFrom}
 use Rattle.description.specs.Reader.{mostBytes, reading, readText}
 use Rattle.description.specs.declared.Refusal.{Refusal}
-use Rattle.description.specs.Blame.{firstRefused, chargedLine, refusedAt}
+use Rattle.description.specs.Blame.{firstRefused, chargedLine, namedMaster, chargedMaster, refusedAt}
 use Rattle.description.specs.Lent.{Read}
-use Rattle.description.specs.Code.Reading.{Comes}
+use Rattle.description.specs.Code.Reading.{Comes, LinesCome}
 use Rattle.description.proofs.TextLengths.{reading-short, reading-long}
 
 -- one line more
@@ -39,87 +41,111 @@ pub record Counted (s : List ℕ) (r : Reading) (n at : ℕ) : Type 0 where
   pub place : at ≤ length s
   pub each : n ≤ at
   pub none : r .number ≡ 0
-  pub number : described (itemsOf s) ≡ finish (stepAll r (itemsOf (drop at s)))
+  pub run : stepAll start (itemsOf s) ≡ stepAll r (itemsOf (drop at s))
   pub line : firstRefused 0 start (itemsOf s) ≡ firstRefused n r (itemsOf (drop at s))
 
 -- before the first line
 pub counted-none : (s : List ℕ) (r : Reading) → r ≡ start → Counted s r 0 0
-unfolding described start refused
+unfolding start refused
 counted-none s r e = record {
   place = omega arith;
   each = omega arith;
   none = ap (λ (x : Reading). x .number) e;
-  number = rw e;
+  run = rw e;
   line = rw e;
 }
 
--- q and the line charged are what the whole text comes to
-abbrev pub Whole : List ℕ → Reading → ℕ → Type 0
-Whole s q line = (q ≡ described (itemsOf s)) × (line ≡ firstRefused 0 start (itemsOf s))
+-- q, the line charged and the master named are what the whole text comes to
+pub record Whole (s : List ℕ) (q : Reading) (line master : ℕ) : Type 0 where
+  pub reading : q ≡ described (itemsOf s)
+  pub charged : line ≡ firstRefused 0 start (itemsOf s)
+  pub named : master ≡ namedMaster (itemsOf s)
+
+-- the master named at the end: q has finished what r has read
+end-named : (xs : List Item) (r q : Reading) (master lowest : ℕ) → stepAll start xs ≡ r → q ≡ finish r
+    → lowest ≡ withoutShare (r .board) → master ≡ cond (eqb (q .number) 20) lowest 0 → master ≡ namedMaster xs
+unfolding namedMaster described
+end-named xs r q master lowest e f g h = h ∙ rw (e, f, g)
+
+-- none where a line is refused
+line-named : (xs : List Item) → (described xs .number ≡ 20 → ⊥) → 0 ≡ namedMaster xs
+unfolding namedMaster
+line-named xs h = rw (ne-eqb (described xs .number) 20 h)
 
 module _ (s : List ℕ) (r q : Reading) (n at : ℕ) (before : Counted s r n at) where
   -- behind the last line
-  pub counted-end : length s ≤ at → q ≡ finish r → Whole s q 0
-  unfolding stepAll firstRefused itemsOf itemsOfPieces unended split
-  counted-end h e =
-      let none = drop-of-length-le s h in (
-        e ∙ sym (rw none at (before .number)),
-        sym (rw none at (before .line)),
-      )
+  pub counted-end : (master lowest : ℕ) → length s ≤ at → q ≡ finish r → lowest ≡ withoutShare (r .board)
+      → master ≡ cond (eqb (q .number) 20) lowest 0 → Whole s q 0 master
+  unfolding described stepAll firstRefused itemsOf itemsOfPieces unended split
+  counted-end master lowest h e found named =
+      let none = drop-of-length-le s h in
+      let run : stepAll start (itemsOf s) ≡ r = rw none at (before .run) in record {
+        reading = e ∙ sym (ap finish run);
+        charged = sym (rw none at (before .line));
+        named = end-named (itemsOf s) r q master lowest run e found named;
+      }
 
   -- q has read one line more
   module _ (x : Item) (next : ℕ) (line : LineFrom s at x next) (e : q ≡ step r x) where
-    numbered : described (itemsOf s) ≡ finish (stepAll q (itemsOf (drop next s)))
+    goes-on : stepAll start (itemsOf s) ≡ stepAll q (itemsOf (drop next s))
     unfolding stepAll
-    numbered = before .number ∙ rw (line .lines, e)
+    goes-on = before .run ∙ rw (line .lines, e)
 
     pub counted-next : q .number ≡ 0 → Counted s q (n + 1) next
     counted-next none = record {
       place = line .within;
       each = let l = before .each in let m = line .onward in omega arith;
       none = none;
-      number = numbered;
+      run = goes-on;
       line = before .line ∙ rw (line .lines) (first-taken n r q x _ e none);
     }
 
-    pub counted-refused : (q .number ≡ 0 → ⊥) → Whole s q (n + 1)
-    counted-refused some = (
-      sym (numbered ∙ ap finish (run-stays q (itemsOf (drop next s)) some) ∙ finish-stays q some),
-      sym (before .line ∙ rw (line .lines) (first-refused n r q x _ e some)),
-    )
+    pub counted-refused : (q .number ≡ 0 → ⊥) → Whole s q (n + 1) 0
+    unfolding described
+    counted-refused some =
+        let all : described (itemsOf s) ≡ q =
+        ap finish (goes-on ∙ run-stays q (itemsOf (drop next s)) some) ∙ finish-stays q some in
+        let low : described (itemsOf s) .number ≤ 19 = rw (all, e) (step-number r x (omega (arith, before .none))) in record {
+          reading = sym all;
+          charged = sym (before .line ∙ rw (line .lines) (first-refused n r q x _ e some));
+          named = line-named (itemsOf s) (λ z. omega arith);
+        }
 
 -- the same of a reading whose board is an array
-pub whole-comes : (s : List ℕ) (p : Progress) (l : List ℕ) (line : ℕ) → Whole s (readingOf p l) line
-    → Comes (described (itemsOf s)) (firstRefused 0 start (itemsOf s)) l (record { number = p .number; line = line })
+pub whole-comes : (s : List ℕ) (p : Progress) (l : List ℕ) (line master : ℕ) → Whole s (readingOf p l) line master
+    → LinesCome s l (record { number = p .number; line = line; master = master })
 unfolding readingOf
-whole-comes s p l line e = record {
-  number = ap (λ (q : Reading). q .number) (e .0);
-  charged = e .1;
-  board = ap (λ (q : Reading). q .board) (e .0);
+whole-comes s p l line master e = record {
+  number = ap (λ (q : Reading). q .number) (e .reading);
+  charged = e .charged;
+  named = e .named;
+  board = ap (λ (q : Reading). q .board) (e .reading);
 }
 
 -- the length goes first
 module _ (s : List ℕ) (l : List ℕ) where
   pub comes-short : (r : Refusal) → length s ≤ mostBytes
-      → Comes (described (itemsOf s)) (firstRefused 0 start (itemsOf s)) l r → Comes (reading s) (chargedLine s) l r
-  unfolding chargedLine
+      → LinesCome s l r → Comes (reading s) (chargedLine s) (chargedMaster s) l r
+  unfolding chargedLine chargedMaster
   comes-short r h e = record {
     number = e .number ∙ ap (λ (q : Reading). q .number) (sym (reading-short s h));
     charged = e .charged ∙ sym (rw (le-ltb mostBytes (length s) h));
+    named = e .named ∙ sym (rw (le-ltb mostBytes (length s) h));
     board = e .board ∙ ap (λ (q : Reading). q .board) (sym (reading-short s h));
   }
 
   pub comes-long : (p : Progress) → mostBytes < length s → readingOf p l ≡ step start Malformed
-      → Comes (reading s) (chargedLine s) l (record { number = p .number; line = 0 })
-  unfolding chargedLine readingOf
+      → Comes (reading s) (chargedLine s) (chargedMaster s) l (record { number = p .number; line = 0; master = 0 })
+  unfolding chargedLine chargedMaster readingOf
   comes-long p h e = record {
     number = ap (λ (q : Reading). q .number) (e ∙ sym (reading-long s h));
     charged = sym (rw (lt-ltb mostBytes (length s) h));
+    named = sym (rw (lt-ltb mostBytes (length s) h));
     board = ap (λ (q : Reading). q .board) (e ∙ sym (reading-long s h));
   }
 
 -- what is answered and what the array holds then
-module _ (s : List ℕ) (l : List ℕ) (r : Refusal) (e : Comes (reading s) (chargedLine s) l r) where
+module _ (s : List ℕ) (l : List ℕ) (r : Refusal) (e : Comes (reading s) (chargedLine s) (chargedMaster s) l r) where
   pub read-refused : (before : List ℕ) → (r .number ≡ 0 → ⊥) → Read s before before (r .number)
   unfolding readText
   read-refused before h = record { number = e .number; board = λ z. absurd (h z); kept = λ _. refl }
@@ -134,4 +160,6 @@ module _ (s : List ℕ) (l : List ℕ) (r : Refusal) (e : Comes (reading s) (cha
 
   pub refusal-is : r ≡ refusedAt s
   unfolding refusedAt readText
-  refusal-is = ap₂ (λ (n k : ℕ). record { number = n; line = k }) (e .number) (e .charged)
+  refusal-is =
+      ap₂ (λ (n k : ℕ). record { number = n; line = k; master = r .master }) (e .number) (e .charged)
+      ∙ ap (λ (m : ℕ). record { number = reading s .number; line = chargedLine s; master = m }) (e .named)

@@ -1,20 +1,22 @@
--- What `refused_at` says of a text: the line charged is the first that is refused (rule 8.3).
+-- What `refused_at` says of a text: the line charged is the first that is refused, and the master that 20 names is the lowest that
+-- has no share line (rule 8.3).
 -- Assumes nothing.
-use mathlib.Core.Bool.{Bool, true, false}
+use mathlib.Core.Bool.{Bool, true, false, cond}
 use mathlib.Core.List.{List, [], _∷_}
 use mathlib.Core.Path.{_≡_, refl, ap, sym, _∙_}
 use Prim.Native.Nat.{ℕ, zero, suc, _+_, _≤_, _<_}
 use native.Mathlib.Omega.{arith}
 use lib.Dec.{eqb, ltb}
 use lib.ListN.{length, take}
-use borrow.Author.Tests.{eqb-true, eqb-false, ltb-false}
+use borrow.Author.Tests.{eq-eqb, eqb-true, eqb-false, ltb-false}
 use Rattle.description_board.specs.declared.Item.{Item}
 use Rattle.description_board.specs.declared.Reading.{Reading}
 use Rattle.description_board.specs.Rules.{refused, start, step, stepAll, finish, described}
-use Rattle.description_board.proofs.StepAllLaws.{run-stays, finish-stays}
+use Rattle.description_board.proofs.StepAllLaws.{run-stays, finish-stays, run-number, end-twenty}
+use Rattle.description_board.proofs.EndLaws.{Lowest, end-lowest}
 use Rattle.description_lines.specs.Reader.{itemsOf}
 use Rattle.description.specs.Reader.{mostBytes, reading, readText}
-use Rattle.description.specs.Blame.{firstRefused, chargedLine, refusedAt}
+use Rattle.description.specs.Blame.{firstRefused, chargedLine, namedMaster, chargedMaster, refusedAt}
 use Rattle.description.proofs.BlameLaws.{first-taken, first-refused}
 use Rattle.description.proofs.TextLengths.{reading-short}
 
@@ -122,3 +124,28 @@ charged-first s k h = go (ltb mostBytes (length s)) refl
           ap (λ (q : Reading). q .number)
               (reading-short s (ltb-false _ _ e) ∙ finish-stays (stepAll start (itemsOf s)) some ∙ sym (f .all)),
         )
+
+-- 20 is charged to no line.
+pub charged-twenty : (s : List ℕ) → refusedAt s .number ≡ 20 → refusedAt s .line ≡ 0
+unfolding start refused
+charged-twenty s e = go (refusedAt s .line) refl
+  where
+    go : (n : ℕ) → refusedAt s .line ≡ n → n ≡ 0
+    go zero h = refl
+    go (suc k) h =
+        let low = run-number start (take (suc k) (itemsOf s)) (omega arith) in
+        absurd (omega (arith, charged-first s k (h ∙ (omega arith)) .1))
+
+-- The master that it names is the lowest that has no share line, on the board of the text's lines.
+pub named-lowest : (s : List ℕ) → refusedAt s .number ≡ 20 → Lowest (stepAll start (itemsOf s) .board) (refusedAt s .master)
+unfolding refusedAt chargedMaster namedMaster readText reading described start refused
+named-lowest s = go (ltb mostBytes (length s)) (run-number start (itemsOf s) (omega arith))
+  where
+    go :
+        (b : Bool) → stepAll start (itemsOf s) .number ≤ 19
+        → cond b (refused 1) (described (itemsOf s)) .number ≡ 20
+        → Lowest (stepAll start (itemsOf s) .board) (cond b 0 (namedMaster (itemsOf s)))
+    go true low e = absurd (omega arith)
+    go false low e =
+        rw (eq-eqb (described (itemsOf s) .number) 20 e)
+        (end-lowest (stepAll start (itemsOf s) .board) (end-twenty (stepAll start (itemsOf s)) low e))

@@ -1,4 +1,4 @@
--- The line of a text that its refusal is charged to (rule 8.3).
+-- The line of a text that its refusal is charged to, and the master that 20 names (rule 8.3).
 -- Assumes nothing.
 use mathlib.Core.Bool.{cond}
 use mathlib.Core.List.{List, [], _∷_}
@@ -7,7 +7,7 @@ use lib.Dec.{ltb, eqb}
 use lib.ListN.{length}
 use Rattle.description_board.specs.declared.Item.{Item}
 use Rattle.description_board.specs.declared.Reading.{Reading}
-use Rattle.description_board.specs.Rules.{start, step}
+use Rattle.description_board.specs.Rules.{start, step, stepAll, withoutShare, described}
 use Rattle.description_lines.specs.Reader.{itemsOf}
 use Rattle.description.specs.Reader.{mostBytes, readText}
 use Rattle.description.specs.declared.Refusal.{Refusal}
@@ -21,6 +21,14 @@ firstRefused n r (x ∷ xs) = cond (eqb (step r x .number) 0) (firstRefused (n +
 unfoldable pub chargedLine : List ℕ → ℕ
 chargedLine text = cond (ltb mostBytes (length text)) 0 (firstRefused 0 start (itemsOf text))
 
--- rules 8.2, 8.3: what `refused_at` answers: the number of `read`, and the line charged
+-- rules 7.20, 8.3: the master that these lines' refusal names: the lowest that has no share line; 0 where it is not 20
+unfoldable pub namedMaster : List Item → ℕ
+namedMaster xs = cond (eqb (described xs .number) 20) (withoutShare (stepAll start xs .board)) 0
+
+-- rule 8.3: the same of a text
+unfoldable pub chargedMaster : List ℕ → ℕ
+chargedMaster text = cond (ltb mostBytes (length text)) 0 (namedMaster (itemsOf text))
+
+-- rules 8.2, 8.3: what `refused_at` answers: the number of `read`, the line charged, and the master named
 unfoldable pub refusedAt : List ℕ → Refusal
-refusedAt text = record { number = readText text .number; line = chargedLine text }
+refusedAt text = record { number = readText text .number; line = chargedLine text; master = chargedMaster text }

@@ -1,4 +1,5 @@
--- The reader: the board that a text describes, or the number it is refused with (rules 7.1 to 7.7, 7.19, 8.2).
+-- The reader: the board that a text describes, or the number it is refused with (rules 7.1 to 7.7, 7.19, 7.20,
+-- 8.2).
 -- Assumes nothing.
 use mathlib.Core.Bool.{cond}
 use mathlib.Core.List.{List}

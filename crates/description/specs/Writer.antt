@@ -14,7 +14,7 @@ use Rattle.description.specs.declared.Written.{Written}
 unfoldable pub writeText : Board → List ℕ
 writeText b = itemsText (items b)
 
--- rules 7.10, 8.4, 8.5: what `write` is refused for, or 0: 2 to 7 and 19 for the board, then 10 for the output
+-- rules 7.10, 8.4, 8.5: what `write` is refused for, or 0: 2 to 7, 19 and 20 for the board, then 10 for the output
 unfoldable pub writeRefusal : Board → List ℕ → ℕ
 writeRefusal b out = cond (not (eqb (boardRefusal b) 0)) (boardRefusal b) (cond (ltb (length out) (length (writeText b))) 10 0)
 

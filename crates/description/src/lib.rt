@@ -1,14 +1,17 @@
 // Descriptions: a text to a board in a lent array, and a board to its text (rules 1.2 to 1.10).
 use common_numbers::BOARD_NUMBERS;
+use common_numbers::NO_SHARE;
 use common_numbers::TEXT_BYTES;
 ghost use mathlib.Core.Path.{_≡_};
+ghost use mathlib.Core.Bool.{cond};
 ghost use Prim.Native.Nat.{_≤_};
+ghost use lib.Dec.{eqb};
 ghost use lib.ListN.{length, replicate};
 ghost use Rattle.common_text.specs.Code.Scanning.{Put};
 ghost use Rattle.description_board.specs.Items.{boardRefusal};
 ghost use Rattle.description_layout.specs.Layout.{boardLength, boardIn};
 ghost use Rattle.description.specs.Reader.{reading};
-ghost use Rattle.description.specs.Blame.{chargedLine, refusedAt};
+ghost use Rattle.description.specs.Blame.{chargedLine, chargedMaster, refusedAt};
 ghost use Rattle.description.specs.Lent.{Read};
 ghost use Rattle.description.specs.Code.Reading.{Comes, LinesCome};
 ghost use Rattle.description.specs.Writer.{writeText, writeAnswer, writeOutput};
@@ -24,10 +27,12 @@ pub struct Parsed {
     pub board: Board,
 }
 
-// A refusal's number and the line charged with it, from 1; the line is 0 where none is charged (rule 8.3).
+// A refusal's number and the line charged with it, from 1; the line is 0 where none is charged (rule 8.3). With NO_SHARE the master
+// is the lowest that has no share line, with any other number it is 0.
 pub struct Refusal {
     pub number: u32,
     pub line: usize,
+    pub master: u32,
 }
 
 // A refusal's number and 0, or 0 and the count of bytes written (rule 8.1).
@@ -36,8 +41,16 @@ pub struct Written {
     pub length: usize,
 }
 
+// The master that a refusal at the end names (rule 8.3): with 20 the lowest that has no share line.
+fn named(number: u32, lowest: u32) -> u32
+    ensures { λ r. ⌜ r ≡ cond (eqb number 20) lowest 0 ⌝ }
+{
+    if number == NO_SHARE { lowest } else { 0 }
+}
+
 // The lines of a text one after another, counted, up to the first that is refused (rules 8.2, 8.3): a later line cannot change
-// the answer. The board is read into an array of zeros.
+// the answer. The board is read into an array of zeros. Where finish refuses it, it is zeros again: so the master that 20 names is
+// looked for before.
 fn read_lines(text: &[u8], board: &mut [u32; BOARD_NUMBERS]) -> Refusal
     requires { ⌜ now board ≡ replicate boardLength 0 ⌝ }
     ensures { λ r. ⌜ LinesCome (now (text .entry)) (now (board .exit)) r ⌝ }
@@ -54,21 +67,25 @@ fn read_lines(text: &[u8], board: &mut [u32; BOARD_NUMBERS]) -> Refusal
             return Refusal {
                 number: p.number,
                 line: line,
+                master: 0,
             };
         }
         at = found.next;
     }
+    let lowest = description_rules::without_share(board);
     let last = description_rules::finish(board, p);
     Refusal {
         number: last.number,
         line: 0,
+        master: named(last.number, lowest),
     }
 }
 
 // The length first (rule 8.2): a text that is too long is refused before a byte of it is read.
 fn read_bounded(text: &[u8], board: &mut [u32; BOARD_NUMBERS]) -> Refusal
     requires { ⌜ now board ≡ replicate boardLength 0 ⌝ }
-    ensures { λ r. ⌜ Comes (reading (now (text .entry))) (chargedLine (now (text .entry))) (now (board .exit)) r ⌝ }
+    ensures { λ r. ⌜ Comes (reading (now (text .entry))) (chargedLine (now (text .entry))) (chargedMaster (now (text .entry)))
+        (now (board .exit)) r ⌝ }
 {
     if text.len() <= TEXT_BYTES {
         return read_lines(text, board);
@@ -77,11 +94,12 @@ fn read_bounded(text: &[u8], board: &mut [u32; BOARD_NUMBERS]) -> Refusal
     Refusal {
         number: p.number,
         line: 0,
+        master: 0,
     }
 }
 
-// Reads the board that a text describes, or answers the number that the text is refused with (rules 7.1 to 7.7, 7.19, 8.2): then
-// no number of board is changed (rule 8.1).
+// Reads the board that a text describes, or answers the number that the text is refused with (rules 7.1 to 7.7, 7.19, 7.20,
+// 8.2): then no number of board is changed (rule 8.1).
 pub fn read(text: &[u8], board: &mut [u32; BOARD_NUMBERS]) -> u32
     ensures { λ r. ⌜ Read (now (text .entry)) (now (board .entry)) (now (board .exit)) r ⌝ }
 {
@@ -94,7 +112,7 @@ pub fn read(text: &[u8], board: &mut [u32; BOARD_NUMBERS]) -> u32
     0
 }
 
-// The number that read answers for a text, and the line that is charged with it (rule 8.3).
+// The number that read answers for a text, the line that is charged with it, and the master that 20 names (rule 8.3).
 pub fn refused_at(text: &[u8]) -> Refusal
     ensures { λ r. ⌜ r ≡ refusedAt (now (text .entry)) ⌝ }
 {

@@ -1,25 +1,29 @@
 -- The check accepts exactly the legal boards.
 -- Assumes nothing.
-use mathlib.Core.Path.{_≡_, ap}
+use mathlib.Core.Path.{_≡_, refl, sym, ap}
+use mathlib.Core.Bool.{true}
 use mathlib.Core.Logic.{_≢_}
 use Prim.Native.Nat.{ℕ, suc, _+_, _*_, _/_, _%_, _≤_, _<_}
 use native.Mathlib.Omega.{arith}
+use lib.Dec.{ltb}
 use lib.ListN.{getD, take}
-use borrow.Author.Tests.{le-ltb, le-leb, lt-leb, eq-eqb, ne-eqb}
+use borrow.Author.Tests.{lt-ltb, le-ltb, le-leb, lt-leb, eq-eqb, ne-eqb}
 use Rattle.common_laws.specs.Lists.{some}
 use Rattle.common_laws.proofs.FrontLaws.{front, front-there, front-blank}
-use Rattle.common_laws.proofs.TableLaws.{getD-table}
+use Rattle.common_laws.proofs.TableLaws.{getD-table, some-here}
 use Rattle.description_board.specs.declared.Board.{Board}
 use Rattle.description_board.specs.declared.Reading.{Reading}
-use Rattle.description_board.specs.Records.{noMaster, noSlave, masterAt, slaveAt, totalSpan, startOf, memoryLength}
+use Rattle.description_board.specs.Records.{noMaster, noSlave, masterAt, slaveAt, sharesAt, totalSpan, startOf, memoryLength}
 use Rattle.description_board.specs.Rules.{slaveValues, masterRefusal, slaveRefusal, shareRefusal, itemRefusal}
-use Rattle.description_board.specs.Rules.{start, stepAll, finish, described}
+use Rattle.description_board.specs.Rules.{start, stepAll, endRefusal, finish, described}
 use Rattle.description_board.specs.Items.{masterItem, slaveItem, items, boardRefusal}
-use Rattle.description_board.specs.Rebuilt.{trimmed, shared}
+use Rattle.description_board.specs.Rebuilt.{trimmed}
 use Rattle.description_board.specs.Legal.{Legal}
+use Rattle.description_board.proofs.EndLaws.{share-slave, share-carried, end-clear}
+use Rattle.description_board.proofs.PairLaws.{connected-pair}
 use Rattle.description_board.proofs.SpanLaws.{all-apart, total-suc, total-same, total-fewer}
 use Rattle.description_board.proofs.BoardSound.{step-accepted, run-accepted, finish-accepted, described-legal}
-use Rattle.description_board.proofs.OwnLines.{readTo, shareLine, read-items}
+use Rattle.description_board.proofs.OwnLines.{readTo, allRead, shareLine, read-items}
 
 -- a trimmed board has the entries of the board
 module _ (b : Board) where
@@ -37,12 +41,12 @@ module _ (b : Board) where
 
 -- an accepted board's own lines describe the board, trimmed, and what lines describe is legal
 legal-trimmed : (b : Board) → boardRefusal b ≡ 0 → Legal (trimmed b)
-unfolding boardRefusal described
+unfolding boardRefusal described allRead
 legal-trimmed b e =
     let a = finish-accepted (stepAll start (items b)) e in
     let read = read-items (λ r. r .number ≡ 0) run-accepted b (λ m l n. step-accepted _ _ n .1)
     (λ s l n. step-accepted _ _ n .1) (λ k l z n. step-accepted _ _ n .1) (a .0) in
-    rw (a .3, read) at (described-legal (items b) e)
+    rw (a .2, read) at (described-legal (items b) e)
 
 pub accepted-legal : (b : Board) → boardRefusal b ≡ 0 → Legal b
 unfolding trimmed memoryLength startOf
@@ -63,6 +67,7 @@ accepted-legal b e =
           let z′ : getD (trimmed b .shares) i 0 ≢ 0 = rw (trimmed-share b i l) z in
           let p = k .shares i l z′ in
           rw (trimmed-master b (k .fewMasters) (i / 16) (p .1), entry (i % 16) (p .2)) at (k .wide i l z′);
+      connects = λ m l. share-carried (trimmed b) b m (omega (arith, k .fewMasters)) refl (trimmed-share b) (k .connects m l);
     }
 
 -- no line of a legal board is refused
@@ -128,14 +133,31 @@ module _ (b : Board) (k : Legal b) where
         k .wide i l z,
       )
 
-  pub legal-described : described (items b) ≡ record { number = 0; sharing = shared b; board = trimmed b }
-  unfolding described finish trimmed
+  -- nothing is missing at the end
+  end-none : endRefusal (trimmed b) ≡ 0
+  unfolding trimmed
+  end-none = end-clear (trimmed b) (record {
+    someMaster = λ z. omega (arith, k .someMaster);
+    someSlave = λ z. omega (arith, k .someSlave);
+    connects = λ m l.
+        share-carried b (trimmed b) m (omega (arith, k .fewMasters)) refl (λ i h. sym (trimmed-share b i h)) (k .connects m l);
+  })
+
+  -- its last line is a share line
+  last-share : some (λ i. ltb 0 (getD (b .shares) i 0)) 128 ≡ true
+  last-share =
+      let h = share-slave b 0 (k .connects 0 (k .someMaster)) in
+      let p = connected-pair b 0 (h .0) (h .2) in
+      some-here _ 128 (16 * 0 + h .0) (omega (arith, h .1)) (lt-ltb 0 (sharesAt b 0 (h .0)) (p .1))
+
+  pub legal-described : described (items b) ≡ record { number = 0; sharing = true; board = trimmed b }
+  unfolding described finish allRead
   legal-described =
       rw (
         read-items (λ r. Unit {0}) (λ r xs e. tt) b (λ m l _. master-clear m l) (λ s l _. slave-clear s l)
             (λ i l z _. share-clear i l z) tt,
-        ne-eqb (b .«master_count») 0 (omega (arith, k .someMaster)),
-        ne-eqb (b .«slave_count») 0 (omega (arith, k .someSlave)),
+        last-share,
+        end-none,
       )
 
   pub legal-accepted : boardRefusal b ≡ 0

@@ -1,7 +1,7 @@
 -- Whatever lines are read: while none is refused, the board so far keeps the rules, and zeros stand behind its counts.
 -- Assumes nothing.
 use mathlib.Core.Path.{_≡_, refl, _∙_}
-use mathlib.Core.Bool.{Bool, true, false, cond, _||_}
+use mathlib.Core.Bool.{Bool, true, false, cond}
 use mathlib.Core.List.{List, [], _∷_}
 use mathlib.Core.Logic.{_≢_}
 use Prim.Native.Nat.{ℕ, _+_, _*_, _/_, _%_, _≤_, _<_}
@@ -13,7 +13,6 @@ use lib.Seq.{getD-set-same, getD-set-other, take-set-le}
 use borrow.Author.Tests.{eqb-true, eqb-false}
 use Rattle.common_laws.proofs.FrontLaws.{set-each}
 use Rattle.common_laws.proofs.TableLaws.{getD-replicate-all}
-use Rattle.common_laws.proofs.Tests.{neither}
 use Rattle.description_board.specs.declared.SlaveNumbers.{SlaveNumbers}
 use Rattle.description_board.specs.declared.Board.{Board}
 use Rattle.description_board.specs.declared.Item.{Item}
@@ -23,9 +22,10 @@ use Rattle.description_board.specs.Records.{noMaster, noSlave, noBoard, 
 use Rattle.description_board.specs.Rules.{slaveValues, slaveOf, meets}
 use Rattle.description_board.specs.Rules.{masterRefusal, slaveRefusal, tooNarrow, shareRefusal}
 use Rattle.description_board.specs.Rules.{itemRefusal, withMaster, withSlave, withShare}
-use Rattle.description_board.specs.Rules.{withItem, refused, start, taken, step, stepAll, finish, described}
+use Rattle.description_board.specs.Rules.{withItem, refused, start, taken, step, stepAll, endRefusal, finish, described}
 use Rattle.description_board.specs.Legal.{LegalMaster, LegalSlave, Legal}
 use Rattle.description_board.proofs.RuleLaws.{values-fit, master-taken, slave-taken, share-taken}
+use Rattle.description_board.proofs.EndLaws.{EndTaken, end-taken}
 use Rattle.description_board.proofs.SpanLaws.{apart-at, total-suc}
 
 -- the slave of a line is legal where the test of its values passes and its base is a multiple of its span
@@ -185,20 +185,17 @@ run-accepted r [] e = e
 run-accepted r (x ∷ xs) e = step-accepted r x (run-accepted (step r x) xs e) .0
 
 pub finish-accepted : (r : Reading) → finish r .number ≡ 0
-    → (r .number ≡ 0) × (r .board .«master_count» ≢ 0) × (r .board .«slave_count» ≢ 0) × (finish r ≡ r)
+    → (r .number ≡ 0) × (endRefusal (r .board) ≡ 0) × (finish r ≡ r)
 unfolding finish refused
-finish-accepted r e =
-    go (eqb (r .number) 0) refl (eqb (r .board .«master_count») 0 || eqb (r .board .«slave_count») 0) refl e
+finish-accepted r e = go (eqb (r .number) 0) refl (eqb (endRefusal (r .board)) 0) refl e
   where
-    go : (c : Bool) → eqb (r .number) 0 ≡ c
-        → (d : Bool) → (eqb (r .board .«master_count») 0 || eqb (r .board .«slave_count») 0) ≡ d
-        → cond c (cond d (refused 2) r) r .number ≡ 0
-        → (r .number ≡ 0) × (r .board .«master_count» ≢ 0) × (r .board .«slave_count» ≢ 0)
-        × (cond c (cond d (refused 2) r) r ≡ r)
-    go true p true q e = absurd (omega arith)
-    go true p false q e =
-        let n = neither (eqb (r .board .«master_count») 0) _ q in
-        (e, eqb-false _ _ (n .0), eqb-false _ _ (n .1), refl)
+    n : ℕ
+    n = endRefusal (r .board)
+
+    go : (c : Bool) → eqb (r .number) 0 ≡ c → (d : Bool) → eqb n 0 ≡ d → cond c (cond d r (refused n)) r .number ≡ 0
+        → (r .number ≡ 0) × (n ≡ 0) × (cond c (cond d r (refused n)) r ≡ r)
+    go true p true q e = (e, eqb-true _ _ q, refl)
+    go true p false q e = absurd (eqb-false _ _ q e)
     go false p d q e = absurd (eqb-false _ _ p e)
 
 -- lines one after another, from a sound board on
@@ -215,14 +212,15 @@ module _ (xs : List Item) (e : described xs .number ≡ 0) where
   unfolding described start refused
   described-sound =
       let a = finish-accepted (stepAll start xs) e in
-      rw (a .3) (sound-run start xs (a .0) sound-start)
+      rw (a .2) (sound-run start xs (a .0) sound-start)
 
   pub described-legal : Legal (described xs .board)
   unfolding described
   described-legal =
       let a = finish-accepted (stepAll start xs) e in
-      let m : described xs .board .«master_count» ≢ 0 = rw (a .3) (a .1) in
-      let s : described xs .board .«slave_count» ≢ 0 = rw (a .3) (a .2) in
+      let t : EndTaken (described xs .board) = end-taken _ (rw (a .2) (a .1)) in
+      let m = t .someMaster in
+      let s = t .someSlave in
       let k = described-sound in
       record {
         someMaster = omega arith;
@@ -235,4 +233,5 @@ module _ (xs : List Item) (e : described xs .number ≡ 0) where
         total = k .total;
         shares = k .shares;
         wide = k .wide;
+        connects = t .connects;
       }

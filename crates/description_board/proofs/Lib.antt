@@ -1,6 +1,7 @@
 pub mod RuleLaws
 pub mod PairLaws
 pub mod StepAllLaws
+pub mod EndLaws
 pub mod SpanLaws
 pub mod StartLaws
 pub mod BoardSound

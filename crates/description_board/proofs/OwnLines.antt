@@ -21,7 +21,7 @@ use Rattle.description_board.specs.Records.{noMaster, noSlave, noBoard, 
 use Rattle.description_board.specs.Rules.{itemRefusal, withItem, withMaster, withSlave, withShare, isShare}
 use Rattle.description_board.specs.Rules.{refused, start, taken, step, stepAll}
 use Rattle.description_board.specs.Items.{masterItem, slaveItem, shareItem, items}
-use Rattle.description_board.specs.Rebuilt.{trimmed, shared}
+use Rattle.description_board.specs.Rebuilt.{trimmed}
 use Rattle.description_board.proofs.RuleLaws.{master-taken, slave-taken}
 use Rattle.description_board.proofs.StepAllLaws.{step-taken, run-append}
 
@@ -39,6 +39,14 @@ readTo b m s k = record {
   };
 }
 
+-- what has been read after all of its lines
+unfoldable pub allRead : Board → Reading
+allRead b = record {
+  number = 0;
+  sharing = some (λ i. ltb 0 (getD (b .shares) i 0)) 128;
+  board = trimmed b;
+}
+
 -- the line of the share at index k, where the pair is connected
 abbrev pub shareLine : Board → ℕ → Item
 shareLine b k = ShareLine (k / 16) (k % 16) (getD (b .shares) k 0)
@@ -54,9 +62,8 @@ module _ (b : Board) where
       rw (front-none (masterAt b) noMaster 8, front-none (slaveAt b) noSlave 16, front-none (λ i. getD (b .shares) i 0) 0 128)
 
   -- at the end: the board, trimmed
-  pub read-all : readTo b (b .«master_count») (b .«slave_count») 128
-      ≡ record { number = 0; sharing = shared b; board = trimmed b }
-  unfolding readTo shared trimmed front
+  pub read-all : readTo b (b .«master_count») (b .«slave_count») 128 ≡ allRead b
+  unfolding readTo allRead trimmed front
   read-all = rw (← front-all (λ i. getD (b .shares) i 0) 0 128)
 
   -- one line more
@@ -134,7 +141,7 @@ module _ (E : Reading → Type 0) (back : (r : Reading) (xs : List Item) → E (
         → ((s : ℕ) → s < b .«slave_count» → Clear E (readTo b (b .«master_count») s 0) (slaveItem (b .slaves) s))
         → ((k : ℕ) → k < 128 → getD (b .shares) k 0 ≢ 0
         → Clear E (readTo b (b .«master_count») (b .«slave_count») k) (shareLine b k))
-        → E (stepAll start (items b)) → stepAll start (items b) ≡ record { number = 0; sharing = shared b; board = trimmed b }
+        → E (stepAll start (items b)) → stepAll start (items b) ≡ allRead b
     unfolding items table stepAll
     read-items f g h =
         let mc = b .«master_count» in

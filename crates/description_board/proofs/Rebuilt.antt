@@ -2,6 +2,7 @@
 -- describe comes back as it is.
 -- Assumes nothing.
 use mathlib.Core.Path.{_≡_, refl, ap, _∙_}
+use mathlib.Core.Bool.{true}
 use mathlib.Core.List.{List}
 use native.Mathlib.Omega.{arith}
 use lib.ListN.{getD}
@@ -11,13 +12,13 @@ use Rattle.description_board.specs.declared.Item.{Item}
 use Rattle.description_board.specs.Records.{noMaster, noSlave, masterAt, slaveAt}
 use Rattle.description_board.specs.Rules.{described}
 use Rattle.description_board.specs.Items.{masterItem, slaveItem, shareItem, items, boardRefusal}
-use Rattle.description_board.specs.Rebuilt.{trimmed, shared}
+use Rattle.description_board.specs.Rebuilt.{trimmed}
 use Rattle.description_board.proofs.BoardSound.{Sound, described-sound, described-legal}
 use Rattle.description_board.proofs.Accepted.{trimmed-master, trimmed-slave, trimmed-share}
 use Rattle.description_board.proofs.Accepted.{accepted-legal, legal-described, legal-accepted}
 
 module _ (b : Board) (e : boardRefusal b ≡ 0) where
-  pub rebuilt : described (items b) ≡ record { number = 0; sharing = shared b; board = trimmed b }
+  pub rebuilt : described (items b) ≡ record { number = 0; sharing = true; board = trimmed b }
   rebuilt = legal-described b (accepted-legal b e)
 
   -- the trimmed board has the same lines

@@ -5,18 +5,22 @@ use mathlib.Core.Path.{_≡_}
 use mathlib.Core.Bool.{Bool, true, false, not, _&&_, _||_}
 use mathlib.Core.List.{List}
 use Prim.Native.Nat.{ℕ, _+_, _%_, _≤_, _<_}
+use native.Mathlib.Omega.{arith}
 use lib.Dec.{leb, ltb, eqb}
 use lib.ListN.{length, getD, drop, take}
 use borrow.Author.Tests.{eqb-true, eqb-false, leb-true, leb-false, ltb-false, not-false}
 use Rattle.common_laws.specs.Lists.{member}
 use Rattle.common_laws.proofs.ListLaws.{member-within, drop-take-next, drop-take-end}
-use Rattle.common_laws.proofs.Tests.{both, neither, passed}
+use Rattle.common_laws.proofs.Tests.{both, neither, passed, at-most}
 use Rattle.description_board.specs.declared.Slave.{Slave}
 use Rattle.description_board.specs.declared.SlaveNumbers.{SlaveNumbers}
 use Rattle.description_board.specs.declared.Board.{Board}
+use Rattle.description_board.specs.declared.Item.{Item}
+use Rattle.description_board.specs.declared.Item.the-variants.{Malformed, MasterLine, SlaveLine, ShareLine}
+use Rattle.description_board.specs.declared.Reading.{Reading}
 use Rattle.description_board.specs.Records.{noSlave, masterAt, slaveAt, sharesAt, totalSpan}
 use Rattle.description_board.specs.Rules.{widths, bursts, spans, slaveValues, meets, overlaps}
-use Rattle.description_board.specs.Rules.{masterRefusal, slaveRefusal, tooNarrow, shareRefusal}
+use Rattle.description_board.specs.Rules.{masterRefusal, slaveRefusal, tooNarrow, shareRefusal, itemRefusal}
 use Rattle.description_board.specs.Legal.{LegalMaster}
 
 pub width-bound : (x : ℕ) → member x widths ≡ true → (1 ≤ x) × (x ≤ 8)
@@ -172,3 +176,26 @@ share-taken b m s shares e =
       unset = ltb-false _ _ (slave .1);
       wide = wide .0;
     }
+
+-- no line is refused with a number above 19
+pub item-number : (r : Reading) (x : Item) → itemRefusal r x ≤ 19
+unfolding itemRefusal masterRefusal slaveRefusal shareRefusal
+item-number r Malformed = omega arith
+item-number r (MasterLine w u) =
+    let b = r .board in
+    at-most (ltb 0 (b .«slave_count») || leb 8 (b .«master_count»)) 2 _ (omega arith)
+    (at-most (not (member w widths && member u bursts)) 3 0 (omega arith) (omega arith))
+item-number r (SlaveLine n) =
+    let b = r .board in
+    let earlier = take (b .«slave_count») (b .slaves) in
+    at-most (eqb (b .«master_count») 0 || (r .sharing || leb 16 (b .«slave_count»))) 2 _ (omega arith)
+    (at-most (not (slaveValues n)) 3 _ (omega arith)
+    (at-most (not (eqb (n .base % n .span) 0)) 4 _ (omega arith)
+    (at-most (overlaps (n .base) (n .span) earlier) 5 _ (omega arith)
+    (at-most (ltb 65536 (totalSpan earlier + n .span)) 6 0 (omega arith) (omega arith)))))
+item-number r (ShareLine m s n) =
+    let b = r .board in
+    at-most (eqb (b .«slave_count») 0) 2 _ (omega arith)
+    (at-most (ltb n 1 || ltb 100 n) 3 _ (omega arith)
+    (at-most (leb (b .«master_count») m || (leb (b .«slave_count») s || ltb 0 (sharesAt b m s))) 7 _ (omega arith)
+    (at-most (tooNarrow (masterAt b m) (slaveAt b s)) 19 0 (omega arith) (omega arith))))

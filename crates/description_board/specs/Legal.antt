@@ -1,4 +1,4 @@
--- The legal boards (rules 1.1, 1.6 to 1.8, 7.19): those that are not refused.
+-- The legal boards (rules 1.1, 1.6 to 1.8, 7.19, 7.20): those that are not refused.
 -- `accepted-legal` and `legal-accepted` prove that the check accepts exactly these.
 -- Assumes nothing.
 use mathlib.Core.Path.{_≡_}
@@ -11,7 +11,7 @@ use Rattle.description_board.specs.declared.Master.{Master}
 use Rattle.description_board.specs.declared.Slave.{Slave}
 use Rattle.description_board.specs.declared.Board.{Board}
 use Rattle.description_board.specs.Records.{masterAt, slaveAt, memoryLength}
-use Rattle.description_board.specs.Rules.{widths, bursts, spans, meets, tooNarrow}
+use Rattle.description_board.specs.Rules.{widths, bursts, spans, meets, tooNarrow, hasShare}
 
 -- rule 1.6: a master whose values are in their lists
 pub record LegalMaster (m : Master) : Type 0 where
@@ -29,8 +29,8 @@ pub record LegalSlave (s : Slave) : Type 0 where
   pub native : s .native ≤ 1
   pub aligned : s .base % s .span ≡ 0
 
--- rules 1.1, 1.6 to 1.8, 7.19: both counts; each master and slave legal; no address in two spans; the spans' total; no share over
--- 100, and none outside the counts; no native slave with a narrower master
+-- rules 1.1, 1.6 to 1.8, 7.19, 7.20: both counts; each master and slave legal; no address in two spans; the spans' total; no share
+-- over 100, and none outside the counts; no native slave with a narrower master; every master connected to a slave
 pub record Legal (b : Board) : Type 0 where
   pub someMaster : 0 < b .«master_count»
   pub fewMasters : b .«master_count» ≤ 8
@@ -43,3 +43,4 @@ pub record Legal (b : Board) : Type 0 where
   pub shares : (i : ℕ) → i < 128 → getD (b .shares) i 0 ≢ 0
       → (getD (b .shares) i 0 ≤ 100) × (i / 16 < b .«master_count») × (i % 16 < b .«slave_count»)
   pub wide : (i : ℕ) → i < 128 → getD (b .shares) i 0 ≢ 0 → tooNarrow (masterAt b (i / 16)) (slaveAt b (i % 16)) ≡ false
+  pub connects : (m : ℕ) → m < b .«master_count» → hasShare b m ≡ true

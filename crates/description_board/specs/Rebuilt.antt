@@ -1,9 +1,9 @@
 -- The board that the writer's lines of a board describe (rules 1.9, 1.10): the same, with zeros behind its counts.
 -- Assumes nothing.
-use mathlib.Core.Bool.{Bool, cond}
+use mathlib.Core.Bool.{cond}
 use lib.Dec.{ltb}
 use lib.ListN.{getD}
-use Rattle.common_laws.specs.Lists.{table, some}
+use Rattle.common_laws.specs.Lists.{table}
 use Rattle.description_board.specs.declared.Board.{Board}
 use Rattle.description_board.specs.Records.{noMaster, noSlave, masterAt, slaveAt}
 
@@ -16,7 +16,3 @@ trimmed b = record {
   slaves = table (λ s. cond (ltb s (b .«slave_count»)) (slaveAt b s) noSlave) 16;
   shares = table (λ i. getD (b .shares) i 0) 128;
 }
-
--- the board has a share, so that the last line of its description is a share line
-unfoldable pub shared : Board → Bool
-shared b = some (λ i. ltb 0 (getD (b .shares) i 0)) 128

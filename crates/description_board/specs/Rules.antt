@@ -1,11 +1,12 @@
--- The lines of a description: what each is refused for (rules 7.1 to 7.7, 7.19), and the board with the line added.
+-- The lines of a description: what each is refused for (rules 7.1 to 7.7, 7.19), the board with the line added, and what is
+-- refused at the end (rules 7.2, 7.20).
 -- Assumes nothing.
 use mathlib.Core.Bool.{Bool, true, false, cond, not, _&&_, _||_}
 use mathlib.Core.List.{List, [], _∷_}
 use Prim.Native.Nat.{ℕ, _+_, _*_, _%_}
 use lib.Dec.{leb, ltb, eqb}
 use lib.ListN.{take, set}
-use Rattle.common_laws.specs.Lists.{member}
+use Rattle.common_laws.specs.Lists.{member, some, first}
 use Rattle.description_board.specs.declared.Master.{Master}
 use Rattle.description_board.specs.declared.Slave.{Slave}
 use Rattle.description_board.specs.declared.SlaveNumbers.{SlaveNumbers}
@@ -13,7 +14,7 @@ use Rattle.description_board.specs.declared.Board.{Board}
 use Rattle.description_board.specs.declared.Item.{Item}
 use Rattle.description_board.specs.declared.Item.the-variants.{Malformed, MasterLine, SlaveLine, ShareLine}
 use Rattle.description_board.specs.declared.Reading.{Reading}
-use Rattle.description_board.specs.Records.{noBoard, isNative, masterAt, slaveAt, sharesAt, totalSpan}
+use Rattle.description_board.specs.Records.{noBoard, isNative, masterAt, slaveAt, sharesAt, connected, totalSpan}
 
 -- rule 1.6: the legal widths
 abbrev pub widths : List ℕ
@@ -163,12 +164,24 @@ unfoldable pub stepAll : Reading → List Item → Reading
 stepAll r [] = r
 stepAll r (x ∷ xs) = stepAll (step r x) xs
 
--- rules 1.1, 7.2, 8.2: after all lines, 2 where a master or a slave is missing
+-- rule 1.8: master m has a share line, and so a slave that it is connected to; the numbers of slaves are below 16
+unfoldable pub hasShare : Board → ℕ → Bool
+hasShare b m = some (connected b m) 16
+
+-- rules 7.20, 8.3: the lowest master that has no share line; the count of masters where each of them has one
+unfoldable pub withoutShare : Board → ℕ
+withoutShare b = first (λ m. not (hasShare b m)) (b .«master_count»)
+
+-- rules 1.1, 1.8, 7.2, 7.20, 8.2 behind the last line. 2: no master or no slave. 20: a master that has no share line.
+unfoldable pub endRefusal : Board → ℕ
+endRefusal b =
+    cond (eqb (b .«master_count») 0 || eqb (b .«slave_count») 0) 2
+    (cond (ltb (withoutShare b) (b .«master_count»)) 20
+    0)
+
+-- rule 8.2: after all lines, what is missing; a refusal stays
 unfoldable pub finish : Reading → Reading
-finish r =
-    cond (eqb (r .number) 0)
-    (cond (eqb (r .board .«master_count») 0 || eqb (r .board .«slave_count») 0) (refused 2) r)
-    r
+finish r = cond (eqb (r .number) 0) (cond (eqb (endRefusal (r .board)) 0) r (refused (endRefusal (r .board)))) r
 
 -- rule 8.2: a description's lines: the first refusal with a zero board, or 0 and the board
 unfoldable pub described : List Item → Reading

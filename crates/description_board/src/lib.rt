@@ -1,4 +1,5 @@
-// A board, the lines of its description, and what has been read of one; specs/Rules.antt has their rules (7.1 to 7.7, 7.19).
+// A board, the lines of its description, and what has been read of one; specs/Rules.antt has their rules (7.1 to 7.7, 7.19,
+// 7.20).
 // The numbers of a master and of a slave are those of their lines (rules 1.3, 1.6).
 pub struct Master {
     pub width: u32,

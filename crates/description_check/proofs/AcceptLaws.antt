@@ -21,9 +21,10 @@ use Rattle.description_board.specs.declared.Slave.{Slave}
 use Rattle.description_board.specs.declared.Board.{Board}
 use Rattle.description_board.specs.Records.{noMaster, noSlave, isNative, masterAt, slaveAt, sharesAt, totalSpan}
 use Rattle.description_board.specs.Records.{startOf, memoryLength}
-use Rattle.description_board.specs.Rules.{widths, bursts, spans, slaveValues, meets, overlaps, tooNarrow}
+use Rattle.description_board.specs.Rules.{widths, bursts, spans, slaveValues, meets, overlaps, tooNarrow, withoutShare}
 use Rattle.description_board.specs.Items.{boardRefusal}
 use Rattle.description_board.proofs.RuleLaws.{width-bound, burst-bound}
+use Rattle.description_board.proofs.EndLaws.{each-shared}
 use Rattle.description_board.proofs.SpanLaws.{apart-at, total-suc}
 use Rattle.description_board.proofs.BoardSound.{values-legal}
 use Rattle.description_board.proofs.Accepted.{legal-accepted}
@@ -284,9 +285,9 @@ parts-legal : (b : Board)
     → (0 < b .«master_count») × (b .«master_count» ≤ 8) → (0 < b .«slave_count») × (b .«slave_count» ≤ 16)
     → MastersFit (b .masters) (b .«master_count») → {native : ℕ} → SlavesFit (b .slaves) (b .«slave_count») native
     → NativesFit b (b .«slave_count») (b .«master_count»)
-    → SharesFit (b .shares) (b .«master_count») (b .«slave_count») 8 → boardRefusal b ≡ 0
+    → SharesFit (b .shares) (b .«master_count») (b .«slave_count») 8 → b .«master_count» ≤ withoutShare b → boardRefusal b ≡ 0
 unfolding memoryLength startOf
-parts-legal b m s masters slaves natives shares = legal-accepted b (record {
+parts-legal b m s masters slaves natives shares whole = legal-accepted b (record {
   someMaster = m .0;
   fewMasters = m .1;
   someSlave = s .0;
@@ -302,13 +303,14 @@ parts-legal b m s masters slaves natives shares = legal-accepted b (record {
       let p = all-shares (b .shares) (b .«master_count») (b .«slave_count») shares i l z in
       let e : i ≡ 16 * (i / 16) + i % 16 = omega (arith, div-add-mod' i 16) in
       natives .each (i % 16) (p .2) (i / 16) (p .1) (rw (← e) z);
+  connects = each-shared b whole;
 })
 
 -- the same, by counts that were read
 pub parts-accepted : (b : Board) (m s : ℕ) → m ≡ b .«master_count» → s ≡ b .«slave_count»
     → (0 < m) × (m ≤ 8) → (0 < s) × (s ≤ 16)
     → MastersFit (b .masters) m → {native : ℕ} → SlavesFit (b .slaves) s native → NativesFit b s m
-    → SharesFit (b .shares) m s 8 → boardRefusal b ≡ 0
-parts-accepted b m s e f hm hs masters slaves natives shares =
+    → SharesFit (b .shares) m s 8 → {w : ℕ} → w ≡ withoutShare b → leb m w ≡ true → boardRefusal b ≡ 0
+parts-accepted b m s e f hm hs masters slaves natives shares {w} g whole =
     parts-legal b (rw e at hm) (rw f at hs) (rw e at masters) (rw f at slaves) (rw (e, f) at natives)
-    (rw (e, f) at shares)
+    (rw (e, f) at shares) (omega (arith, e, g, leb-true m w whole))

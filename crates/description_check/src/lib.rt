@@ -1,4 +1,4 @@
-// What a board that no reader made is refused for (rules 7.2 to 7.7, 7.19, 8.5).
+// What a board that no reader made is refused for (rules 7.2 to 7.7, 7.19, 7.20, 8.5).
 // Tests are joined by & and |, not by && and ||: each part is safe by itself, and a proof meets the whole as one test.
 use common_numbers::BOARD_NUMBERS;
 ghost use mathlib.Core.Path.{_≡_};
@@ -383,7 +383,7 @@ fn shares_fit(board: &[u32; BOARD_NUMBERS], masters: usize, slaves: u32) -> bool
     true
 }
 
-// Whether a board passes every test (rules 1.1, 1.6 to 1.8, 7.19). Nothing is said of one that does not.
+// Whether a board passes every test (rules 1.1, 1.6 to 1.8, 7.19, 7.20). Nothing is said of one that does not.
 fn accepts(board: &[u32; BOARD_NUMBERS]) -> bool
     ensures { λ r. ⌜ (r ≡ true → boardRefusal (boardIn (now (board .entry))) ≡ 0) ⌝ }
 {
@@ -405,7 +405,10 @@ fn accepts(board: &[u32; BOARD_NUMBERS]) -> bool
     if !natives_fit(board, s as usize, slaves.native, m as usize) {
         return false;
     }
-    shares_fit(board, m as usize, s)
+    if !shares_fit(board, m as usize, s) {
+        return false;
+    }
+    m <= description_rules::without_share(board)
 }
 
 // What a board is refused for, or 0 (rules 1.10, 8.5): what board_refusal_by_lines answers, at once where the board is accepted.

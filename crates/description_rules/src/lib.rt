@@ -2,7 +2,6 @@
 // The board so far is a lent array of numbers, to which each line that is not refused is added.
 mod refusals;
 
-use common_numbers::BAD_ORDER;
 use common_numbers::BAD_TEXT;
 use common_numbers::BOARD_NUMBERS;
 use description_board::Item;
@@ -20,6 +19,7 @@ ghost use Rattle.description_rules.specs.Code.Readings.{readingOf};
 pub use refusals::memory_length;
 pub use refusals::overlaps;
 pub use refusals::share_or_none;
+pub use refusals::without_share;
 
 // The refusal's number or 0, and whether a share line was read (rules 1.4, 8.2).
 pub struct Progress {
@@ -149,17 +149,16 @@ pub fn step(board: &mut [u32; BOARD_NUMBERS], p: Progress, x: Item) -> Progress
     }
 }
 
-// After the last line (rules 7.2, 8.2): a board has a master and a slave.
+// After the last line (rules 7.2, 7.20, 8.2).
 pub fn finish(board: &mut [u32; BOARD_NUMBERS], p: Progress) -> Progress
     ensures { λ r. ⌜ readingOf r (now (board .exit)) ≡ finish (readingOf p (now (board .entry))) ⌝ }
 {
     if p.number != 0 {
         return p;
     }
-    let masters = description_layout::master_count(board);
-    let slaves = description_layout::slave_count(board);
-    if (masters == 0) | (slaves == 0) {
-        return refused(board, BAD_ORDER);
+    let missing = refusals::end_refusal(board);
+    if missing != 0 {
+        return refused(board, missing);
     }
     p
 }

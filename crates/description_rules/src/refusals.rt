@@ -1,4 +1,5 @@
-// What a line of a description is refused for after what has been read (rules 7.2 to 7.7, 7.19).
+// What a line of a description is refused for after what has been read (rules 7.2 to 7.7, 7.19), and what is refused behind the last
+// line (rules 7.2, 7.20).
 // Tests are joined by & and |, not by && and ||: each part is safe by itself, and a proof meets the whole as one test.
 // The board read so far is lent as its array of numbers: see description_layout.
 use common_numbers::BAD_BASE;
@@ -11,6 +12,7 @@ use common_numbers::MOST_BASE;
 use common_numbers::MOST_NATIVE;
 use common_numbers::MOST_SHARES;
 use common_numbers::MOST_WAIT;
+use common_numbers::NO_SHARE;
 use common_numbers::OVERLAP;
 use common_numbers::SLAVES;
 use common_numbers::SPAN_TOTAL;
@@ -24,6 +26,7 @@ ghost use Rattle.common_laws.specs.Lists.{member};
 ghost use Rattle.description_board.specs.Records.{masterAt, slaveAt, totalSpan, memoryLength};
 ghost use Rattle.description_board.specs.Rules.{slaveValues, meets, overlaps, tooNarrow};
 ghost use Rattle.description_board.specs.Rules.{masterRefusal, slaveRefusal, shareRefusal};
+ghost use Rattle.description_board.specs.Rules.{hasShare, withoutShare, endRefusal};
 ghost use Rattle.description_layout.specs.Layout.{boardIn};
 
 // The legal widths, in bytes (rule 1.6). These lists are of u64, as the numbers of a line are.
@@ -219,6 +222,52 @@ pub fn share_refusal(board: &[u32; BOARD_NUMBERS], m: u64, s: u64, shares: u64) 
     }
     if too_narrow(board, m, s) {
         return TOO_NARROW;
+    }
+    0
+}
+
+// Whether master m has a share line (rule 1.8); none past the array has.
+fn has_share(board: &[u32; BOARD_NUMBERS], m: u32) -> bool
+    ensures { λ r. ⌜ r ≡ hasShare (boardIn (now (board .entry))) m ⌝ }
+{
+    let slaves = description_layout::slave_count(board);
+    let mut s: u32 = 0;
+    while s < 16 {
+        let x = share_or_none(board, 16 * m as u64 + s as u64);
+        if (s < slaves) & (0 < x) {
+            return true;
+        }
+        s += 1;
+    }
+    false
+}
+
+// The lowest master that has no share line, and the count of masters where each has one (rules 7.20, 8.3).
+pub fn without_share(board: &[u32; BOARD_NUMBERS]) -> u32
+    ensures { λ r. ⌜ r ≡ withoutShare (boardIn (now (board .entry))) ⌝ }
+{
+    let masters = description_layout::master_count(board);
+    let mut m: u32 = 0;
+    while m < masters {
+        if !has_share(board, m) {
+            return m;
+        }
+        m += 1;
+    }
+    masters
+}
+
+// What is refused behind the last line, or 0 (rules 7.2, 7.20).
+pub fn end_refusal(board: &[u32; BOARD_NUMBERS]) -> u32
+    ensures { λ r. ⌜ r ≡ endRefusal (boardIn (now (board .entry))) ⌝ }
+{
+    let masters = description_layout::master_count(board);
+    let slaves = description_layout::slave_count(board);
+    if (masters == 0) | (slaves == 0) {
+        return BAD_ORDER;
+    }
+    if without_share(board) < masters {
+        return NO_SHARE;
     }
     0
 }

@@ -9,7 +9,8 @@ use Rattle.wait.specs.declared.Quoted.{Quoted}
 use Rattle.wait_turns.specs.Waits.{quotedWait, serveOf}
 use Rattle.wait.specs.Answers.{pairRefusal}
 
--- rules 8.4, 8.5: what a wait that is looked up on a board is refused for, or 0: the board for 2 to 7 and 19, then the pair
+-- rules 8.4, 8.5: what a wait that is looked up on a board is refused for, or 0: the board for 2 to 7, 19 and 20, then
+-- the pair
 unfoldable pub quoteRefusal : Board → ℕ → ℕ → ℕ
 quoteRefusal b m s = cond (not (eqb (boardRefusal b) 0)) (boardRefusal b) (pairRefusal b m s)
 

@@ -40,7 +40,7 @@ returns : tie.Need-returns Inv-loop μ-loop
 unfolding readingOf
 returns c = let taken = c .before .before in
     let l = turn taken .loop in
-    whole-comes _ _ _ _ (counted-refused _ _ _ (l .line) (l .at) (l .inv) _ _
+    whole-comes _ _ _ _ _ (counted-refused _ _ _ (l .line) (l .at) (l .inv) _ _
     (taken .before .before .line-from .ensures) (taken .step .ensures) (c .if1 .taken))
 
 loop-less : tie.Need-loop-less Inv-loop μ-loop
@@ -53,12 +53,24 @@ loop-again c = let taken = c .before .before in
     counted-next _ _ _ (l .line) (l .at) (l .inv) _ _ (taken .before .before .line-from .ensures) (taken .step .ensures)
     (c .if1 .left)
 
+without-share-requires : tie.Need-without-share-requires Inv-loop μ-loop
+without-share-requires c κs = search needs
+
 finish-requires : tie.Need-finish-requires Inv-loop μ-loop
 finish-requires c κs = search needs
 
+named-requires : tie.Need-named-requires Inv-loop μ-loop
+named-requires c κs = search needs
+
 returns-2 : tie.Need-returns-2 Inv-loop μ-loop
-returns-2 c = let l = c .before .before .before .loop in
-    whole-comes _ _ _ _ (counted-end _ _ _ (l .line) (l .at) (l .inv) (omega arith) (c .finish .ensures))
+unfolding readingOf
+returns-2 c =
+    let finished = c .before in
+    let found = finished .before .before in
+    let l = found .before .before .before .loop in
+    whole-comes _ _ _ _ _
+    (counted-end _ _ _ (l .line) (l .at) (l .inv) _ _ (omega arith) (finished .finish .ensures)
+    (found .without-share .ensures) (c .named .ensures))
 
 pub read-lines-spec : {M : Type 1} → statement M
 read-lines-spec =
@@ -74,5 +86,7 @@ read-lines-spec =
     returns
     loop-less
     loop-again
+    without-share-requires
     finish-requires
+    named-requires
     returns-2)

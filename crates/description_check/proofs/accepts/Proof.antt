@@ -62,8 +62,15 @@ shares-fit-requires : tie.Need-shares-fit-requires
 shares-fit-requires c κs = search needs
 
 returns-6 : tie.Need-returns-6
-returns-6 c =
-    let natives = c .before .before in
+returns-6 c = λ e. absurd (false≢true e)
+
+without-share-requires : tie.Need-without-share-requires
+without-share-requires c κs = search needs
+
+returns-7 : tie.Need-returns-7
+returns-7 c =
+    let shares = c .before .before in
+    let natives = shares .before .before in
     let legal = natives .before in
     let slaves = legal .before .before in
     let masters = slaves .before .before in
@@ -73,7 +80,8 @@ returns-6 c =
     (counted _ 8 (counts .before .if1 .left)) (counted _ 16 (counts .if2 .left))
     (masters .masters-fit .ensures (not-false _ (slaves .before .if3 .left)))
     (slaves .slaves-fit .ensures (not-false _ (legal .if4 .left)))
-    (natives .natives-fit .ensures (not-false _ (c .before .if5 .left))) (c .shares-fit .ensures e)
+    (natives .natives-fit .ensures (not-false _ (shares .before .if5 .left)))
+    (shares .shares-fit .ensures (not-false _ (c .before .if6 .left))) (c .without-share .ensures) e
 
 pub accepts-spec : {M : Type 1} → statement M
 accepts-spec =
@@ -95,4 +103,6 @@ accepts-spec =
     returns-5
     cast-shares-fit
     shares-fit-requires
-    returns-6)
+    returns-6
+    without-share-requires
+    returns-7)
