@@ -3,13 +3,13 @@
 use mathlib.Core.Path.{_≡_, refl}
 use lib.ListN.{length}
 use Rattle.common_laws.specs.Bytes.{bytesOf}
-use Rattle.common_laws.specs.Lists.{member, gather, table, sum}
+use Rattle.common_laws.specs.Lists.{member, gather, table, sum, some, firstFrom, first}
 use Rattle.common_text.specs.Digits.{digitsIn, digits, fieldsText, lineText}
 use Rattle.description_board.specs.Records.{noBoard, isNative, connected, totalSpan, startOf, memoryLength}
 use Rattle.description_board.specs.Rules.{slaveValues, meets, overlaps, tooNarrow}
 use Rattle.description_board.specs.Rules.{masterRefusal, slaveRefusal, shareRefusal, itemRefusal}
 use Rattle.description_board.specs.Rules.{withMaster, withSlave, withShare, withItem, isShare}
-use Rattle.description_board.specs.Rules.{refused, start, taken, step, stepAll, finish}
+use Rattle.description_board.specs.Rules.{refused, start, taken, step, stepAll, hasShare, withoutShare, endRefusal, finish}
 use Rattle.description_board.specs.Rules.{described}
 use Rattle.description_board.specs.Items.{masterItem, slaveItem, shareItem, items, boardRefusal}
 use Rattle.fabric_accesses.specs.Alignment.{ratio}
@@ -19,9 +19,10 @@ use Rattle.wait_table.specs.Longest.{longestTable, largest}
 
 pub largest-accepted : boardRefusal largest ≡ 0
 unfolding
-    member gather table noBoard isNative totalSpan startOf memoryLength slaveValues meets overlaps tooNarrow masterRefusal
-    slaveRefusal shareRefusal itemRefusal withMaster withSlave withShare withItem isShare refused start taken step stepAll
-    finish described masterItem slaveItem shareItem items boardRefusal largest
+    member gather table some firstFrom first noBoard isNative connected totalSpan startOf memoryLength slaveValues meets
+    overlaps tooNarrow masterRefusal slaveRefusal shareRefusal itemRefusal withMaster withSlave withShare withItem isShare
+    refused start taken step stepAll hasShare withoutShare endRefusal finish described masterItem slaveItem shareItem items
+    boardRefusal largest
 largest-accepted = refl
 
 pub largest-longest : length (tableText largest) ≡ longestTable

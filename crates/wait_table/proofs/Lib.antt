@@ -1,3 +1,4 @@
 pub mod TableLines
 pub mod PrintLaws
 pub mod Attained
+pub mod Names
