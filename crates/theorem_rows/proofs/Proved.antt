@@ -1,4 +1,4 @@
--- Every example of Rows, Examples and NativeRows holds: each side computes to the same.
+-- Every example of Rows, Examples, NativeRows and ConnectionRows holds: each side computes to the same.
 -- Assumes nothing.
 use mathlib.Core.Path.{refl}
 use lib.Count.{ones, onesIn, trailingZeros}
@@ -12,13 +12,14 @@ use Rattle.description_board.specs.Records.{isNative, noBoard, connected, total
 use Rattle.description_board.specs.Rules.{slaveValues, meets, overlaps, masterRefusal, slaveRefusal, tooNarrow, shareRefusal}
 use Rattle.description_board.specs.Rules.{itemRefusal}
 use Rattle.description_board.specs.Rules.{withMaster, withSlave, withShare, withItem, isShare, refused, start, taken, step}
-use Rattle.description_board.specs.Rules.{stepAll, finish, described}
+use Rattle.description_board.specs.Rules.{stepAll, hasShare, withoutShare, endRefusal, finish, described}
 use Rattle.description_board.specs.Items.{masterItem, slaveItem, shareItem, items, boardRefusal}
 use Rattle.description_lines.specs.Writer.{itemText, itemsText}
-use Rattle.description.specs.Writer.{writeText}
+use Rattle.description.specs.Writer.{writeText, writeRefusal}
 use Rattle.description_lines.specs.Reader.{masterLine, slaveLine, shareLine, itemOfFields, itemOf, unended, itemsOfPieces}
 use Rattle.description_lines.specs.Reader.{itemsOf}
 use Rattle.description.specs.Reader.{mostBytes, reading, readText}
+use Rattle.description.specs.Blame.{firstRefused, chargedLine, namedMaster, chargedMaster, refusedAt}
 use Rattle.fabric_lanes.specs.Lanes.{lowest, adjacent, legalLanes, postLanes}
 use Rattle.fabric_accesses.specs.Decoding.{agrees, selects, targetOf}
 use Rattle.fabric_accesses.specs.Alignment.{ratio, laneBytes, accessBytes, hasLane, byteOffset}
@@ -44,15 +45,17 @@ use Rattle.fabric.specs.Calls.{clock, storeAfterClock, afterPost, afterClock}
 use Rattle.wait_turns.specs.Waits as quoted
 use Rattle.wait.specs.Calls.{quoteRefusal, quoteOf}
 use Rattle.wait.specs.Answers.{bytes64, pairBytes, pairRefusal, waitRefusal, waitOutput}
-use Rattle.wait_table.specs.Tables.{heading, pairLine, pairLines, tableText, tableOf, refusedText, printed}
+use Rattle.wait_table.specs.Tables.{heading, pairLine, pairLines, tableText, tableOf, printRefusal, refusedText, printed}
+use Rattle.wait_table.specs.Named.{firstField, someLine, names}
 use Rattle.theorem_rows.specs.RowCalls.{runs, started, lineNow, phases, grants}
 use Rattle.theorem_rows.specs.Examples.{readAnswers, slaveAnswers, Examples}
 use Rattle.theorem_rows.specs.NativeRows.{nativeText, nativeBoard, nativeStart, clockedWith, shownWith, nativeAnswers}
 use Rattle.theorem_rows.specs.NativeRows.{joined, NativeRows}
+use Rattle.theorem_rows.specs.ConnectionRows.{withShares, threeMasters, lent, world, ConnectionRows}
 use Rattle.theorem_rows.specs.Rows.{boardText, sharesText, tableOutput, Rows}
 
 -- one list of definitions for all tables, crate by crate
-proved : Rows × Examples × NativeRows
+proved : Rows × Examples × NativeRows × ConnectionRows
 unfolding
     ones onesIn trailingZeros
     bytesOf bit member same gather table sum every some firstFrom first
@@ -60,12 +63,12 @@ unfolding
     fieldsText lineText
     isNative noBoard connected totalSpan startOf memoryLength slaveValues meets overlaps masterRefusal slaveRefusal tooNarrow
     shareRefusal
-    itemRefusal withMaster withSlave withShare withItem isShare refused start taken step stepAll finish described masterItem
-    slaveItem shareItem items boardRefusal
+    itemRefusal withMaster withSlave withShare withItem isShare refused start taken step stepAll hasShare withoutShare
+    endRefusal finish described masterItem slaveItem shareItem items boardRefusal
     itemText itemsText
-    writeText
+    writeText writeRefusal
     masterLine slaveLine shareLine itemOfFields itemOf unended itemsOfPieces itemsOf
-    mostBytes reading readText
+    mostBytes reading readText firstRefused chargedLine namedMaster chargedMaster refusedAt
     lowest adjacent legalLanes postLanes
     agrees selects targetOf ratio laneBytes accessBytes hasLane byteOffset accesses firstByte accessOffset wordOffset writeLanes
     slaveLanes waitOf ownLength
@@ -81,9 +84,10 @@ unfolding
     quoted.longestAccess quoted.mostBeats quoted.single quoted.serve quoted.turn quoted.otherTurn quoted.turnsOf
     quoted.quotedWait quoted.serveOf
     quoteRefusal quoteOf bytes64 pairBytes pairRefusal waitRefusal waitOutput
-    heading pairLine pairLines tableText tableOf refusedText printed
+    heading pairLine pairLines tableText tableOf printRefusal refusedText printed firstField someLine names
     runs started lineNow phases grants readAnswers slaveAnswers boardText sharesText tableOutput
     nativeText nativeBoard nativeStart clockedWith shownWith nativeAnswers joined
+    withShares threeMasters lent world
 proved = (
   record {
     sixteen = refl;
@@ -110,7 +114,6 @@ proved = (
     shifted = refl;
     emptyText = refl;
     emptyLine = refl;
-    unconnected = refl;
     written = refl;
     pair = refl;
     short = refl;
@@ -140,6 +143,30 @@ proved = (
     two = refl;
     figures = refl;
   },
+  record {
+    nobody = refl;
+    printedNobody = refl;
+    last = refl;
+    first = refl;
+    third = refl;
+    lower = refl;
+    taken = refl;
+    namesFirst = refl;
+    namesLast = refl;
+    namesThird = refl;
+    line = refl;
+    noSlave = refl;
+    wait = refl;
+    table = refl;
+    lentReset = refl;
+    lentPost = refl;
+    lentClock = refl;
+    lentQuote = refl;
+    lentWrite = refl;
+    lentShort = refl;
+    lentOutside = refl;
+    lentTaken = refl;
+  },
 )
 
 pub rows : Rows
@@ -150,3 +177,6 @@ examples = proved .1
 
 pub native-rows : NativeRows
 native-rows = proved .2
+
+pub connection-rows : ConnectionRows
+connection-rows = proved .3

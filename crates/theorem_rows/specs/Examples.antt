@@ -1,4 +1,4 @@
--- The examples of rules 9.5, 9.7 and 9.8, and of some other rules, at the board of section 9.
+-- The examples of rules 9.7 and 9.8, and of some other rules, at the board of section 9.
 -- Assumes nothing.
 use mathlib.Core.Path.{_≡_}
 use mathlib.Core.Bool.{false}
@@ -25,7 +25,7 @@ readAnswers a n =
 
 -- what a board of one master and one slave line answers
 unfoldable pub slaveAnswers : List ℕ → ℕ
-slaveAnswers line = readText (bytesOf "master,4,8\n" ++ line) .number
+slaveAnswers line = readText (bytesOf "master,4,8\n" ++ (line ++ bytesOf "share,0,0,1\n")) .number
 
 pub record Examples : Type 0 where
   -- rule 9.7: the last word of the slave
@@ -50,8 +50,6 @@ pub record Examples : Type 0 where
   pub emptyText : printed [] ≡ bytesOf "refused,2\n"
   -- rule 8.2: a line without a byte
   pub emptyLine : printed (bytesOf "\n") ≡ bytesOf "refused,1\n"
-  -- rule 9.5: the table where no pair is connected
-  pub unconnected : printed (bytesOf "master,4,8\nslave,0,8,4,1,0,0,0\n") ≡ bytesOf "master,slave,wait,serve\n"
   -- rule 1.9: the writer's text of the board that was read is that text, byte for byte
   pub written : writeText (readText boardText .board) ≡ boardText
   -- rules 5.8 and 8.6: wait and serve of a pair, 8 bytes each; the 2 bytes behind them are kept

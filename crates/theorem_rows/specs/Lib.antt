@@ -2,3 +2,4 @@ pub mod Rows
 pub mod Examples
 pub mod RowCalls
 pub mod NativeRows
+pub mod ConnectionRows
