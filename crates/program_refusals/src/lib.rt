@@ -13,6 +13,7 @@ use common_numbers::BAD_VALUE;
 use common_numbers::BAD_WORDS;
 use common_numbers::HELD;
 use common_numbers::NO_MASTER;
+use common_numbers::NO_SHARE;
 use common_numbers::NOT_CONNECTED;
 use common_numbers::OVERLAP;
 use common_numbers::PAST_END;
@@ -33,10 +34,11 @@ fn say_decimal(fd: i32, n: u64) -> bool {
     program_streams::write_all(fd, &digits[..length])
 }
 
-// Refusal 1 or 2 where the text as a whole is to blame (rule 8.3).
+// Refusals 1, 2 and 20 where the text as a whole is to blame (rule 8.3).
 fn say_of_text(fd: i32, number: u32) -> bool {
     match number {
         BAD_TEXT => program_streams::write_all(fd, b"text over 8192 bytes"),
+        NO_SHARE => program_streams::write_all(fd, b"a master has no share line"),
         _ => program_streams::write_all(fd, b"at the end, no master or no slave"),
     }
 }
@@ -85,8 +87,11 @@ fn say_of_call(fd: i32, number: u32) -> bool {
     }
 }
 
-// A number by itself: of 1 and 2 both kinds of cause. 19 came behind the numbers of the calls, and is a line's.
+// A number by itself: of 1 and 2 both kinds of cause. 19 and 20 came behind the numbers of the calls: 19 is a line's, 20 the text's.
 fn say_number(fd: i32, number: u32) -> bool {
+    if number == NO_SHARE {
+        return say_of_text(fd, number);
+    }
     if (BAD_SHARE < number) & (number != TOO_NARROW) {
         return say_of_call(fd, number);
     }
@@ -104,11 +109,32 @@ fn say_refusal(number: u32) {
     program_streams::write_all(STDERR_FILENO, b": ");
 }
 
-// One line on standard error, as `refusal 4: base no multiple of span`, of a number that no line of a text is known for.
-pub fn explain_number(number: u32) {
+// The master that 20 names (rule 8.3).
+fn say_master(master: u32) {
+    program_streams::write_all(STDERR_FILENO, b"master ");
+    say_decimal(STDERR_FILENO, master as u64);
+    program_streams::write_all(STDERR_FILENO, b" has no share line");
+}
+
+// One line on standard error, as `refusal 4: base no multiple of span`, of a number that no line of a text is known for. 20 names
+// the master.
+pub fn explain_number(number: u32, master: u32) {
     say_refusal(number);
-    say_number(STDERR_FILENO, number);
+    if number == NO_SHARE {
+        say_master(master);
+    } else {
+        say_number(STDERR_FILENO, number);
+    }
     program_streams::write_all(STDERR_FILENO, b"\n");
+}
+
+// The cause where no line is charged (rule 8.3).
+fn say_of_end(r: Refusal) {
+    if r.number == NO_SHARE {
+        say_master(r.master);
+    } else {
+        say_of_text(STDERR_FILENO, r.number);
+    }
 }
 
 // The commas of a line of the text, which is charged and so has a number from 1 on; no more than 255 are counted.
@@ -175,11 +201,11 @@ fn say_of_old_line(text: &[u8], r: Refusal) {
 }
 
 // One line on standard error, as `line 3: refusal 4: base no multiple of span`. Of 1 and 2 the cause is told by whether a line is
-// charged.
+// charged; 20 is charged to none, and names the master.
 pub fn explain(text: &[u8], r: Refusal) {
     if r.line == 0 {
         say_refusal(r.number);
-        say_of_text(STDERR_FILENO, r.number);
+        say_of_end(r);
     } else {
         program_streams::write_all(STDERR_FILENO, b"line ");
         say_decimal(STDERR_FILENO, r.line as u64);
@@ -212,7 +238,7 @@ pub fn list(fd: i32, last: u32) -> bool {
 
 // The same for the numbers that a description is refused with.
 pub fn list_of_text(fd: i32) -> bool {
-    list(fd, BAD_SHARE) && say_entry(fd, TOO_NARROW)
+    list(fd, BAD_SHARE) && say_entry(fd, TOO_NARROW) && say_entry(fd, NO_SHARE)
 }
 
 // What a program prints of a description that is refused.

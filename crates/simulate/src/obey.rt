@@ -23,7 +23,8 @@ fn obey_reset(
 ) -> Session {
     *state = [0; STATE_NUMBERS];
     let number = fabric::reset(board, state);
-    program_script::answer(out, session, b"reset", number)
+    let master = description_rules::without_share(board);
+    program_script::answer(out, session, b"reset", number, master)
 }
 
 // A post's bytes are the line's last field.
@@ -55,7 +56,8 @@ fn obey_post(
         beats,
         &bytes[..end],
     );
-    program_script::answer(out, session, b"post", number)
+    let lacking = description_rules::without_share(board);
+    program_script::answer(out, session, b"post", number, lacking)
 }
 
 // How many clocks are left after one: none where its answer could not be printed.
@@ -91,10 +93,11 @@ fn obey_clock(
         next = program_script::put_clock(&mut *out, next, number, c.mask, &lines, slaves);
         left = left_after(left, next.broken);
     }
-    program_script::call(&*out, next, number)
+    let master = description_rules::without_share(board);
+    program_script::call(&*out, next, number, master)
 }
 
-// The wait is that of the board as it was read.
+// The wait is that of the board as it was read, on which every master has a share line.
 fn obey_wait(session: Session, c: Command, text: &[u8], out: &mut [u8; ROOM]) -> Session {
     let mut board = [0u32; BOARD_NUMBERS];
     description::read(text, &mut board);
@@ -105,7 +108,7 @@ fn obey_wait(session: Session, c: Command, text: &[u8], out: &mut [u8; ROOM]) ->
     );
     let numbers = [q.number as u64, q.wait, q.serve];
     let printed = program_script::put_line(&mut *out, session, b"wait", &numbers);
-    program_script::call(&*out, printed, q.number)
+    program_script::call(&*out, printed, q.number, 0)
 }
 
 // A fill or a show of lent bytes.

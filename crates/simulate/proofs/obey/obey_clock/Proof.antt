@@ -34,6 +34,9 @@ loop-less c = search needs
 loop-again : tie.Need-loop-again Inv-loop μ-loop
 loop-again c = search needs
 
+without-share-requires : tie.Need-without-share-requires Inv-loop μ-loop
+without-share-requires c κs = search needs
+
 call-requires : tie.Need-call-requires Inv-loop μ-loop
 call-requires c κs = search needs
 
@@ -59,6 +62,7 @@ obey-clock-spec =
     left-after-requires
     loop-less
     loop-again
+    without-share-requires
     call-requires
     same-length
     same-length-2
