@@ -3,17 +3,19 @@
  *
  * Link with libfabric_c.a, which `rt staticlib fabric_c` writes to target/staticlib/ (x86-64 Linux).
  *
- *   fabric_read, fabric_refused_at         a description's text to a board; the line that is to blame
+ *   fabric_read                            a description's text to a board
+ *   fabric_refused_at, _refused_master     the line that is to blame for a refusal; the master that 20 names
  *   fabric_reset, fabric_post              the state after a reset; a master hands in a transfer
  *   fabric_clock, fabric_run               one clock of all slaves; clocks until a master finishes
  *   fabric_wait                            the most clocks that a master waits at a slave
  *
  * A rule that is cited by its number, as rule 4.13, stands in docs/RULES.md. Refusal k is rule 7.k.
  *
- * Each call answers FABRIC_TAKEN or the number of a refusal. It judges the description, line by line (rule 8.2), or the board
- * first, and then in rising order of the numbers (rule 8.4). Where it refuses, board, state, memory, buffer and out stay as they
- * were, and all numbers of lines, mask and clocks are 0 (rule 8.1). The calls keep nothing and allocate nothing: board, state,
- * lines, memory and buffer are the caller's, and calls on different ones may be made at the same time.
+ * Each call but fabric_refused_master answers FABRIC_TAKEN or the number of a refusal. It judges the description, line by line
+ * (rule 8.2), or the board first, and then in rising order of the numbers (rule 8.4). Where it refuses, board, state, memory,
+ * buffer and out stay as they were, and all numbers of lines, mask and clocks are 0 (rule 8.1). The calls keep nothing and
+ * allocate nothing: board, state, lines, memory and buffer are the caller's, and calls on different ones may be made at the same
+ * time.
  *
  * A board, a state and a clock's lines are plain numbers of 32 bits, which may also be set by hand (rules 1.10 and 2.4). A
  * mark (held, write, serving) is yes unless it is 0. Every other number is judged as it stands, none is cut to fewer bits: a
@@ -34,7 +36,7 @@ extern "C" {
 #endif
 
 /* The version of this header and of the library. */
-#define FABRIC_VERSION "1.1"
+#define FABRIC_VERSION "1.2"
 
 /* The most masters and slaves of a board (rule 1.1), and the most bytes of its description (rule 1.2). */
 #define FABRIC_MASTERS 8
@@ -58,8 +60,8 @@ extern "C" {
 #define FABRIC_LINES_NUMBERS 96
 
 /*
- * What the calls answer. Whoever writes the description causes 1 to 7 and 19, whoever embeds the library 8 to 10, whoever posts
- * or asks for a wait 11 to 18. The comments are reminders: rule 7.k has refusal k whole.
+ * What the calls answer. Whoever writes the description causes 1 to 7, 19 and 20, whoever embeds the library 8 to 10, whoever
+ * posts or asks for a wait 11 to 18. The comments are reminders: rule 7.k has refusal k whole.
  */
 #define FABRIC_TAKEN 0
 #define FABRIC_BAD_TEXT 1       /* the text's length or last line feed; a line's first word, its fields, a number */
@@ -81,6 +83,7 @@ extern "C" {
 #define FABRIC_PAST_END 17      /* beats beyond the slave's span */
 #define FABRIC_BAD_WORDS 18     /* words of another length than beats * width; any words of a read */
 #define FABRIC_TOO_NARROW 19    /* shares of a master that is narrower than its native slave */
+#define FABRIC_NO_SHARE 20      /* a master without shares at any slave */
 
 /* The phases of a slave's line (rule 4.13). */
 #define FABRIC_IDLE 0
@@ -158,7 +161,7 @@ typedef char fabric_lines_fits[sizeof(struct fabric_lines) == FABRIC_LINES_NUMBE
  *   text, text_length   the description, FABRIC_TEXT_BYTES at the most
  *   board               where the board goes: all its numbers, those behind the counts are 0
  *
- * Refused with 1 to 7 and 19, by the first line to blame (rule 8.2).
+ * Refused with 1 to 7 and 19, by the first line to blame, and with 2 and 20 for what is missing at the end (rule 8.2).
  */
 uint32_t fabric_read(const uint8_t *text, size_t text_length, struct fabric_board *board);
 
@@ -167,11 +170,20 @@ uint32_t fabric_read(const uint8_t *text, size_t text_length, struct fabric_boar
  *
  *   text, text_length   as for fabric_read
  *   line                the line charged, counted from 1; 0 where none is: for a text that is taken, one over
- *                       FABRIC_TEXT_BYTES (1), and one that ends without a master or a slave (2)
+ *                       FABRIC_TEXT_BYTES (1), and one at whose end something is missing (2, 20)
  *
  * Answers what fabric_read does.
  */
 uint32_t fabric_refused_at(const uint8_t *text, size_t text_length, size_t *line);
+
+/*
+ * The master that FABRIC_NO_SHARE names (rule 8.3).
+ *
+ *   text, text_length   as for fabric_read
+ *
+ * Answers the number of the lowest master that has no share line, where fabric_read answers FABRIC_NO_SHARE; 0 otherwise.
+ */
+uint32_t fabric_refused_master(const uint8_t *text, size_t text_length);
 
 /*
  * The state after a reset (rule 4.2). Memory and buffer have no part in it.
@@ -179,7 +191,7 @@ uint32_t fabric_refused_at(const uint8_t *text, size_t text_length, size_t *line
  *   board   as fabric_read left it, or made by hand
  *   state   where the state goes, all its numbers
  *
- * Refused with 2 to 7 and 19, as the lines of the board's own description would be (rule 8.5).
+ * Refused with 2 to 7, 19 and 20, as the lines of the board's own description would be (rule 8.5).
  */
 uint32_t fabric_reset(const struct fabric_board *board, struct fabric_state *state);
 
@@ -193,7 +205,7 @@ uint32_t fabric_reset(const struct fabric_board *board, struct fabric_state *sta
  *   address, lanes, beats   the first byte's address, the lanes of the master's word (rules 3.4 and 3.5), the count of words
  *   words, words_length     beats * width bytes, lowest address first; for a read 0 bytes
  *
- * Refused with 2 to 7 and 19 (the board), 8 (the buffer), 9 (the state) and 11 to 18 (the transfer).
+ * Refused with 2 to 7, 19 and 20 (the board), 8 (the buffer), 9 (the state) and 11 to 18 (the transfer).
  */
 uint32_t fabric_post(const struct fabric_board *board, struct fabric_state *state, uint8_t *buffer, size_t buffer_length,
                      uint32_t master, uint32_t write, uint32_t address, uint32_t lanes, uint32_t beats,
@@ -208,7 +220,7 @@ uint32_t fabric_post(const struct fabric_board *board, struct fabric_state *stat
  *   lines                   what the clock shows of each slave; behind the board's slaves 0
  *   mask                    the masters that are finished: bit m for master m
  *
- * Refused with 2 to 7 and 19 (the board), 8 (memory or buffer) and 9 (the state).
+ * Refused with 2 to 7, 19 and 20 (the board), 8 (memory or buffer) and 9 (the state).
  */
 uint32_t fabric_clock(const struct fabric_board *board, struct fabric_state *state, uint8_t *memory, size_t memory_length,
                       uint8_t *buffer, size_t buffer_length, struct fabric_lines *lines, uint32_t *mask);
@@ -236,7 +248,7 @@ uint32_t fabric_run(const struct fabric_board *board, struct fabric_state *state
  *   master, slave       their numbers, counted from 0 in the order of the description's lines
  *   out, out_length     where the figures go, in the first FABRIC_WAIT_BYTES (rule 5.8); no byte behind these is changed
  *
- * Refused with 1 to 7 and 19 (the description), 10 (out_length), 11 (the master) and 16 (the slave).
+ * Refused with 1 to 7, 19 and 20 (the description), 10 (out_length), 11 (the master) and 16 (the slave).
  */
 uint32_t fabric_wait(const uint8_t *text, size_t text_length, uint32_t master, uint32_t slave,
                      uint8_t *out, size_t out_length);

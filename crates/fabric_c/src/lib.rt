@@ -49,6 +49,15 @@ pub extern "C" fn fabric_refused_at(text: &[u8], line: &mut [usize; 1]) -> u32
     r.number
 }
 
+// The master that a text's refusal with 20 names (rule 8.3).
+#[no_mangle]
+pub extern "C" fn fabric_refused_master(text: &[u8]) -> u32
+    ensures { λ r. ⌜ r ≡ refusedAt (now (text .entry)) .master ⌝ }
+{
+    let r = description::refused_at(text);
+    r.master
+}
+
 // A reset (rule 4.2).
 #[no_mangle]
 pub extern "C" fn fabric_reset(
