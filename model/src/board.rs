@@ -66,6 +66,11 @@ impl Board {
         self.shares[master][slave] > 0
     }
 
+    /// Whether some slave is connected with the master.
+    pub fn has_share(&self, master: usize) -> bool {
+        self.shares[master].iter().any(|&shares| shares > 0)
+    }
+
     /// Every master with every slave, connected or not, by master.
     pub fn pairs(&self) -> impl Iterator<Item = (usize, usize)> {
         let slaves = self.slave_count as usize;

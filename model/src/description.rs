@@ -206,10 +206,14 @@ impl Draft {
         Ok(())
     }
 
-    /// The last chance for refusal 2: a board needs a master and a slave.
+    /// What only the end shows: a board needs a master and a slave (2), and each of its masters a share line (20).
     fn finish(self) -> Result<Board, u8> {
         if self.board.master_count == 0 || self.board.slave_count == 0 {
             return Err(2);
+        }
+        let mut masters = 0..self.board.master_count as usize;
+        if masters.any(|master| !self.board.has_share(master)) {
+            return Err(20);
         }
         Ok(self.board)
     }
@@ -228,7 +232,7 @@ fn slave_values_in_range(values: [u64; 7]) -> bool {
 }
 
 /// Refuses the length before any line, and the first bad line with its lowest number; a last line without its line feed is a
-/// bad line like any other.
+/// bad line like any other. What only the end shows is charged to no line.
 pub fn read_with_place(text: &[u8]) -> Result<Board, (u8, Place)> {
     if text.len() > TEXT_LIMIT {
         return Err((1, Place::Length));
@@ -304,7 +308,8 @@ fn each_line(board: &Board, mut each: impl FnMut(Line) -> Result<(), u8>) -> Res
     each_share_line(board, each)
 }
 
-/// Refusals 2 to 7 and 19 of a board that did not come through the reader: those of the lines that the writer would put.
+/// Refusals 2 to 7, 19 and 20 of a board that did not come through the reader: those of the lines that the writer would put,
+/// then those of the end.
 pub fn check_board(board: &Board) -> Result<(), u8> {
     let mut draft = Draft::default();
     each_line(board, |line| draft.take(&line))?;

@@ -104,7 +104,7 @@ fn check_slot(board: &Board, state: &State, targets: &Targets, slave: usize) -> 
     Ok(())
 }
 
-/// The board's 2 to 7 and 19, 8 for the buffer, 9, then 11 to 18; the master that posts.
+/// The board's 2 to 7, 19 and 20, 8 for the buffer, 9, then 11 to 18; the master that posts.
 pub fn judge_post(
     board: &Board,
     state: &State,
@@ -137,7 +137,7 @@ pub fn judge_post(
     Ok(master)
 }
 
-/// The board's 2 to 7 and 19, 8 for memory and buffer, then 9.
+/// The board's 2 to 7, 19 and 20, 8 for memory and buffer, then 9.
 pub fn judge_clock(
     board: &Board,
     state: &State,

@@ -141,12 +141,13 @@ fn shares(random: &mut Random, limit: usize) -> u8 {
     }
 }
 
-/// Gives the pairs their shares, or leaves them unconnected.
+/// Gives the pairs their shares, or leaves them unconnected; every master gets a share line.
 fn connect(random: &mut Random, board: &mut Board, size: Size) {
     let limit = random.pick(&[1, 2, 3, 4, 5, 8, 100]);
     // of eight pairs, how many are connected
     let density = match random.below(20) {
         _ if size == Size::Largest => 8,
+        // then each master has exactly one
         0 => 0,
         1..=3 => 3,
         4..=8 => 6,
@@ -158,6 +159,32 @@ fn connect(random: &mut Random, board: &mut Board, size: Size) {
         }
     }
     disconnect_narrow(board);
+    connect_rest(random, board, limit);
+}
+
+/// Gives each master that has no share line one, of at most so many shares.
+pub fn connect_rest(random: &mut Random, board: &mut Board, limit: usize) {
+    for master in 0..board.master_count as usize {
+        if !board.has_share(master) {
+            let slave = slave_for(random, board, master);
+            board.shares[master][slave] = shares(random, limit);
+        }
+    }
+}
+
+/// A slave that the master can be connected with. Where all of them are native and wider than the master, it becomes as wide as
+/// the one picked.
+fn slave_for(random: &mut Random, board: &mut Board, master: usize) -> usize {
+    let slaves = board.slave_count as usize;
+    let fitting: Vec<usize> = (0..slaves)
+        .filter(|&slave| !board.too_narrow(master, slave))
+        .collect();
+    if !fitting.is_empty() {
+        return random.pick(&fitting);
+    }
+    let slave = random.below(slaves);
+    board.masters[master].width = board.slaves[slave].width;
+    slave
 }
 
 /// Takes away the shares at native slaves that are wider than the master.
@@ -304,17 +331,22 @@ fn taken_text(random: &mut Random) -> Vec<u8> {
     joined(&lines(random, &board))
 }
 
-/// Boards for the simulator, a file each: about nine in ten are taken by the reader.
+/// Boards for the simulator and the table, a file each: nearly nine in ten are taken by the reader.
 pub fn write_boards(seed: u64, count: usize, directory: &Path) -> io::Result<()> {
     fs::create_dir_all(directory)?;
     let mut random = Random::new(seed);
     let plans = texts::damaging_plans();
     for index in 0..count {
-        let text = if random.chance(1, 10) {
-            let plan = random.pick(&plans);
-            texts::text(&mut random, plan)
-        } else {
-            taken_text(&mut random)
+        let text = match random.below(100) {
+            0..=9 => {
+                let plan = random.pick(&plans);
+                texts::text(&mut random, plan)
+            }
+            10..=13 => {
+                let plan = texts::unconnected_plan(&mut random);
+                texts::text(&mut random, plan)
+            }
+            _ => taken_text(&mut random),
         };
         fs::write(directory.join(format!("{index}.txt")), text)?;
     }

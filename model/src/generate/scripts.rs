@@ -8,6 +8,7 @@ mod native;
 mod posts;
 mod restore;
 mod slots;
+mod unconnected;
 
 use std::io::{self, Write};
 
@@ -148,12 +149,13 @@ impl Author {
 
     /// Some lines that belong together.
     fn stretch(&mut self) {
-        match self.random.below(25) {
+        match self.random.below(26) {
             0..=12 => self.busy(),
             13 | 14 => self.quiet(),
             15..=20 => self.corrupt(),
             21 | 22 => self.lend(),
             23 => self.realign(),
+            24 => self.unconnect(),
             _ => self.fresh(),
         }
     }

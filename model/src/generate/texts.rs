@@ -6,6 +6,7 @@ mod long;
 mod meaning;
 mod native;
 mod parts;
+mod unconnected;
 
 use std::io::{self, Write};
 
@@ -18,6 +19,7 @@ use long::long_text;
 use meaning::{meaning_text, MEANINGS};
 use native::{native_text, NATIVES};
 use parts::{damage_board, fields_of, Kind, KINDS};
+use unconnected::{unconnected_text, ONLY_UNCONNECTED, UNCONNECTED};
 
 /// What one text is to be.
 #[derive(Clone, Copy)]
@@ -34,6 +36,8 @@ pub enum Plan {
     Meaning(usize),
     /// The numbered fault at a native slave and a master narrower than it.
     Native(usize),
+    /// The numbered text in which a master has no share line.
+    Unconnected(usize),
     /// A text of this length whose first fault is the numbered one.
     Long(usize, usize),
     TwoFields(Kind),
@@ -80,9 +84,17 @@ pub fn damaging_plans() -> Vec<Plan> {
     plans.extend((0..WHOLE_DAMAGES).map(Plan::Whole));
     plans.extend((0..2 * MEANINGS).map(|case| Plan::Meaning(case % MEANINGS)));
     plans.extend((0..6 * NATIVES).map(|case| Plan::Native(case % NATIVES)));
+    plans.extend((0..2 * UNCONNECTED).map(|case| Plan::Unconnected(case % UNCONNECTED)));
+    plans.extend((0..60).map(|case| Plan::Unconnected(case % ONLY_UNCONNECTED)));
     plans.extend((0..100).map(|_| Plan::TwoLines));
     plans.extend(plans_of_lengths());
     plans
+}
+
+/// A text in which a master has no share line; in two of three cases nothing else is wrong.
+pub fn unconnected_plan(random: &mut Random) -> Plan {
+    let limit = random.pick(&[ONLY_UNCONNECTED, ONLY_UNCONNECTED, UNCONNECTED]);
+    Plan::Unconnected(random.below(limit))
 }
 
 fn all_plans() -> Vec<Plan> {
@@ -114,6 +126,7 @@ pub fn text(random: &mut Random, plan: Plan) -> Vec<u8> {
         Plan::Whole(damage) => whole_text(random, damage),
         Plan::Meaning(case) => meaning_text(random, case),
         Plan::Native(case) => native_text(random, case),
+        Plan::Unconnected(case) => unconnected_text(random, case),
         Plan::Long(length, fault) => long_text(random, length, fault),
         Plan::TwoFields(kind) => two_fields_text(random, kind),
         Plan::TwoLines => two_lines_text(random),

@@ -43,7 +43,7 @@ fn generated_texts_reach_every_refusal_of_the_reader() {
     texts::write_texts(1, 2000, &mut records).expect("memory takes all");
     print_boards(&records, &mut answers).expect("the records are whole");
     let answers = String::from_utf8(answers).expect("the answers are ASCII");
-    for number in [0, 1, 2, 3, 4, 5, 6, 7, 19] {
+    for number in [0, 1, 2, 3, 4, 5, 6, 7, 19, 20] {
         let line = format!("read,{number}");
         assert!(answers.lines().any(|answer| answer == line), "no {line}");
     }
@@ -66,8 +66,16 @@ fn printed_by_scripts(seeds: std::ops::Range<u64>) -> String {
 #[test]
 fn generated_scripts_reach_every_refusal_of_a_post() {
     let printed = printed_by_scripts(0..200);
-    for number in (0..=19).filter(|number| ![1, 10].contains(number)) {
+    for number in (0..=20).filter(|number| ![1, 10].contains(number)) {
         let line = format!("post,{number}");
+        assert!(printed.lines().any(|answer| answer == line), "no {line}");
+    }
+}
+
+#[test]
+fn generated_scripts_call_with_a_master_that_has_no_share_line() {
+    let printed = printed_by_scripts(200..300);
+    for line in ["reset,20", "post,20", "clock,20,0"] {
         assert!(printed.lines().any(|answer| answer == line), "no {line}");
     }
 }

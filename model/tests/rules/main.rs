@@ -10,6 +10,7 @@ mod lanes;
 mod native;
 mod posts;
 mod programs;
+mod unconnected;
 mod waits;
 
 /// A slave with a master twice as wide and one as wide as itself.

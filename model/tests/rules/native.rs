@@ -209,7 +209,8 @@ fn a_native_card_takes_no_narrower_master() {
         [19, 19, 0, 0]
     );
     assert_eq!([1, 2, 4, 8].map(|width| joined(width, ",0", 1)), [0; 4]);
-    assert_eq!(number_of("master,1,1\nslave,0,8,8,1,0,0,1\n"), 0);
+    let elsewhere = "master,1,1\nslave,0,8,8,1,0,0,1\nslave,8,8,8,1,0,0,0\nshare,0,1,1\n";
+    assert_eq!(number_of(elsewhere), 0);
 }
 
 #[test]
@@ -257,6 +258,7 @@ fn a_lent_board_joins_no_narrower_master() {
     // a share line that comes before has a fault of its own
     fabric.board.shares[0][0] = 101;
     assert_eq!(fabric.clock().number, 3);
-    fabric.board.shares = Default::default();
+    fabric.board.shares[0][0] = 1;
+    fabric.board.masters[1].width = 2;
     assert_eq!(fabric.clock().number, 0);
 }

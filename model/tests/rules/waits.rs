@@ -18,8 +18,8 @@ fn no_transfer_is_longer_than_the_span() {
 
 #[test]
 fn an_unconnected_pair_has_no_line() {
-    let unconnected = b"master,4,8\nslave,0,8,2,8,1,0,0\n";
-    assert_eq!(table(unconnected), "master,slave,wait,serve\n");
+    let text = b"master,4,8\nslave,0,8,2,8,1,0,0\nslave,8,8,4,8,0,0,0\nshare,0,1,1\n";
+    assert_eq!(table(text), "master,slave,wait,serve\n0,1,0,2\n");
 }
 
 #[test]

@@ -3,9 +3,9 @@
 use super::lines::{master_line, slave_line, transfer_line};
 use super::posts::Post;
 use super::{Author, Style};
-use crate::board::{Slave, BURSTS, MASTER_LIMIT, SLAVE_LIMIT, WIDTHS};
+use crate::board::{Board, Slave, BURSTS, MASTER_LIMIT, SLAVE_LIMIT, WIDTHS};
 use crate::description::check_board;
-use crate::fabric::{clock, Transfer};
+use crate::fabric::{clock, State, Transfer};
 use crate::generate::boards::{alignment, free_base};
 use crate::lanes::all_lanes;
 
@@ -185,6 +185,7 @@ impl Author {
         for slave in 0..self.slaves() {
             self.put_new_share(masters, slave);
         }
+        self.put_missing_share(masters);
     }
 
     /// A good board with one slave more, as far as its span can be lent.
@@ -223,11 +224,24 @@ impl Author {
         self.put(&format!("share,{master},{slave},{shares}"));
     }
 
+    /// A share line for a master that has none, as far as it can be connected.
+    pub fn put_missing_share(&mut self, master: usize) {
+        let board = self.simulator.board;
+        let fitting: Vec<usize> = (0..self.slaves())
+            .filter(|&slave| !board.too_narrow(master, slave))
+            .collect();
+        if !board.has_share(master) && !fitting.is_empty() {
+            let slave = self.random.pick(&fitting);
+            self.put(&format!("share,{master},{slave},1"));
+        }
+    }
+
     fn corrupt_line(&mut self, style: &Style) {
-        match self.random.below(16) {
+        match self.random.below(17) {
             12 => return self.grow_masters(),
             13 => return self.grow_slaves(),
             14 | 15 => return self.join_narrow(),
+            16 => return self.disconnect(),
             _ => {}
         }
         match self.random.below(12) {
@@ -273,8 +287,24 @@ impl Author {
             && clock(&board, &mut state, &mut memory, &mut buffer).number == 0
     }
 
-    /// Sets board, state or lengths to what they may not be and calls with that. Then goes on with it where it can be used, or
-    /// puts things right.
+    /// Goes on with board and state as they are where they can be used, or puts things right.
+    pub fn go_on_or_restore(&mut self, board: &Board, state: &State) {
+        match self.random.below(6) {
+            0 | 1 if self.usable() => self.board = self.simulator.board,
+            2 => {
+                self.put_board(board);
+                self.put_lends();
+                self.put("reset");
+            }
+            _ => {
+                self.put_board(board);
+                self.put_lends();
+                self.put_state(state);
+            }
+        }
+    }
+
+    /// Sets board, state or lengths to what they may not be and calls with that.
     pub fn corrupt(&mut self) {
         let style = self.style();
         let board = self.board;
@@ -289,18 +319,6 @@ impl Author {
             }
         }
         self.try_calls(&style);
-        match self.random.below(6) {
-            0 | 1 if self.usable() => self.board = self.simulator.board,
-            2 => {
-                self.put_board(&board);
-                self.put_lends();
-                self.put("reset");
-            }
-            _ => {
-                self.put_board(&board);
-                self.put_lends();
-                self.put_state(&state);
-            }
-        }
+        self.go_on_or_restore(&board, &state);
     }
 }

@@ -2,17 +2,18 @@
 
 use super::lines::{master_line, slave_line};
 use super::Author;
-use crate::generate::boards::{disconnect_narrow, uneven_widths};
+use crate::generate::boards::{connect_rest, disconnect_narrow, uneven_widths};
 
 impl Author {
     /// Makes a slave native that was not, or the other way round. Masters narrower than a native slave are disconnected from
-    /// it, so that the board is a good one. Transfers that are under way go on as far as they can: the slave may have done
-    /// more accesses than they have now.
+    /// it, and those that have no share line left get another, so that the board is a good one. Transfers that are under way
+    /// go on as far as they can: the slave may have done more accesses than they have now.
     pub fn realign(&mut self) {
         let slave = self.random.below(self.slaves());
         let mut board = self.board;
         board.slaves[slave].native = 1 - board.slaves[slave].native;
         disconnect_narrow(&mut board);
+        connect_rest(&mut self.random, &mut board, 3);
         self.put_board(&board);
         if self.random.chance(1, 2) {
             self.put("clock,1");

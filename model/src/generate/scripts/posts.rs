@@ -17,7 +17,7 @@ pub struct Post {
 }
 
 impl Author {
-    fn connected_slaves(&self, master: usize) -> Vec<usize> {
+    pub fn connected_slaves(&self, master: usize) -> Vec<usize> {
         (0..self.slaves())
             .filter(|&slave| self.board.connected(master, slave))
             .collect()

@@ -2,7 +2,7 @@
 
 use super::parts::{damage_board, fields_of, pick_line, value_of, Kind};
 use crate::board::{Slave, MEMORY_LIMIT};
-use crate::generate::boards::{free_base, joined, lines, spans_to_the_limit};
+use crate::generate::boards::{connect_rest, free_base, joined, lines, spans_to_the_limit};
 use crate::generate::random::Random;
 
 /// How many faults there are in what the lines say together.
@@ -51,6 +51,7 @@ fn slave_meaning(random: &mut Random, case: usize) -> Vec<Vec<u8>> {
     for row in &mut board.shares {
         row[board.slave_count as usize..].fill(0);
     }
+    connect_rest(random, &mut board, 3);
     let mut lines = lines(random, &board);
     let slaves = &board.slaves[..board.slave_count as usize];
     let other = random.pick(slaves);
@@ -80,6 +81,7 @@ fn full_memory(random: &mut Random, case: usize) -> Vec<Vec<u8>> {
         4 => lines.push(slave_line(base - 8, 8)),
         _ => lines.push(slave_line(0, 7)),
     }
+    lines.push(b"share,0,0,1".to_vec());
     lines
 }
 
@@ -95,6 +97,7 @@ fn over_count(case: usize) -> Vec<Vec<u8>> {
         lines.extend((0..8).map(|_| b"master,4,8".to_vec()));
         lines.push(format!("master,4,{last}").into_bytes());
         lines.push(slave_line(0, 8));
+        lines.extend((0..8).map(|master| format!("share,{master},0,1").into_bytes()));
     } else {
         lines.push(b"master,4,8".to_vec());
         lines.extend((0..16).map(|index| slave_line(8 * index, 8)));

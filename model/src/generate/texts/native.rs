@@ -2,7 +2,7 @@
 
 use super::parts::{damage_board, Kind};
 use crate::board::Board;
-use crate::generate::boards::{disconnect_narrow, joined, lines, uneven_widths};
+use crate::generate::boards::{connect_rest, disconnect_narrow, joined, lines, uneven_widths};
 use crate::generate::random::Random;
 
 /// How many of these texts there are.
@@ -15,7 +15,8 @@ struct Pair {
     slave: usize,
 }
 
-/// A good board with a native slave and a master narrower than it.
+/// A board with a native slave and a master narrower than it. All other masters have a share line; that one may be too narrow
+/// for every slave.
 fn narrow_board(random: &mut Random) -> (Board, Pair) {
     let mut board = damage_board(random);
     let pair = Pair {
@@ -27,6 +28,10 @@ fn narrow_board(random: &mut Random) -> (Board, Pair) {
     board.slaves[pair.slave].width = wide;
     board.slaves[pair.slave].native = 1;
     disconnect_narrow(&mut board);
+    // the pair's own line, which is put later, connects its master
+    board.shares[pair.master][pair.slave] = 1;
+    connect_rest(random, &mut board, 3);
+    board.shares[pair.master][pair.slave] = 0;
     (board, pair)
 }
 

@@ -45,7 +45,7 @@ impl Kind {
     }
 }
 
-/// A board to be damaged; it has a line of every kind.
+/// A board to be damaged.
 pub fn damage_board(random: &mut Random) -> Board {
     let size = match random.below(20) {
         0..=3 => Size::Tiny,
@@ -53,13 +53,7 @@ pub fn damage_board(random: &mut Random) -> Board {
         16..=18 => Size::Any,
         _ => Size::Largest,
     };
-    let mut board = board(random, size);
-    if board.shares.iter().flatten().all(|&shares| shares == 0) {
-        // with bus sizing any two can be connected
-        board.slaves[0].native = 0;
-        board.shares[0][0] = 1;
-    }
-    board
+    board(random, size)
 }
 
 pub fn pick_line(random: &mut Random, board: &Board, line_count: usize, kind: Kind) -> usize {
