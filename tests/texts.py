@@ -5,8 +5,8 @@
     tests/texts.py --check    says whether the stored records are this list, and their stored answers those given here
 
 To add a record, put an entry into its part of the list: the number that the rules give (README.md, "Refusals"; 0 for a text that
-is taken), the reason, and the text. Outside the last two parts a record has as little wrong as can be: without the rule that it is
-there for, it would be answered with another number. Then write the records and let the model in model/ answer them. The stored
+is taken), the reason, and the text. Outside the last three parts a record has as little wrong as can be: without the rule that it
+is there for, it would be answered with another number. Then write the records and let the model in model/ answer them. The stored
 answers are never the program's own, or it would be compared with itself:
 
     tests/texts.py
@@ -41,9 +41,19 @@ def small(master=MASTER, slave=SLAVE, share=SHARE):
     return text(master, slave, share)
 
 
-def slaves(*bases_and_spans):
-    """A board of one master, no share line, and slaves that differ in base and span alone."""
+def unshared(*bases_and_spans):
+    """A master, and slaves that differ in base and span alone: share lines are yet to follow."""
     return text(MASTER, *(f"slave,{base},{span},2,8,1,0,0" for base, span in bases_and_spans))
+
+
+def slaves(*bases_and_spans):
+    """The same with a share line for the first slave."""
+    return unshared(*bases_and_spans) + text(SHARE)
+
+
+def shares(masters):
+    """Share lines of so many masters, each at the first slave."""
+    return [f"share,{master},0,2" for master in range(masters)]
 
 
 def narrow(*shares, native=1):
@@ -68,6 +78,12 @@ def backwards(board):
     return text(*(line for line in lines if line not in shares), *reversed(shares))
 
 
+def without(board, *masters):
+    """A board's text without the share lines of these masters."""
+    names = tuple(f"share,{master}," for master in masters)
+    return text(*(line for line in board.splitlines() if not line.startswith(names)))
+
+
 def longest():
     """Every number has the most digits it can have, spans five of them as often as their total allows."""
     spans = [16384] * 3 + [1024] * 13
@@ -77,8 +93,9 @@ def longest():
     return text(*lines)
 
 
-def every_value():
-    """Every width, burst and span, but for the widest span, both ends of the waits, and both values of the native field."""
+def every_value(*more):
+    """Every width, burst and span, but for the widest span, both ends of the waits, both values of the native field, and both
+    ends of the shares: each master at the slave of its number, which has its width. More slave lines stand behind the others."""
     widths = [1, 2, 4, 8]
     bursts = [1, 2, 4, 8, 16, 32, 64]
     spans = [32768 >> index for index in range(13)] + [8]
@@ -90,6 +107,8 @@ def every_value():
         native = [0, 0, 1, 1, 0][index % 5]
         lines.append(f"slave,{base},{span},{widths[index % 4]},{bursts[index % 7]},{read_wait},{write_wait},{native}")
         base += span
+    lines += more
+    lines += [f"share,{index},{index},{[1, 100][index % 2]}" for index in range(8)]
     return text(*lines)
 
 
@@ -101,9 +120,7 @@ def long(length):
 
 LIST = [
     ("0: boards of every size", [
-        (0, "the shortest text: the least of everything, and no share line", text(
-            "master,1,1", "slave,0,8,1,1,0,0,0")),
-        (0, "the smallest board with a connected pair, shares at their least", text(
+        (0, "the shortest text that is taken: the least of everything", text(
             "master,1,1", "slave,0,8,1,1,0,0,0", "share,0,0,1")),
         (0, "the board of docs/RULES.md, section 9", stored("document01.txt")),
         (0, "a board of a usual size, some of its pairs not connected", stored("crane.txt")),
@@ -116,28 +133,34 @@ LIST = [
             (4294967288, 8), (0, 8))),
         (0, "slaves that touch below and above have no byte in common; the writer leaves them in the order of their lines", slaves(
             (4096, 4096), (0, 4096), (8192, 8))),
-        (0, "the most masters, all alike, at one slave, and none connected", text(*[MASTER] * 8, SLAVE)),
-        (0, "one master at the most slaves: the writer orders by number, 2 before 10", slaves(*row(16)) + text(
+        (0, "the most masters, all alike, at one slave", text(*[MASTER] * 8, SLAVE, *shares(8))),
+        (0, "the most masters, their share lines backwards, each at its own slave", text(
+            *[MASTER] * 8, *(f"slave,{8 * index},8,2,8,1,0,0" for index in range(8)),
+            *(f"share,{index},{index},1" for index in reversed(range(8))))),
+        (0, "one master at the most slaves: the writer orders by number, 2 before 10", unshared(*row(16)) + text(
             "share,0,15,3", "share,0,10,4", "share,0,9,5", "share,0,2,6", "share,0,1,7")),
         (0, "share lines in any order; a master at two slaves, or two masters at one, is no pair twice", text(
             MASTER, "master,2,1", SLAVE, "slave,0,8,1,1,0,0,0",
             "share,1,1,4", "share,0,1,2", "share,1,0,3", "share,0,0,1")),
-        (0, "no share line for the masters below and above the connected one, nor for a slave", text(
-            MASTER, "master,2,1", "master,1,1", SLAVE, "slave,0,8,1,1,0,0,0", "share,1,1,5")),
+        (0, "no share line for the slaves below and above the one that all masters are connected with", text(
+            MASTER, "master,2,1", SLAVE, "slave,0,8,1,1,0,0,0", "slave,8,8,1,1,0,0,0", "share,1,1,5", "share,0,1,4")),
+        (0, "one master, connected with the last of the most slaves alone", unshared(*row(16)) + text("share,0,15,1")),
     ]),
     ("0: native cards", [
         (0, "a board of a usual kind: a native card with a wider master and with one of its own width", stored("encoder.txt")),
-        (0, "a native card alone, and no share line for it", text("master,1,1", "slave,0,8,1,1,0,0,1")),
+        (0, "a native card without a share line", text(
+            "master,1,1", "slave,0,8,1,1,0,0,1", "slave,8,8,1,1,0,0,0", "share,0,1,1")),
         (0, "a master of the card's width", small(slave=NATIVE)),
         (0, "a master twice as wide", small(slave="slave,4096,4096,2,8,1,0,1")),
         (0, "the widest master at the narrowest card", small("master,8,64", "slave,4096,4096,1,8,1,0,1")),
-        (0, "a narrower master on the board that is not connected with the card", narrow("share,2,0,2", "share,1,0,3")),
+        (0, "a narrower master on the board that is connected with another slave, not with the card", text(
+            "master,2,8", MASTER, "master,8,8", NATIVE, "slave,0,8,4,8,1,0,0", "share,2,0,2", "share,1,0,3", "share,0,1,1")),
         (0, "a narrower master at a slave with bus sizing", narrow("share,0,0,1", "share,1,0,2", "share,2,0,3", native=0)),
         (0, "a narrower master at the slave with bus sizing of two, and a wider one at both", text(
             "master,1,1", "master,8,8", "slave,0,8,2,1,0,0,1", "slave,8,8,2,1,0,0,0",
             "share,1,1,4", "share,1,0,3", "share,0,1,2")),
         (0, "by turns native and not: each line keeps its own number", text(
-            MASTER, *(f"slave,{8 * index},8,2,8,1,0,{index % 2}" for index in range(16)))),
+            MASTER, *(f"slave,{8 * index},8,2,8,1,0,{index % 2}" for index in range(16)), SHARE)),
     ]),
     ("1: the text as a whole", [
         (2, "8,192 bytes are not too many: the first line answers", long(8192)),
@@ -197,13 +220,13 @@ LIST = [
     ("2: where a line stands, how many there are, and what is absent at the end", [
         (2, "an empty text", ""),
         (2, "a master and no slave", text(MASTER)),
-        (2, "a slave before any master", text(SLAVE, MASTER)),
+        (2, "a slave before any master", text(SLAVE, MASTER, SHARE)),
         (2, "a share before any master", text(SHARE, MASTER, SLAVE)),
         (2, "a share before any slave", text(MASTER, SHARE, SLAVE)),
-        (2, "a master behind a slave", text(MASTER, SLAVE, MASTER, SHARE)),
-        (2, "a master behind a share", small() + text(MASTER)),
+        (2, "a master behind a slave", text(MASTER, SLAVE, MASTER, *shares(2))),
+        (2, "a master behind a share", small() + text(MASTER, "share,1,0,2")),
         (2, "a slave behind a share", small() + text("slave,0,8,1,1,0,0,0")),
-        (2, "a ninth master", text(*[MASTER] * 9, SLAVE)),
+        (2, "a ninth master", text(*[MASTER] * 9, SLAVE, *shares(9))),
         (2, "a seventeenth slave", slaves(*row(17))),
     ]),
     # The values just inside are those of the boards above.
@@ -258,34 +281,58 @@ LIST = [
     # Spans are multiples of 8, so the least total that is too large is 65,544.
     ("6: more bytes than there can be", [
         (6, "by the least, beside the widest span", slaves((0, 65536), (65536, 8))),
-        (6, "by the least, at the fifteenth slave: the board of exactly 65,536 above and one slave more", every_value() + text(
+        (6, "by the least, at the fifteenth slave: the board of exactly 65,536 above and one slave more", every_value(
             "slave,65536,8,1,1,0,0,0")),
     ]),
     ("7: share lines for a pair that is not there, or has one", [
-        (7, "a master one above the last", small(share="share,1,0,2")),
-        (7, "a slave one above the last", small(share="share,0,1,2")),
-        (7, "a ninth master, where there are eight", text(*[MASTER] * 8, SLAVE, "share,8,0,2")),
+        (7, "a master one above the last", small() + text("share,1,0,2")),
+        (7, "a slave one above the last", small() + text("share,0,1,2")),
+        (7, "a ninth master, where there are eight", text(*[MASTER] * 8, SLAVE, *shares(9))),
         (7, "a seventeenth slave, where there are sixteen: with all shares in one row it would be the first of master 1",
-         text(MASTER) + slaves(*row(16)) + text("share,0,16,2")),
+         text(MASTER) + unshared(*row(16)) + text(SHARE, "share,1,1,2", "share,0,16,2")),
         (7, "a master that is 0 when it is cut to a byte or to 32 bits: a name has no range", small(share="share,4294967296,0,2")),
         (7, "a pair twice, with the same shares", small() + text(SHARE)),
         (7, "a pair twice, with other shares and another pair between", text(
             MASTER, MASTER, SLAVE, SHARE, "share,1,0,3", "share,0,0,5")),
     ]),
     ("19: a share line that joins a master to a native slave wider than it", [
-        (19, "half as wide", narrow("share,0,0,2")),
+        (19, "half as wide", small("master,2,8", NATIVE)),
         (19, "the narrowest master at the widest slave", small("master,1,1", "slave,0,8,8,1,0,0,1")),
         (19, "behind share lines of wider masters", narrow("share,1,0,1", "share,2,0,1", "share,0,0,1")),
         (19, "before share lines of wider masters", narrow("share,0,0,1", "share,1,0,1", "share,2,0,1")),
         (19, "the first slave has bus sizing and takes the master, the second does not", text(
             "master,2,8", "slave,0,8,4,8,1,0,0", NATIVE, "share,0,0,2", "share,0,1,2")),
         (19, "the last master at the last slave of the most that there can be", text(
-            *["master,8,8"] * 7, "master,4,8", *(f"slave,{8 * index},8,8,8,1,0,1" for index in range(16)), "share,7,15,1")),
+            *["master,8,8"] * 7, "master,4,8", *(f"slave,{8 * index},8,8,8,1,0,1" for index in range(16)),
+            *shares(7), "share,7,15,1")),
+    ]),
+    ("20: a master without a share line", [
+        (20, "the only one: the shortest text in which lines are right", text("master,1,1", "slave,0,8,1,1,0,0,0")),
+        (20, "the most there can be, and none has one", text(*[MASTER] * 8, SLAVE)),
+        (20, "the first of two", text(MASTER, "master,2,1", SLAVE, "share,1,0,3")),
+        (20, "the last of two, as where a planner forgot the recorder", text(MASTER, "master,2,1", SLAVE, SHARE)),
+        (20, "the middle one of three", text(MASTER, "master,2,1", MASTER, SLAVE, SHARE, "share,2,0,2")),
+        (20, "the masters below and above the connected one", text(
+            MASTER, "master,2,1", "master,1,1", SLAVE, "slave,0,8,1,1,0,0,0", "share,1,1,5")),
+        (20, "the first of the most, on the largest board", without(stored("largest.txt"), 0)),
+        (20, "one between, on the largest board", without(stored("largest.txt"), 4)),
+        (20, "the last of the most, on the largest board", without(stored("largest.txt"), 7)),
+        (20, "all of them, on the largest board", without(stored("largest.txt"), *range(8))),
+        (20, "one of a board of a usual size", without(stored("crane.txt"), 3)),
+        (20, "as many share lines as masters, two of them of one master", text(
+            MASTER, "master,2,1", SLAVE, "slave,0,8,1,1,0,0,0", "share,0,0,2", "share,0,1,2")),
+        (20, "the first of two: the slaves of the other's lines have the numbers of both", text(
+            MASTER, "master,2,1", SLAVE, "slave,0,8,1,1,0,0,0", "share,1,0,2", "share,1,1,2")),
+        (20, "the last of two, behind lines of the first at the most slaves", text(MASTER) + unshared(*row(16)) + text(
+            *(f"share,0,{slave},2" for slave in range(16)))),
+        (20, "the first of two, before lines of the last at the most slaves", text(MASTER) + unshared(*row(16)) + text(
+            *(f"share,1,{slave},2" for slave in range(16)))),
+        (20, "one that no slave takes: the only slave is native and wider", narrow("share,1,0,1", "share,2,0,1")),
     ]),
     ("Several faults in one line: the lowest number", [
         (1, "1 before 2: a slave before any master, with a bad number", text("slave,4096,4096,2,8,1,0,x", MASTER)),
         (1, "1 before 3: a bad number behind a value outside its list", small(master="master,3,x")),
-        (1, "1 before 3 to 6: a bad number at the end of a slave line with every other fault", slaves((0, 65536)) + text(
+        (1, "1 before 3 to 6: a bad number at the end of a slave line with every other fault", unshared((0, 65536)) + text(
             "slave,4,65536,3,8,1,0,")),
         (1, "1 before 3: no line feed behind shares of 0", small(share="share,0,0,0")[:-1]),
         (1, "1 before 7: a pair twice, with a leading zero", small() + text("share,0,0,02")),
@@ -293,13 +340,13 @@ LIST = [
         (1, "1 before 19: shares with a leading zero", narrow("share,0,0,02")),
         (1, "1 before 19: no line feed", narrow("share,0,0,2")[:-1]),
         (2, "2 before 3: a ninth master, with a width of 0", text(*[MASTER] * 8, "master,0,8", SLAVE)),
-        (2, "2 before 3: a seventeenth slave, with a native field of 2", slaves(*row(16)) + text("slave,4096,8,2,8,1,0,2")),
+        (2, "2 before 3: a seventeenth slave, with a native field of 2", unshared(*row(16)) + text("slave,4096,8,2,8,1,0,2")),
         (2, "2 before 4 to 6: a seventeenth slave, with each of them", slaves(*row(16), (4, 65536))),
         (2, "2 before 3 and 7: a share before any slave, of 0 and for no master", text(MASTER, "share,1,0,0", SLAVE)),
         (3, "3 before 4: a wait of 256, the base no multiple", small(slave="slave,4100,4096,2,8,256,0,0")),
         (3, "3 before 4: a native field of 2, the base no multiple", small(slave="slave,4100,4096,2,8,1,0,2")),
         (3, "3 before 5: a width of 3, the same bytes again", text(MASTER, SLAVE, "slave,4096,4096,3,8,1,0,0")),
-        (3, "3 before 6: a burst of 3, the total passed", slaves((0, 65536)) + text("slave,65536,8,2,3,1,0,0")),
+        (3, "3 before 6: a burst of 3, the total passed", unshared((0, 65536)) + text("slave,65536,8,2,3,1,0,0")),
         (3, "3 before 7: shares of 0 for no master", small(share="share,1,0,0")),
         (3, "3 before 19: shares of 0", narrow("share,0,0,0")),
         (3, "3 before 19: shares of one too many", narrow("share,0,0,101")),
@@ -323,6 +370,29 @@ LIST = [
         (19, "a master narrower than the native slave, then a line without its line feed", narrow("share,0,0,1") + "share,1"),
         (3, "a width of 3, then the end without a slave", text("master,3,8")),
         (1, "a line without its line feed, then the end without a slave", MASTER),
+    ]),
+    ("A master without a share line and another fault: what comes before the end, and at the end 2", [
+        (1, "over 8,192 bytes, in good lines and one long one", text(MASTER, SLAVE, "x" * 8192)),
+        (1, "no line feed behind the last line", text(MASTER, MASTER, SLAVE, SHARE)[:-1]),
+        (1, "an empty line at the end", text(MASTER, MASTER, SLAVE, SHARE, "")),
+        (1, "its only line has a leading zero", text(MASTER, MASTER, SLAVE, SHARE, "share,1,0,02")),
+        (2, "no slave: both are found at the end", text(MASTER, MASTER)),
+        (2, "no slave, and the most masters", text(*[MASTER] * 8)),
+        (2, "a master behind the share lines, which has none itself", small() + text(MASTER)),
+        (2, "a slave behind the share lines", text(MASTER, MASTER, SLAVE, SHARE, "slave,0,8,1,1,0,0,0")),
+        (2, "its only line stands before any slave", text(MASTER, SHARE, SLAVE)),
+        (3, "a width of 3, in the first line", text("master,3,8", SLAVE)),
+        (3, "its only line has shares of 0", text(MASTER, MASTER, SLAVE, SHARE, "share,1,0,0")),
+        (3, "its only line has shares of 0, and stands before others", text(MASTER, MASTER, SLAVE, "share,0,0,0", "share,1,0,2")),
+        (4, "a base that is no multiple of its span", text(MASTER, "slave,4100,4096,2,8,1,0,0")),
+        (5, "slaves with a byte in common", unshared((4096, 4096), (4096, 8))),
+        (6, "more bytes than there can be", unshared((0, 65536), (65536, 8))),
+        (7, "its only line names no slave", text(MASTER, MASTER, SLAVE, SHARE, "share,1,1,2")),
+        (7, "its only line has its number when it is cut to 32 bits", text(MASTER, MASTER, SLAVE, SHARE, "share,4294967297,0,2")),
+        (7, "a line of the other master instead, which has one for the pair", text(MASTER, MASTER, SLAVE, SHARE, SHARE)),
+        (19, "its only line joins it to a native slave wider than it", narrow("share,1,0,1", "share,2,0,1", "share,0,0,1")),
+        (19, "a line of a master narrower than the native slave, and none of the last master", narrow(
+            "share,1,0,1", "share,0,0,1")),
     ]),
 ]
 
