@@ -82,11 +82,64 @@ refused 'master,4,8\nmaster,4,8\n' 2 'refusal 2: at the end, no master or no sla
 refused "$(printf '%08193d' 0)" 1 'refusal 1: text over 8192 bytes'
 refused "$(printf '%08191d' 0)\n" 1 "line 1: refusal 1: $line"
 
+# A master without a share line is named, the lowest where there are several, and no line is to blame (rules 7.20 and 8.3): the
+# board, a format of printf, and the master.
+unshared() {
+    refused "$1" 20 "refusal 20: master $2 has no share line"
+}
+
+masters='master,4,8\nmaster,2,1\nmaster,8,4\nmaster,4,1\n'
+unshared "master,4,8\n$slave\n" 0
+unshared "$masters$slave\n" 0
+unshared "$masters$slave\nshare,1,0,1\nshare,2,0,1\nshare,3,0,1\n" 0
+unshared "$masters$slave\nshare,0,0,1\nshare,2,0,1\nshare,3,0,1\n" 1
+unshared "$masters$slave\nshare,3,0,1\nshare,0,0,1\nshare,1,0,1\n" 2
+unshared "$masters$slave\nshare,0,0,1\nshare,1,0,1\nshare,2,0,100\n" 3
+unshared "$masters$slave\nshare,3,0,1\nshare,0,0,1\n" 1
+unshared "$masters$slave\nshare,2,0,1\nshare,1,0,1\n" 0
+unshared "$masters$slave\nshare,1,0,1\nshare,0,0,1\n" 2
+unshared "$masters$slave\nslave,8,8,1,1,0,0,0\nshare,0,0,1\nshare,0,1,1\nshare,1,1,1\nshare,3,1,1\n" 2
+unshared "master,4,8\n$masters$slave\nshare,0,0,1\nshare,1,0,1\nshare,2,0,1\nshare,3,0,1\n" 4
+
+# The largest board, without the share lines of one master, of the two upper ones, of the first and the last, of all.
+largest=$root/boards/largest.txt
+for master in 0 1 2 3 4 5 6 7; do
+    unshared "$(grep -v "^share,$master," "$largest")\n" "$master"
+done
+unshared "$(grep -v '^share,[67],' "$largest")\n" 6
+unshared "$(grep -v '^share,[07],' "$largest")\n" 0
+unshared "$(grep -v '^share,' "$largest")\n" 0
+
+# Lines are judged before the end of the text, and there 2 before 20 (rule 8.2). A share line that is refused connects nobody.
+refused "$masters" 2 'refusal 2: at the end, no master or no slave'
+refused "$masters$slave\nshare,4,0,1\n" 7 "line 6: refusal 7: $share"
+refused "$masters$slave\nshare,0,1,1\n" 7 "line 6: refusal 7: $share"
+refused "$masters$slave\nshare,3,0,1\nshare,3,0,1\n" 7 "line 7: refusal 7: $share"
+refused "master,2,8\nmaster,1,8\n$native\nshare,1,0,1\n" 19 "line 4: refusal 19: $narrow"
+refused "master,1,8\nmaster,2,8\n$native\nshare,0,0,1\n" 19 "line 4: refusal 19: $narrow"
+refused "$masters$slave\nshare,0,0,0\n" 3 'line 6: refusal 3: value outside its list or range'
+refused "$masters$slave\nshare,0,0,1\n$slave\n" 2 'line 7: refusal 2: line kind out of order or over the count'
+refused "$masters$slave\nshare,0,0,1\nx\n" 1 "line 7: refusal 1: $line"
+refused "master,4,8\n$slave\nshare,0,0,1" 1 "line 3: refusal 1: $line"
+refused "$masters$slave\nshare,0,0,1" 1 "line 6: refusal 1: $line"
+refused "master,4,8\n$slave\n$(printf '%08161d' 0)\n" 1 'refusal 1: text over 8192 bytes'
+refused "master,4,8\n$slave\n$(printf '%08160d' 0)\n" 1 "line 3: refusal 1: $line"
+
 # A board that is taken is not explained.
 printf 'master,4,8\n%s\nshare,0,0,1\n' "$slave" > board.txt
 try table board.txt 'master,slave,wait,serve
 0,0,0,8' ''
 try simulate script.txt '' '' board.txt
+
+# So is one with a slave that has no share line (rule 1.8), and a line for each master, the last master's first.
+# shellcheck disable=SC2059
+printf "$masters$slave\nslave,8,8,1,1,0,0,0\nshare,3,1,1\nshare,2,1,1\nshare,1,1,1\nshare,0,1,1\n" > connected.txt
+try table connected.txt 'master,slave,wait,serve
+0,1,14,8
+1,1,20,2
+2,1,14,8
+3,1,18,4' ''
+try simulate script.txt '' '' connected.txt
 
 # A script, a format of printf, on the board of docs/RULES.md, section 9: what is printed, and what is explained.
 printf 'master,4,8\nmaster,2,1\nslave,4096,4096,2,8,1,0,0\nshare,0,0,2\nshare,1,0,3\n' > fabric.txt
@@ -139,6 +192,111 @@ simulate: script line 4: refusal 4: base no multiple of span'
 called 'share,0,1,1\nreset\n' 'reset,7' "simulate: script line 2: refusal 7: $share"
 called 'slave,0,4096,4096,4,8,1,0,1\nreset\n' 'reset,19' "simulate: script line 2: refusal 19: $narrow"
 
+# A board on which the script leaves a master without a share line: the lines behind a reset, what they print, and which of the
+# script's lines are refused with 20, each with the master that is named: LINE:MASTER.
+unshared_calls() {
+    explained=
+    for named in $3; do
+        explained="${explained:+$explained
+}simulate: script line ${named%:*}: refusal 20: master ${named#*:} has no share line"
+    done
+    called "reset\n$1" "reset,0
+$2" "$explained"
+}
+
+idle=slave,0,0,0,0,0,0,0
+unshared_calls 'share,1,0,0\nreset\n' reset,20 3:1
+unshared_calls 'share,0,0,0\nreset\n' reset,20 3:0
+unshared_calls 'share,1,0,0\nshare,0,0,0\nreset\n' reset,20 4:0
+unshared_calls 'share,1,0,0\npost,0,read,4096,15,1,-\npost,1,read,4096,3,1,-\n' 'post,20
+post,20' '3:1 4:1'
+unshared_calls 'share,0,0,0\nclock,0\nclock,1\nclock,2\n' 'clock,20,0
+clock,20,0
+clock,20,0' '4:0 5:0'
+called 'share,1,0,0\nreset\n' reset,20 'simulate: script line 2: refusal 20: master 1 has no share line'
+# The wait is that of the board as it was read.
+unshared_calls 'share,1,0,0\nwait,1,0\nclock,1\nwait,0,0\n' 'wait,0,36,2
+clock,20,0
+wait,0,6,32' 4:1
+
+# The state is cleared before a reset, also before one that is refused: no last owner is 1 any more.
+unshared_calls 'share,1,0,0\nreset\nstate\n' "reset,20
+$(seq 0 7 | sed 's/.*/transfer,&,0,0,0,0,0/')
+$(seq 0 15 | sed 's/.*/slot,&,0,0,0,0,0/')" 3:1
+
+# What was refused is taken when the share line is given back. Nothing has moved: master 0 is served from where it was.
+unshared_calls 'share,1,0,0\nreset\nshare,1,0,3\nreset\nclock,1\n' "reset,20
+reset,0
+clock,0,0
+$idle" 3:1
+unshared_calls 'share,0,0,0\nclock,1\nshare,1,0,0\nclock,1\nshare,0,0,1\nclock,1\nshare,1,0,1\nclock,1\n' "clock,20,0
+clock,20,0
+clock,20,0
+clock,0,0
+$idle" '3:0 5:0 7:1'
+unshared_calls 'fill,memory,0,11223344\npost,0,read,4096,15,1,-\nclock,1\nshare,0,0,0\nclock,3\npost,1,read,4096,3,1,-\n'"\
+show,buffer,0,4\nshare,0,0,2\nclock,3\nshow,buffer,0,4\n" 'post,0
+clock,0,0
+slave,0,1,0,0,3,2,0
+clock,20,0
+clock,20,0
+clock,20,0
+post,20
+00000000
+clock,0,0
+slave,0,2,0,0,3,2,0
+clock,0,0
+slave,0,1,0,2,3,2,1
+clock,0,1
+slave,0,2,0,2,3,2,1
+11223344' '6:0 7:0'
+# A share line at another slave serves as well. The second slave has the 8 bytes that can be lent beyond the board's own.
+unshared_calls 'slave,1,0,8,2,1,0,0,0\ncount,2,2\nlend,memory,4104\nshare,1,0,0\nreset\nshare,1,1,1\nreset\n'"\
+post,1,write,4,3,1,a1b2\nclock,1\nshow,memory,4100,2\n" "reset,20
+reset,0
+post,0
+clock,0,2
+$idle
+slave,1,2,1,4,3,1,0
+a1b2" 6:1
+
+# A higher count of masters wants share lines for those that come in; a lower one wants none left of those that go out (7).
+unshared_calls 'master,2,1,1\ncount,3,1\nreset\nclock,1\nshare,2,0,1\nreset\nclock,1\n' "reset,20
+clock,20,0
+reset,0
+clock,0,0
+$idle" '4:2 5:2'
+eight=$(for master in 2 3 4 5 6 7; do printf 'master,%d,4,1\\n' "$master"; done)
+unshared_calls "${eight}count,8,1\nreset\n" reset,20 9:2
+unshared_calls "${eight}count,8,1\nshare,2,0,1\nshare,4,0,1\nshare,6,0,1\nreset\nshare,0,0,0\nreset\n" 'reset,20
+reset,20' '12:3 14:0'
+unshared_calls "${eight}share,2,0,1\nshare,3,0,1\nshare,4,0,1\nshare,5,0,1\nshare,6,0,1\ncount,8,1\nreset\n\
+share,7,0,1\nreset\n" 'reset,20
+reset,0' 14:7
+called 'count,1,1\nreset\nshare,1,0,0\nreset\n' 'reset,7
+reset,0' "simulate: script line 2: refusal 7: $share"
+called 'count,1,1\nshare,0,0,0\nshare,1,0,0\nreset\n' reset,20 \
+    'simulate: script line 4: refusal 20: master 0 has no share line'
+
+# What the lines of the board are refused with comes before 20, and 2 too (rule 8.5).
+called 'share,0,0,0\nshare,1,0,0\ncount,2,0\nreset\n' reset,2 \
+    'simulate: script line 4: refusal 2: at the end, no master or no slave; line kind out of order or over the count'
+called 'share,1,0,0\nslave,0,4096,4096,2,8,1,0,2\nreset\n' reset,3 \
+    'simulate: script line 3: refusal 3: value outside its list or range'
+called 'share,1,0,0\nshare,0,0,101\nreset\n' reset,3 'simulate: script line 3: refusal 3: value outside its list or range'
+called 'share,1,0,0\nslave,0,4100,4096,2,8,1,0,0\nreset\n' reset,4 'simulate: script line 3: refusal 4: base no multiple of span'
+called 'share,1,0,0\nshare,2,0,1\nreset\n' reset,7 "simulate: script line 3: refusal 7: $share"
+called 'share,0,0,0\nslave,0,4096,4096,4,8,1,0,1\nreset\n' reset,19 "simulate: script line 3: refusal 19: $narrow"
+# 20 comes before what is refused of lengths (8), the state (9) and a post (11 to 18).
+unshared_calls 'lend,memory,4095\nlend,buffer,0\nshare,1,0,0\nclock,1\npost,0,read,4096,15,1,-\n' 'clock,20,0
+post,20' '5:1 6:1'
+unshared_calls 'slot,0,2,0,0,0,0\nshare,0,0,0\nclock,1\npost,1,read,4096,3,1,-\n' 'clock,20,0
+post,20' '4:0 5:0'
+unshared_calls 'transfer,1,1,0,4096,3,1\nshare,1,0,0\nclock,1\n' clock,20,0 4:1
+unshared_calls 'share,1,0,0\npost,2,read,4096,15,1,-\npost,0,read,4098,6,9,11\npost,0,read,8192,15,1,-\n' 'post,20
+post,20
+post,20' '3:1 4:1 5:1'
+
 # A line with many refused clocks is explained once, and only lines that are refused are.
 called 'reset\nclock,1\nlend,buffer,0\nclock,1000\nlend,buffer,4096\nclock,1\nclock,0\n' "reset,0
 clock,0,0
@@ -146,6 +304,10 @@ slave,0,0,0,0,0,0,0
 $(seq 1000 | sed 's/.*/clock,8,0/')
 clock,0,0
 slave,0,0,0,0,0,0,0" 'simulate: script line 4: refusal 8: memory or buffer not of its exact length'
+unshared_calls 'share,1,0,0\nclock,1000\nshare,1,0,3\nclock,1\nshare,0,0,0\nclock,500\n' "$(seq 1000 | sed 's/.*/clock,20,0/')
+clock,0,0
+$idle
+$(seq 500 | sed 's/.*/clock,20,0/')" '3:1 7:0'
 
 # A malformed line ends the script, also where it is the last and has no line feed.
 called 'reset\npost,2,read,4096,15,1,-\nclock,one\nclock,1\n' 'reset,0
@@ -233,7 +395,8 @@ meanings="  1 text over 8192 bytes; $line
 usage="usage: table < BOARD
 Prints master,slave,wait,serve of every connected pair, or refused, and a number:
 $meanings
-  19 $narrow"
+  19 $narrow
+  20 a master has no share line"
 try table board.txt "$usage" '' --help
 try table board.txt "$usage" '' -h
 try table board.txt "table (Zelgwy) $version" '' --version
@@ -258,7 +421,8 @@ $meanings
   16 no connected slave there
   17 burst passes the slave's end
   18 data not beats times width bytes
-  19 $narrow"
+  19 $narrow
+  20 a master has no share line"
 try simulate script.txt "$help" '' --help
 try simulate script.txt "$help" '' -h
 try simulate script.txt "simulate (Zelgwy) $version" '' --version
