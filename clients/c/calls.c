@@ -1,7 +1,7 @@
 /*
  * What the calls do to the numbers and bytes they are lent: which numbers are refused and with what (refusal k is rule 7.k),
- * that a refusal leaves everything as it was (rule 8.1), what a native slave does with a master's word (rule 4.10), and that a
- * run of clocks leaves what as many clocks leave (rule 4.15).
+ * that a refusal leaves everything as it was (rule 8.1), which master is named where one has no share line (rule 8.3), what a
+ * native slave does with a master's word (rule 4.10), and that a run of clocks leaves what as many clocks leave (rule 4.15).
  */
 #include <stdio.h>
 #include <stdlib.h>
@@ -117,6 +117,16 @@ static uint32_t refused_at(const char *text, size_t length, size_t *line)
     return number;
 }
 
+static uint32_t refused_master(const char *text, size_t length)
+{
+    uint8_t *lent_text = (uint8_t *)lend(text, length);
+    uint32_t master = fabric_refused_master(lent_text, length);
+
+    check("naming a master leaves the text", memcmp(lent_text, text, length) == 0);
+    free(lent_text);
+    return master;
+}
+
 static uint32_t reset(struct lent *l)
 {
     struct fabric_board *board = (struct fabric_board *)lend(&l->board, sizeof l->board);
@@ -188,8 +198,8 @@ static uint32_t run(struct lent *l, uint32_t most)
     return clock_lent(l, sizeof l->memory, sizeof l->buffer, most);
 }
 
-/* A reading that is refused leaves the board, and the line to blame is named (rule 8.3). */
-static void refuses_text(const char *name, const char *text, size_t length, uint32_t due, size_t line_due)
+/* A reading that is refused leaves the board, and the line to blame or the master without a share line is named (rule 8.3). */
+static void judges_text(const char *name, const char *text, size_t length, uint32_t due, size_t line_due, uint32_t master_due)
 {
     struct fabric_board board, before;
     size_t line = 77;
@@ -200,6 +210,19 @@ static void refuses_text(const char *name, const char *text, size_t length, uint
     check(name, due == FABRIC_TAKEN || memcmp(&board, &before, sizeof board) == 0);
     check_number(name, refused_at(text, length, &line), due);
     check(name, line == line_due);
+    check_number(name, refused_master(text, length), master_due);
+}
+
+/* A text that names no master. */
+static void refuses_text(const char *name, const char *text, size_t length, uint32_t due, size_t line_due)
+{
+    judges_text(name, text, length, due, line_due, 0);
+}
+
+/* A text that is refused for a master without a share line, which no line is charged with. */
+static void names_master(const char *name, const char *text, uint32_t master)
+{
+    judges_text(name, text, strlen(text), FABRIC_NO_SHARE, 0, master);
 }
 
 static void readings(void)
@@ -219,6 +242,86 @@ static void readings(void)
     refuses_text("a master narrower than a native slave", "master,2,8\nslave,0,8,4,8,0,0,1\nshare,0,0,1\n", 43,
                  FABRIC_TOO_NARROW, 3);
     refuses_text("no slave", "master,4,8\n", 11, FABRIC_BAD_ORDER, 0);
+}
+
+#define MASTERS "master,4,8\nmaster,2,1\nmaster,8,4\n"
+#define SLAVE "slave,0,64,2,1,0,0,0\n"
+
+/* Masters without a share line; what refuses a line of the text, or 2 at its end, comes first (rule 8.2). */
+static void unshared_texts(void)
+{
+    static const struct {
+        const char *text;
+        uint32_t due;
+        size_t line;
+    } earlier[] = {
+        {MASTERS, FABRIC_BAD_ORDER, 0},
+        {MASTERS SLAVE "share,0,0,1", FABRIC_BAD_TEXT, 5},
+        {MASTERS SLAVE "share,0,0,1\n\n", FABRIC_BAD_TEXT, 6},
+        {MASTERS SLAVE "share,0,0,1\n" SLAVE, FABRIC_BAD_ORDER, 6},
+        {MASTERS SLAVE "share,0,0,0\n", FABRIC_BAD_VALUE, 5},
+        {MASTERS SLAVE "slave,32,64,2,1,0,0,0\n", FABRIC_BAD_BASE, 5},
+        {MASTERS SLAVE SLAVE, FABRIC_OVERLAP, 5},
+        {MASTERS SLAVE "slave,65536,65536,2,1,0,0,0\n", FABRIC_SPAN_TOTAL, 5},
+        {MASTERS SLAVE "share,3,0,1\n", FABRIC_BAD_SHARE, 5},
+        {MASTERS SLAVE "share,2,0,1\nshare,2,0,1\n", FABRIC_BAD_SHARE, 6},
+        {MASTERS "slave,0,64,4,1,0,0,1\nshare,2,0,1\nshare,1,0,1\n", FABRIC_TOO_NARROW, 6},
+    };
+
+    names_master("no share line", MASTERS SLAVE, 0);
+    names_master("a share line of the last master alone", MASTERS SLAVE "share,2,0,1\n", 0);
+    names_master("none of the first", MASTERS SLAVE "share,2,0,1\nshare,1,0,1\n", 0);
+    names_master("none of the second", MASTERS SLAVE "share,2,0,1\nshare,0,0,1\n", 1);
+    names_master("a share line of the first master alone", MASTERS SLAVE "share,0,0,1\n", 1);
+    names_master("none of the last", MASTERS SLAVE "share,0,0,1\nshare,1,0,100\n", 2);
+    names_master("three share lines of two masters",
+                 MASTERS SLAVE "slave,64,64,2,1,0,0,1\nshare,0,0,1\nshare,0,1,1\nshare,2,1,1\n", 1);
+    for (size_t i = 0; i < sizeof earlier / sizeof earlier[0]; i++)
+        refuses_text("what comes before a missing share line", earlier[i].text, strlen(earlier[i].text), earlier[i].due,
+                     earlier[i].line);
+}
+
+/* The lowest master of so many that a set, bit m for master m, does not have; their count where it has all. */
+static uint32_t lowest_without(uint32_t set, uint32_t count)
+{
+    uint32_t m = 0;
+
+    while (m < count && (set >> m & 1) != 0)
+        m++;
+    return m;
+}
+
+/* A description of so many masters and two slaves, with a share line for each master of the set, in either order. */
+static void shared_text(char *text, uint32_t count, uint32_t set)
+{
+    for (uint32_t m = 0; m < count; m++)
+        text += sprintf(text, "master,4,8\n");
+    text += sprintf(text, "slave,0,8,4,8,0,0,0\nslave,8,8,4,8,0,0,0\n");
+    for (uint32_t i = 0; i < count; i++) {
+        uint32_t m = set % 2 == 0 ? i : count - 1 - i;
+
+        if ((set >> m & 1) != 0)
+            text += sprintf(text, "share,%u,%u,1\n", (unsigned)m, (unsigned)((set >> 1 ^ m) & 1));
+    }
+}
+
+/* Every set of masters that have a share line, of every count of masters. */
+static void shared_sets(void)
+{
+    char text[512], name[64];
+
+    for (uint32_t count = 1; count <= FABRIC_MASTERS; count++) {
+        for (uint32_t set = 0; set < 1u << count; set++) {
+            uint32_t lowest = lowest_without(set, count);
+
+            shared_text(text, count, set);
+            sprintf(name, "share lines of the masters %#x, of %u masters", (unsigned)set, (unsigned)count);
+            if (lowest == count)
+                refuses_text(name, text, strlen(text), FABRIC_TAKEN, 0);
+            else
+                names_master(name, text, lowest);
+        }
+    }
 }
 
 /* What is read: the numbers of the description, and 0 behind the counts; and the state after a reset (rule 4.2). */
@@ -343,6 +446,55 @@ static void native_boards(void)
     refuses_board("shares of no master at a native slave", &tried.board.shares[2][1], 1, FABRIC_BAD_SHARE);
 }
 
+/* A master without shares at any slave: 2 to 7 and 19 come before it (rule 8.5). */
+static void unshared_boards(void)
+{
+    tried = fresh;
+    refuses_board("no shares of master 1", &tried.board.shares[1][0], 0, FABRIC_NO_SHARE);
+    tried.board.shares[0][0] = 0;
+    check_number("shares of master 0 at one of its slaves", reset(&tried), FABRIC_TAKEN);
+    refuses_board("no shares of master 0", &tried.board.shares[0][1], 0, FABRIC_NO_SHARE);
+    tried.board.shares[0][1] = 0;
+    refuses_board("no shares at all", &tried.board.shares[1][0], 0, FABRIC_NO_SHARE);
+    tried = fresh;
+    refuses_board("one master, with shares of the second", &tried.board.master_count, 1, FABRIC_BAD_SHARE);
+    tried.board.shares[1][0] = 0;
+    refuses_board("101 shares before no shares", &tried.board.shares[0][0], 101, FABRIC_BAD_VALUE);
+    refuses_board("a wait of 256 before no shares", &tried.board.slave[1].write_wait, 256, FABRIC_BAD_VALUE);
+    refuses_board("a base of 32 before no shares", &tried.board.slave[1].base, 32, FABRIC_BAD_BASE);
+    refuses_board("a base in another slave before no shares", &tried.board.slave[1].base, 4160, FABRIC_OVERLAP);
+    refuses_board("shares of no master before no shares", &tried.board.shares[2][0], 1, FABRIC_BAD_SHARE);
+    refuses_board("shares of no slave before no shares", &tried.board.shares[1][2], 1, FABRIC_BAD_SHARE);
+    tried.board.slave[1].native = 1;
+    refuses_board("a native slave and no shares", &tried.board.master[1].burst, 64, FABRIC_NO_SHARE);
+    refuses_board("a narrower master before no shares", &tried.board.master[0].width, 2, FABRIC_TOO_NARROW);
+    tried.board.shares[0][0] = tried.board.shares[0][1] = 0;
+    refuses_board("no slave, and no shares", &tried.board.slave_count, 0, FABRIC_BAD_ORDER);
+    refuses_board("no master, and no shares", &tried.board.master_count, 0, FABRIC_BAD_ORDER);
+    check_number("two masters without shares", reset(&tried), FABRIC_NO_SHARE);
+    tried.board.shares[0][0] = 2;
+    tried.board.master_count = 1;
+    check_number("the second master is none of the board's", reset(&tried), FABRIC_TAKEN);
+}
+
+/* More masters than have shares: the count alone decides whether a master without them is one of the board. */
+static void unshared_counts(void)
+{
+    tried = fresh;
+    for (uint32_t m = 2; m < FABRIC_MASTERS; m++)
+        tried.board.master[m] = tried.board.master[0];
+    for (uint32_t m = 2; m < FABRIC_MASTERS; m++) {
+        refuses_board("a master more, without shares", &tried.board.master_count, m + 1, FABRIC_NO_SHARE);
+        refuses_board("9 masters, some without shares", &tried.board.master_count, 9, FABRIC_BAD_ORDER);
+        check_number("as many masters as have shares", reset(&tried), FABRIC_TAKEN);
+        tried.board.master_count = m + 1;
+        tried.board.shares[m][m % 2] = m;
+    }
+    check_number("8 masters with shares", reset(&tried), FABRIC_TAKEN);
+    for (uint32_t m = 1; m < FABRIC_MASTERS; m++)
+        refuses_board("one of 8 masters without shares", &tried.board.shares[m][m < 2 ? 0 : m % 2], 0, FABRIC_NO_SHARE);
+}
+
 /* One number of the state is another: neither a post nor a clock takes the state. */
 static void refuses_state(const char *name, uint32_t *number, uint32_t value)
 {
@@ -418,19 +570,21 @@ static void posts(void)
     refuses_post("a transfer held, marked 2", FABRIC_HELD, 0, 0, 4096, 15, 1, 0);
 }
 
-/* A refusal for a length: all lent is as it was, and lines, mask and clocks are 0. */
-static void refuses_lengths(const char *name, size_t memory, size_t buffer)
+/* Clocks of lent blocks of these lengths are refused: all lent is as it was, and lines, mask and clocks are 0. */
+static void refuses_lengths(const char *name, uint32_t due, size_t memory, size_t buffer)
 {
     uint64_t most[2] = {ONE_CLOCK, 9};
 
+    other = tried;
     for (size_t i = 0; i < 2; i++) {
-        tried = fresh;
+        tried = other;
         memset(&tried.lines, 0xa5, sizeof tried.lines);
         tried.mask = tried.clocks = 0xa5;
-        check_number(name, clock_lent(&tried, memory, buffer, most[i]), FABRIC_BAD_LENGTH);
-        check(name, same_lent(&tried, &fresh) && all_zero(&tried.lines, sizeof tried.lines) && tried.mask == 0);
+        check_number(name, clock_lent(&tried, memory, buffer, most[i]), due);
+        check(name, same_lent(&tried, &other) && all_zero(&tried.lines, sizeof tried.lines) && tried.mask == 0);
         check(name, most[i] == ONE_CLOCK || tried.clocks == 0);
     }
+    tried = other;
 }
 
 static void lengths(void)
@@ -440,10 +594,53 @@ static void lengths(void)
                  FABRIC_BAD_LENGTH);
     check_number("a post with no buffer", post_lent(&tried, 0, 0, 1, 4096, 15, 1, 4), FABRIC_BAD_LENGTH);
     check("a post with another buffer changes nothing", same_lent(&tried, &fresh));
-    refuses_lengths("a memory with a byte less", sizeof tried.memory - 1, sizeof tried.buffer);
-    refuses_lengths("no memory", 0, sizeof tried.buffer);
-    refuses_lengths("a buffer with a byte less", sizeof tried.memory, sizeof tried.buffer - 1);
-    refuses_lengths("no buffer", sizeof tried.memory, 0);
+    refuses_lengths("a memory with a byte less", FABRIC_BAD_LENGTH, sizeof tried.memory - 1, sizeof tried.buffer);
+    refuses_lengths("no memory", FABRIC_BAD_LENGTH, 0, sizeof tried.buffer);
+    refuses_lengths("a buffer with a byte less", FABRIC_BAD_LENGTH, sizeof tried.memory, sizeof tried.buffer - 1);
+    refuses_lengths("no buffer", FABRIC_BAD_LENGTH, sizeof tried.memory, 0);
+}
+
+/* A master without shares comes before lengths (8), the state (9) and what is posted (11 to 18): rule 8.4. */
+static void unshared_first(void)
+{
+    tried = fresh;
+    check_number("a transfer to be held", post(&tried, 0, 0, 4096, 15, 1, 0), FABRIC_TAKEN);
+    tried.board.shares[1][0] = 0;
+    refuses_lengths("no shares before the memory's length", FABRIC_NO_SHARE, 0, sizeof tried.buffer);
+    refuses_lengths("no shares before the buffer's length", FABRIC_NO_SHARE, sizeof tried.memory, sizeof tried.buffer - 1);
+    refuses_lengths("no shares before both lengths", FABRIC_NO_SHARE, 0, 0);
+    other = tried;
+    check_number("a post with no shares and no buffer", post_lent(&tried, 0, 1, 0, 4096, 3, 1, 0), FABRIC_NO_SHARE);
+    check("it changes nothing", same_lent(&tried, &other));
+    refuses_post("no shares before no such master", FABRIC_NO_SHARE, 2, 0, 4096, 15, 1, 0);
+    refuses_post("no shares before a transfer held", FABRIC_NO_SHARE, 0, 0, 4096, 15, 1, 0);
+    refuses_post("no shares before no beats", FABRIC_NO_SHARE, 1, 0, 4096, 3, 0, 0);
+    refuses_post("no shares before an address of 4097", FABRIC_NO_SHARE, 1, 0, 4097, 3, 1, 0);
+    refuses_post("no shares before lanes of 0", FABRIC_NO_SHARE, 1, 0, 4096, 0, 1, 0);
+    refuses_post("no shares before an address of no slave", FABRIC_NO_SHARE, 1, 0, 8192, 3, 1, 0);
+    refuses_post("no shares before words of a read", FABRIC_NO_SHARE, 1, 0, 4096, 3, 1, 2);
+    tried.state.slot[0].owner = 2;
+    refuses_post("no shares before the state, by a post", FABRIC_NO_SHARE, 1, 0, 4096, 3, 1, 0);
+    refuses_clock("no shares before the state", FABRIC_NO_SHARE);
+    tried.board.shares[1][0] = 3;
+    refuses_clock("the state, with shares", FABRIC_BAD_STATE);
+}
+
+/* Shares that a served master loses and gets back: what is refused between moves nothing, and its read goes on. */
+static void unshared_between(void)
+{
+    tried = fresh;
+    check_number("a write of master 1", post(&tried, 1, 1, 4098, 3, 1, 2), FABRIC_TAKEN);
+    check_number("a read of master 0", post(&tried, 0, 0, 4096, 15, 1, 0), FABRIC_TAKEN);
+    check_number("the read's first clock", clock_once(&tried), FABRIC_TAKEN);
+    refuses_board("a waiting master without shares", &tried.board.shares[1][0], 0, FABRIC_NO_SHARE);
+    tried.board.shares[0][1] = 0;
+    refuses_board("a served master without shares", &tried.board.shares[0][0], 0, FABRIC_NO_SHARE);
+    check_number("the read's other clocks", run(&tried, 1000), FABRIC_TAKEN);
+    check("the read is finished in its fourth clock", tried.clocks == 3 && tried.mask == 1);
+    check("it has brought its bytes", memcmp(tried.buffer, fresh.memory, 4) == 0);
+    check_number("the write's clock", run(&tried, 1000), FABRIC_TAKEN);
+    check("the write is finished", tried.clocks == 1 && tried.mask == 2 && memcmp(tried.memory + 2, words, 2) == 0);
 }
 
 /* A clock in which slave 0 carries out an access of master 0. */
@@ -545,12 +742,18 @@ static void runs(uint32_t native)
 int main(void)
 {
     readings();
+    unshared_texts();
+    shared_sets();
     board_read();
     boards();
     native_boards();
+    unshared_boards();
+    unshared_counts();
     states();
     posts();
     lengths();
+    unshared_first();
+    unshared_between();
     native_writes();
     native_reads();
     runs(0);

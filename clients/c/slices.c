@@ -21,6 +21,15 @@ static const char native_board[] =
     "share,0,0,2\n"
     "share,1,0,3\n";
 
+/* Two slaves, and each of two masters connected to one of them. */
+static const char two_slaves[] =
+    "master,4,8\n"
+    "master,4,8\n"
+    "slave,0,8,4,1,0,0,0\n"
+    "slave,8,8,4,1,0,0,0\n"
+    "share,0,0,1\n"
+    "share,1,1,1\n";
+
 static int failed;
 
 /* One call: the answer that is due, and how many bytes of out it may change. */
@@ -48,6 +57,25 @@ static void expect(const char *name, const char *text, uint32_t master, uint32_t
     }
 }
 
+/* A master without a share line: every pair of the board is refused, what is asked for it comes behind (rules 8.2 and 8.4). */
+static void unshared(void)
+{
+    static const char second[] = "master,4,8\nmaster,2,1\nslave,4096,4096,2,8,1,0,0\nshare,0,0,2\n";
+    static const char none[] = "master,4,8\nslave,4096,4096,2,8,1,0,0\n";
+
+    expect("a master without a share line", second, 1, 0, 16, 20, NULL, 0);
+    expect("another master of that board", second, 0, 0, 16, 20, NULL, 0);
+    expect("no share line", none, 0, 0, ROOM, 20, NULL, 0);
+    expect("no share line before output", none, 0, 0, 0, 20, NULL, 0);
+    expect("no share line before master", none, 1, 0, 16, 20, NULL, 0);
+    expect("no share line before slave", none, 0, 1, 16, 20, NULL, 0);
+    expect("no slave before no share line", "master,4,8\n", 0, 0, 16, 2, NULL, 0);
+    expect("a share line's value before no share line", "master,4,8\nslave,0,8,4,1,0,0,0\nshare,0,0,0\n", 0, 0, 16, 3, NULL, 0);
+    expect("no such pair before no share line", "master,4,8\nslave,0,8,4,1,0,0,0\nshare,1,0,1\n", 0, 0, 16, 7, NULL, 0);
+    expect("narrower master before no share line", "master,4,8\nmaster,1,8\nslave,0,8,2,1,0,0,1\nshare,1,0,1\n", 0, 0, 16, 19,
+           NULL, 0);
+}
+
 int main(void)
 {
     static const uint8_t first[16] = {6, 0, 0, 0, 0, 0, 0, 0, 32};
@@ -65,13 +93,14 @@ int main(void)
     expect("largest master", board, UINT32_MAX, 0, 16, 11, NULL, 0);
     expect("no such slave", board, 0, 1, 16, 16, NULL, 0);
     expect("largest slave", board, 0, UINT32_MAX, 16, 16, NULL, 0);
-    expect("not connected", "master,4,8\nmaster,4,8\nslave,0,8,4,1,0,0,0\nshare,0,0,1\n", 1, 0, 16, 16, NULL, 0);
+    expect("not connected", two_slaves, 1, 0, 16, 16, NULL, 0);
     expect("refused text", "master,3,8\n", 0, 0, 16, 3, NULL, 0);
     expect("narrower master", "master,1,8\nslave,0,8,2,1,0,0,1\nshare,0,0,1\n", 0, 0, 16, 19, NULL, 0);
     expect("text before output", "master,4,8", 0, 0, 0, 1, NULL, 0);
     expect("output before master", board, 2, 0, 15, 10, NULL, 0);
     expect("master before slave", board, 2, 1, 16, 11, NULL, 0);
     expect("empty text", "", 0, 0, 16, 2, NULL, 0);
+    unshared();
     if (!failed)
         printf("slices: ok\n");
     return failed;

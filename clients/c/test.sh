@@ -84,6 +84,13 @@ printf 'master,4,8\nslave,0,8,4,8,0,0\n' >"$work/six"
 expect 1 "refused,1" "$work/six" 0 0
 printf 'master,2,8\nslave,0,8,4,8,0,0,1\nshare,0,0,1\n' >"$work/narrow"
 expect 1 "refused,19" "$work/narrow" 0 0
+# the crane without the share lines of its master 4 has no wait, not even of another master; nor has a board without share lines
+grep -v '^share,4,' "$root/boards/crane.txt" >"$work/unshared"
+expect 1 "refused,20" "$work/unshared" 3 1
+expect 1 "refused,20" "$work/unshared" 4 3
+expect 1 "refused,20" "$work/unshared" 5 0
+grep -v '^share,' "$board" >"$work/shareless"
+expect 1 "refused,20" "$work/shareless" 0 0
 : >"$work/empty"
 expect 1 "refused,2" "$work/empty" 0 0
 head -c 8193 /dev/zero >"$work/long"
@@ -269,6 +276,12 @@ done
 lockstep "$work/lockstep" 2 "$work/fourth" 1
 if [ "$(cat "$work/errors")" != "lockstep: $work/fourth: line 2: refusal 4" ]; then
     echo "lockstep does not name the line to blame but says:"
+    cat "$work/errors"
+    failed=1
+fi
+lockstep "$work/lockstep" 2 "$work/unshared" 1
+if [ "$(cat "$work/errors")" != "lockstep: $work/unshared: refusal 20" ]; then
+    echo "lockstep names a line to blame for a missing share line:"
     cat "$work/errors"
     failed=1
 fi
