@@ -21,7 +21,7 @@ use Rattle.description_lines.specs.Reader.{itemsOf, itemsOfPieces, unended}
 use Rattle.description_lines.specs.Code.LineFrom.{LineFrom}
 use Rattle.description.specs.Reader.{mostBytes, reading, readText}
 use Rattle.description.specs.declared.Refusal.{Refusal}
-use Rattle.description.specs.Blame.{firstRefused, chargedLine, namedMaster, chargedMaster, refusedAt}
+use Rattle.description.specs.Blame.{firstRefused, chargedLine, masterNamedBy, namedMaster, refusedAt}
 use Rattle.description.specs.Lent.{Read}
 use Rattle.description.specs.Code.Reading.{Comes, LinesCome}
 use Rattle.description.proofs.TextLengths.{reading-short, reading-long}
@@ -59,17 +59,17 @@ counted-none s r e = record {
 pub record Whole (s : List ℕ) (q : Reading) (line master : ℕ) : Type 0 where
   pub reading : q ≡ described (itemsOf s)
   pub charged : line ≡ firstRefused 0 start (itemsOf s)
-  pub named : master ≡ namedMaster (itemsOf s)
+  pub named : master ≡ masterNamedBy (itemsOf s)
 
 -- the master named at the end: q has finished what r has read
 end-named : (xs : List Item) (r q : Reading) (master lowest : ℕ) → stepAll start xs ≡ r → q ≡ finish r
-    → lowest ≡ withoutShare (r .board) → master ≡ cond (eqb (q .number) 20) lowest 0 → master ≡ namedMaster xs
-unfolding namedMaster described
+    → lowest ≡ withoutShare (r .board) → master ≡ cond (eqb (q .number) 20) lowest 0 → master ≡ masterNamedBy xs
+unfolding masterNamedBy described
 end-named xs r q master lowest e f g h = h ∙ rw (e, f, g)
 
 -- none where a line is refused
-line-named : (xs : List Item) → (described xs .number ≡ 20 → ⊥) → 0 ≡ namedMaster xs
-unfolding namedMaster
+line-named : (xs : List Item) → (described xs .number ≡ 20 → ⊥) → 0 ≡ masterNamedBy xs
+unfolding masterNamedBy
 line-named xs h = rw (ne-eqb (described xs .number) 20 h)
 
 module _ (s : List ℕ) (r q : Reading) (n at : ℕ) (before : Counted s r n at) where
@@ -125,8 +125,8 @@ whole-comes s p l line master e = record {
 -- the length goes first
 module _ (s : List ℕ) (l : List ℕ) where
   pub comes-short : (r : Refusal) → length s ≤ mostBytes
-      → LinesCome s l r → Comes (reading s) (chargedLine s) (chargedMaster s) l r
-  unfolding chargedLine chargedMaster
+      → LinesCome s l r → Comes (reading s) (chargedLine s) (namedMaster s) l r
+  unfolding chargedLine namedMaster
   comes-short r h e = record {
     number = e .number ∙ ap (λ (q : Reading). q .number) (sym (reading-short s h));
     charged = e .charged ∙ sym (rw (le-ltb mostBytes (length s) h));
@@ -135,8 +135,8 @@ module _ (s : List ℕ) (l : List ℕ) where
   }
 
   pub comes-long : (p : Progress) → mostBytes < length s → readingOf p l ≡ step start Malformed
-      → Comes (reading s) (chargedLine s) (chargedMaster s) l (record { number = p .number; line = 0; master = 0 })
-  unfolding chargedLine chargedMaster readingOf
+      → Comes (reading s) (chargedLine s) (namedMaster s) l (record { number = p .number; line = 0; master = 0 })
+  unfolding chargedLine namedMaster readingOf
   comes-long p h e = record {
     number = ap (λ (q : Reading). q .number) (e ∙ sym (reading-long s h));
     charged = sym (rw (lt-ltb mostBytes (length s) h));
@@ -145,7 +145,7 @@ module _ (s : List ℕ) (l : List ℕ) where
   }
 
 -- what is answered and what the array holds then
-module _ (s : List ℕ) (l : List ℕ) (r : Refusal) (e : Comes (reading s) (chargedLine s) (chargedMaster s) l r) where
+module _ (s : List ℕ) (l : List ℕ) (r : Refusal) (e : Comes (reading s) (chargedLine s) (namedMaster s) l r) where
   pub read-refused : (before : List ℕ) → (r .number ≡ 0 → ⊥) → Read s before before (r .number)
   unfolding readText
   read-refused before h = record { number = e .number; board = λ z. absurd (h z); kept = λ _. refl }

@@ -16,7 +16,7 @@ use Rattle.description_board.proofs.StepAllLaws.{run-stays, finish-stays, run-n
 use Rattle.description_board.proofs.EndLaws.{Lowest, end-lowest}
 use Rattle.description_lines.specs.Reader.{itemsOf}
 use Rattle.description.specs.Reader.{mostBytes, reading, readText}
-use Rattle.description.specs.Blame.{firstRefused, chargedLine, namedMaster, chargedMaster, refusedAt}
+use Rattle.description.specs.Blame.{firstRefused, chargedLine, masterNamedBy, namedMaster, refusedAt}
 use Rattle.description.proofs.BlameLaws.{first-taken, first-refused}
 use Rattle.description.proofs.TextLengths.{reading-short}
 
@@ -138,13 +138,13 @@ charged-twenty s e = go (refusedAt s .line) refl
 
 -- The master that it names is the lowest that has no share line, on the board of the text's lines.
 pub named-lowest : (s : List ℕ) → refusedAt s .number ≡ 20 → Lowest (stepAll start (itemsOf s) .board) (refusedAt s .master)
-unfolding refusedAt chargedMaster namedMaster readText reading described start refused
+unfolding refusedAt namedMaster masterNamedBy readText reading described start refused
 named-lowest s = go (ltb mostBytes (length s)) (run-number start (itemsOf s) (omega arith))
   where
     go :
         (b : Bool) → stepAll start (itemsOf s) .number ≤ 19
         → cond b (refused 1) (described (itemsOf s)) .number ≡ 20
-        → Lowest (stepAll start (itemsOf s) .board) (cond b 0 (namedMaster (itemsOf s)))
+        → Lowest (stepAll start (itemsOf s) .board) (cond b 0 (masterNamedBy (itemsOf s)))
     go true low e = absurd (omega arith)
     go false low e =
         rw (eq-eqb (described (itemsOf s) .number) 20 e)

@@ -22,13 +22,13 @@ unfoldable pub chargedLine : List ℕ → ℕ
 chargedLine text = cond (ltb mostBytes (length text)) 0 (firstRefused 0 start (itemsOf text))
 
 -- rules 7.20, 8.3: the master that these lines' refusal names: the lowest that has no share line; 0 where it is not 20
-unfoldable pub namedMaster : List Item → ℕ
-namedMaster xs = cond (eqb (described xs .number) 20) (withoutShare (stepAll start xs .board)) 0
+unfoldable pub masterNamedBy : List Item → ℕ
+masterNamedBy xs = cond (eqb (described xs .number) 20) (withoutShare (stepAll start xs .board)) 0
 
 -- rule 8.3: the same of a text
-unfoldable pub chargedMaster : List ℕ → ℕ
-chargedMaster text = cond (ltb mostBytes (length text)) 0 (namedMaster (itemsOf text))
+unfoldable pub namedMaster : List ℕ → ℕ
+namedMaster text = cond (ltb mostBytes (length text)) 0 (masterNamedBy (itemsOf text))
 
 -- rules 8.2, 8.3: what `refused_at` answers: the number of `read`, the line charged, and the master named
 unfoldable pub refusedAt : List ℕ → Refusal
-refusedAt text = record { number = readText text .number; line = chargedLine text; master = chargedMaster text }
+refusedAt text = record { number = readText text .number; line = chargedLine text; master = namedMaster text }

@@ -11,7 +11,7 @@ ghost use Rattle.common_text.specs.Code.Scanning.{Put};
 ghost use Rattle.description_board.specs.Items.{boardRefusal};
 ghost use Rattle.description_layout.specs.Layout.{boardLength, boardIn};
 ghost use Rattle.description.specs.Reader.{reading};
-ghost use Rattle.description.specs.Blame.{chargedLine, chargedMaster, refusedAt};
+ghost use Rattle.description.specs.Blame.{chargedLine, namedMaster, refusedAt};
 ghost use Rattle.description.specs.Lent.{Read};
 ghost use Rattle.description.specs.Code.Reading.{Comes, LinesCome};
 ghost use Rattle.description.specs.Writer.{writeText, writeAnswer, writeOutput};
@@ -84,7 +84,7 @@ fn read_lines(text: &[u8], board: &mut [u32; BOARD_NUMBERS]) -> Refusal
 // The length first (rule 8.2): a text that is too long is refused before a byte of it is read.
 fn read_bounded(text: &[u8], board: &mut [u32; BOARD_NUMBERS]) -> Refusal
     requires { ⌜ now board ≡ replicate boardLength 0 ⌝ }
-    ensures { λ r. ⌜ Comes (reading (now (text .entry))) (chargedLine (now (text .entry))) (chargedMaster (now (text .entry)))
+    ensures { λ r. ⌜ Comes (reading (now (text .entry))) (chargedLine (now (text .entry))) (namedMaster (now (text .entry)))
         (now (board .exit)) r ⌝ }
 {
     if text.len() <= TEXT_BYTES {

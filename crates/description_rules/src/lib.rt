@@ -156,9 +156,9 @@ pub fn finish(board: &mut [u32; BOARD_NUMBERS], p: Progress) -> Progress
     if p.number != 0 {
         return p;
     }
-    let missing = refusals::end_refusal(board);
-    if missing != 0 {
-        return refused(board, missing);
+    let number = refusals::end_refusal(board);
+    if number != 0 {
+        return refused(board, number);
     }
     p
 }

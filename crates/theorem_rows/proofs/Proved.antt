@@ -19,7 +19,7 @@ use Rattle.description.specs.Writer.{writeText, writeRefusal}
 use Rattle.description_lines.specs.Reader.{masterLine, slaveLine, shareLine, itemOfFields, itemOf, unended, itemsOfPieces}
 use Rattle.description_lines.specs.Reader.{itemsOf}
 use Rattle.description.specs.Reader.{mostBytes, reading, readText}
-use Rattle.description.specs.Blame.{firstRefused, chargedLine, namedMaster, chargedMaster, refusedAt}
+use Rattle.description.specs.Blame.{firstRefused, chargedLine, masterNamedBy, namedMaster, refusedAt}
 use Rattle.fabric_lanes.specs.Lanes.{lowest, adjacent, legalLanes, postLanes}
 use Rattle.fabric_accesses.specs.Decoding.{agrees, selects, targetOf}
 use Rattle.fabric_accesses.specs.Alignment.{ratio, laneBytes, accessBytes, hasLane, byteOffset}
@@ -68,7 +68,7 @@ unfolding
     itemText itemsText
     writeText writeRefusal
     masterLine slaveLine shareLine itemOfFields itemOf unended itemsOfPieces itemsOf
-    mostBytes reading readText firstRefused chargedLine namedMaster chargedMaster refusedAt
+    mostBytes reading readText firstRefused chargedLine masterNamedBy namedMaster refusedAt
     lowest adjacent legalLanes postLanes
     agrees selects targetOf ratio laneBytes accessBytes hasLane byteOffset accesses firstByte accessOffset wordOffset writeLanes
     slaveLanes waitOf ownLength
