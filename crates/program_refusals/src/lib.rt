@@ -117,24 +117,15 @@ fn say_master(master: u32) {
 }
 
 // One line on standard error, as `refusal 4: base no multiple of span`, of a number that no line of a text is known for. 20 names
-// the master.
-pub fn explain_number(number: u32, master: u32) {
+// the master, lowest.
+pub fn explain_number(number: u32, lowest: u32) {
     say_refusal(number);
     if number == NO_SHARE {
-        say_master(master);
+        say_master(lowest);
     } else {
         say_number(STDERR_FILENO, number);
     }
     program_streams::write_all(STDERR_FILENO, b"\n");
-}
-
-// The cause where no line is charged (rule 8.3).
-fn say_of_end(r: Refusal) {
-    if r.number == NO_SHARE {
-        say_master(r.master);
-    } else {
-        say_of_text(STDERR_FILENO, r.number);
-    }
 }
 
 // The commas of a line of the text, which is charged and so has a number from 1 on; no more than 255 are counted.
@@ -203,9 +194,13 @@ fn say_of_old_line(text: &[u8], r: Refusal) {
 // One line on standard error, as `line 3: refusal 4: base no multiple of span`. Of 1 and 2 the cause is told by whether a line is
 // charged; 20 is charged to none, and names the master.
 pub fn explain(text: &[u8], r: Refusal) {
+    if r.number == NO_SHARE {
+        explain_number(r.number, r.master);
+        return;
+    }
     if r.line == 0 {
         say_refusal(r.number);
-        say_of_end(r);
+        say_of_text(STDERR_FILENO, r.number);
     } else {
         program_streams::write_all(STDERR_FILENO, b"line ");
         say_decimal(STDERR_FILENO, r.line as u64);

@@ -58,18 +58,18 @@ pub fn put_line(out: &mut [u8; ROOM], session: Session, word: &[u8], numbers: &[
     next
 }
 
-// Prints what a call answered, and explains a refusal; master as for explain::call.
+// Prints what a call answered, and explains a refusal; lowest as for explain::call.
 pub fn answer(
     out: &mut [u8; ROOM],
     session: Session,
     word: &[u8],
     number: u32,
-    master: u32,
+    lowest: u32,
 ) -> Session
     requires { ⌜ length (now word) < 900 ⌝ }
 {
     let printed = put_line(&mut *out, session, word, &[number as u64]);
-    explain::call(&*out, printed, number, master)
+    explain::call(&*out, printed, number, lowest)
 }
 
 // Prints what is left to print, and names a line with a problem by its number.

@@ -30,13 +30,13 @@ pub fn problem(line: u64, problem: u8) {
 
 // Explains a call where it was refused. Its answer is written out before, so that the explanation comes behind it where
 // both go to one file. A call answers no more than a number of a board that the script has overwritten, so that no line of
-// the board can be charged; master is the lowest of that board that has no share line, which 20 names.
-pub fn call(out: &[u8], session: Session, number: u32, master: u32) -> Session {
+// the board can be charged; lowest is the lowest master of that board that has no share line, which 20 names.
+pub fn call(out: &[u8], session: Session, number: u32, lowest: u32) -> Session {
     if number == 0 {
         return session;
     }
     let next = answers::flush(out, session);
     say_line(session.line);
-    program_refusals::explain_number(number, master);
+    program_refusals::explain_number(number, lowest);
     next
 }

@@ -23,8 +23,8 @@ fn obey_reset(
 ) -> Session {
     *state = [0; STATE_NUMBERS];
     let number = fabric::reset(board, state);
-    let master = description_rules::without_share(board);
-    program_script::answer(out, session, b"reset", number, master)
+    let lowest = description_rules::without_share(board);
+    program_script::answer(out, session, b"reset", number, lowest)
 }
 
 // A post's bytes are the line's last field.
@@ -56,8 +56,8 @@ fn obey_post(
         beats,
         &bytes[..end],
     );
-    let lacking = description_rules::without_share(board);
-    program_script::answer(out, session, b"post", number, lacking)
+    let lowest = description_rules::without_share(board);
+    program_script::answer(out, session, b"post", number, lowest)
 }
 
 // How many clocks are left after one: none where its answer could not be printed.
@@ -93,8 +93,8 @@ fn obey_clock(
         next = program_script::put_clock(&mut *out, next, number, c.mask, &lines, slaves);
         left = left_after(left, next.broken);
     }
-    let master = description_rules::without_share(board);
-    program_script::call(&*out, next, number, master)
+    let lowest = description_rules::without_share(board);
+    program_script::call(&*out, next, number, lowest)
 }
 
 // The wait is that of the board as it was read, on which every master has a share line.
