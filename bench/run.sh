@@ -9,8 +9,9 @@ case ${1-} in
         echo "usage: bench/run.sh
 Proves and builds the library's archives (rt staticlib fabric_c, bench_entries), then times its
 calls for C and the model's code by turns: a line for each call, with the ratio of the times.
-Those for clock and run are one clock with its posts; a run of clocks goes on until a master
-finishes. The last lines are the same traffic made in Rattle, the reading of its board included."
+Those for read, fabric_wait and print_table begin with a description's text. Those for clock and run
+are one clock with its posts; a run of clocks goes on until a master finishes. The last lines are
+the same traffic made in Rattle, the reading of its board included."
         case $1 in
             -h | --help) exit 0 ;;
             *) exit 2 ;;

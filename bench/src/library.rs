@@ -5,6 +5,8 @@
 pub const BOARD: usize = 258;
 pub const STATE: usize = 120;
 pub const LINES: usize = 96;
+/// Bytes that every table has room in.
+pub const TABLE: usize = 2504;
 
 mod linked {
     use super::{BOARD, LINES, STATE};
@@ -55,6 +57,12 @@ mod linked {
             clocks: *mut u32,
             mask: *mut u32,
         ) -> u32;
+        pub fn bench_table(
+            text: *const u8,
+            text_length: usize,
+            out: *mut u8,
+            out_length: usize,
+        ) -> usize;
         pub fn bench_clocks(
             text: *const u8,
             text_length: usize,
@@ -86,6 +94,12 @@ pub fn clocks(text: &[u8], memory: &mut [u8], buffer: &mut [u8], clocks: u32) ->
 pub fn read(text: &[u8], board: &mut [u32; BOARD]) -> u32 {
     // SAFETY: the pointer and the length are those of one slice; the board has its numbers.
     unsafe { linked::fabric_read(text.as_ptr(), text.len(), board) }
+}
+
+/// The length of the table that stands at the front of `out`.
+pub fn table(text: &[u8], out: &mut [u8]) -> usize {
+    // SAFETY: each pointer and length are those of one slice; `out` is lent for writing.
+    unsafe { linked::bench_table(text.as_ptr(), text.len(), out.as_mut_ptr(), out.len()) }
 }
 
 pub fn wait(text: &[u8], master: u32, slave: u32, out: &mut [u8]) -> u32 {

@@ -16,6 +16,7 @@ use measure::{clocks_to_a_second, measure, microseconds, report};
 use model::board::{Board, MASTER_LIMIT, SLAVE_LIMIT};
 use model::description;
 use model::fabric::BUFFER_LENGTH;
+use model::table;
 use model::wait::{wait_call, ANSWER_LENGTH};
 use sides::{Library, Model};
 use traffic::{Pace, Plan};
@@ -110,6 +111,26 @@ fn bench_wait(text: &[u8]) {
     report("fabric_wait largest board", measured, microseconds);
 }
 
+/// The table of a text, printed into what is lent for it.
+fn bench_table(name: &str, text: &[u8]) {
+    let mut page = [0; library::TABLE];
+    let length = library::table(text, &mut page);
+    assert_eq!(&page[..length], table::table(text).as_bytes());
+    let mut model = |count| {
+        for _ in 0..count {
+            black_box(table::table(black_box(text)));
+        }
+    };
+    let mut library = |count| {
+        for _ in 0..count {
+            black_box(library::table(black_box(text), &mut page));
+            black_box(&mut page);
+        }
+    };
+    let measured = measure(CALLS, &mut library, &mut model);
+    report(&format!("print_table {name}"), measured, microseconds);
+}
+
 /// Memory and buffer of a side.
 fn stores(slaves: usize) -> (Vec<u8>, Vec<u8>) {
     let memory = (0..slaves * traffic::SPAN).map(|i| i as u8).collect();
@@ -194,6 +215,8 @@ fn run() -> io::Result<()> {
     let text = fs::read(folder.join("largest.txt"))?;
     bench_read(&text);
     bench_wait(&text);
+    bench_table("largest board", &text);
+    bench_table("crane", &fs::read(folder.join("crane.txt"))?);
     plans().for_each(bench_plan);
     for (masters, slaves) in SIZES {
         bench_rattle(masters, slaves);

@@ -1,4 +1,5 @@
-// What the benchmark calls of the library beside the calls for C: traffic made in Rattle, so that the calls can be inlined.
+// What the benchmark calls of the library beside the calls for C: traffic made in Rattle, so that the calls can be inlined, and the
+// table.
 use common_numbers::BOARD_NUMBERS;
 use common_numbers::LINES_NUMBERS;
 use common_numbers::MASTERS;
@@ -139,4 +140,10 @@ pub extern "C" fn bench_clocks(
     description::read(text, &mut board);
     fabric::reset(&board, &mut state);
     clock_all(&board, &mut state, memory, buffer, clocks)
+}
+
+// The table of a text, as `print_table` makes it; the answer is its length.
+#[no_mangle]
+pub extern "C" fn bench_table(text: &[u8], out: &mut [u8]) -> usize {
+    wait_table::print_table(text, out).length
 }
