@@ -19,7 +19,7 @@ use Rattle.wait_turns.proofs.FigureBounds.{wait-small, serve-small}
 -- the figures of a legal board fit 64 bits
 module _ (b : Board) (legal : Legal b) (m s : ℕ) (hm : m < b .«master_count») (hs : s < b .«slave_count») where
   pub wait-fits : quotedWait b m s < 2 ^ 64
-  wait-fits = omega (arith, wait-small b legal s hs m)
+  wait-fits = omega (arith, wait-small b legal s hs m hm)
 
   pub serve-fits : serveOf b m s < 2 ^ 64
   serve-fits = omega (arith, serve-small b legal s hs m hm)

@@ -63,7 +63,7 @@ module _ (b : Board) (legal : Legal b) where
       go : (t : Bool)
           → length (cond t (lineText (digits m) (s ∷ quotedWait b m s ∷ serveOf b m s ∷ [])) []) ≤ 18 + length (digits s)
       go true =
-          line-long m s (quotedWait b m s) (serveOf b m s) (omega (arith, legal .fewMasters)) (wait-small b legal s hs m)
+          line-long m s (quotedWait b m s) (serveOf b m s) (omega (arith, legal .fewMasters)) (wait-small b legal s hs m hm)
           (serve-small b legal s hs m hm)
       go false = omega arith
 

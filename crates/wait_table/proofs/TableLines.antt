@@ -1,25 +1,25 @@
--- The lines of the table: one pair's, and pair after pair.
+-- The lines of the table: one pair's, and line after line; v and turns of slave after slave.
 -- Assumes nothing.
-use mathlib.Core.Path.{_≡_, ap, sym}
+use mathlib.Core.Path.{_≡_}
 use mathlib.Core.List.{List, []}
-use Prim.Native.Nat.{ℕ, _+_, _*_, _/_, _%_, _≤_, _<_}
-use native.Mathlib.Nat.{mod-lt, div-lt-iff-lt-mul}
+use Prim.Native.Nat.{ℕ, _+_, _≤_, _<_}
+use native.Mathlib.Decide.{ℕ-discrete}
 use native.Mathlib.Omega.{arith}
-use lib.ListN.{length}
+use lib.ListN.{length, getD, set}
+use lib.Seq.{getD-set-same, getD-set-other}
 use borrow.Author.Tests.{lt-ltb}
 use Rattle.common_laws.specs.Lists.{gather}
-use Rattle.common_laws.proofs.Arithmetic.{product-le}
 use Rattle.common_laws.proofs.ListLaws.{gather-suc}
 use Rattle.common_text.specs.Code.Scanning.{Put}
 use Rattle.common_text.proofs.Puts.{put-then, put-length}
 use Rattle.description_board.specs.declared.Board.{Board}
 use Rattle.description_board.specs.Records.{sharesAt, connected}
-use Rattle.description_board.specs.Legal.{Legal}
 use Rattle.wait_turns.specs.declared.Quote.{Quote}
-use Rattle.wait_turns.specs.Code.Pairs.{PairOf, figuresOf}
+use Rattle.wait_turns.specs.declared.Turns.{Turns}
+use Rattle.wait_turns.specs.Code.Pairs.{PairOf, figuresOf, slaveTurns}
 use Rattle.wait_table.specs.Tables.{pairLine, pairLines}
-use Rattle.wait_table.specs.Code.QuoteLine.{quoteLine}
-use Rattle.wait_turns.proofs.SumLaws.{rows, gather-room}
+use Rattle.wait_table.specs.Code.PairLines.{quoteLine, masterLines, Summed}
+use Rattle.wait_turns.proofs.SumLaws.{gather-room}
 
 -- a pair that is not connected has no line
 module _ (b : Board) (m s : ℕ) (x : PairOf b m s) {n : ℕ} (e : n ≡ sharesAt b m s) where
@@ -31,51 +31,53 @@ module _ (b : Board) (m s : ℕ) (x : PairOf b m s) {n : ℕ} (e : n ≡ sharesA
   unfolding pairLine connected quoteLine figuresOf
   line-some z f = rw (lt-ltb s (b .«slave_count») (x .slave), ← e, lt-ltb 0 n (omega arith), f)
 
--- pair i of the board
+-- piece after piece: the first i are written
+module _ (f : ℕ → List ℕ) (i : ℕ) {o p : List ℕ} {at r : ℕ} (x : Put o at (gather f i) p r) where
+  -- the room that is left for one more of n
+  pub piece-room : (n : ℕ) → i < n → at + length (gather f n) ≤ length o → r + length (f i) ≤ length p
+  piece-room n h l = omega (arith, x .end, put-length x, gather-room f i n h, l)
+
+  pub piece-next : {q : List ℕ} {t : ℕ} → Put p r (f i) q t → Put o at (gather f (i + 1)) q t
+  piece-next y = rw (gather-suc f i) (put-then x y)
+
+-- the lines of all pairs are those of each master
 module _ (b : Board) where
-  abbrev pub pairAt : ℕ → List ℕ
-  pairAt i = pairLine b (i / b .«slave_count») (i % b .«slave_count»)
+  pub pairs-put : {o p : List ℕ} {at m r : ℕ} → Put o at (gather (masterLines b) m) p r → m ≡ b .«master_count»
+      → Put o at (pairLines b) p r
+  unfolding pairLines masterLines
+  pairs-put x e = rw e at x
 
-  pub pairs-all : gather pairAt (b .«master_count» * b .«slave_count») ≡ pairLines b
-  unfolding pairLines
-  pairs-all = sym (rows (pairLine b) (b .«slave_count») (b .«master_count»))
+  pub pairs-room : {o p : List ℕ} {at m r : ℕ} → Put o at (gather (masterLines b) m) p r → m < b .«master_count»
+      → at + length (pairLines b) ≤ length o → r + length (masterLines b m) ≤ length p
+  unfolding pairLines masterLines
+  pairs-room {m = m} x h l = piece-room (masterLines b) m x (b .«master_count») h l
 
--- of a legal board, with its counts as they were read
-module _ (b : Board) (legal : Legal b) {c n : ℕ} (count : c ≡ b .«master_count») (slaves : n ≡ b .«slave_count») where
-  pub some-slave : 0 < n
-  some-slave = rw slaves (legal .someSlave)
+  -- those of a master are complete with its last slave
+  pub lines-put : (m : ℕ) {o p : List ℕ} {at s r : ℕ} → Put o at (gather (pairLine b m) s) p r → s ≡ b .«slave_count»
+      → Put o at (masterLines b m) p r
+  unfolding masterLines
+  lines-put m x e = rw e at x
 
-  pub pairs-are : c * n ≡ b .«master_count» * b .«slave_count»
-  pairs-are = rw (count, slaves)
+  pub lines-room : (m : ℕ) {o p : List ℕ} {at s r : ℕ} → Put o at (gather (pairLine b m) s) p r → s < b .«slave_count»
+      → at + length (masterLines b m) ≤ length o → r + length (pairLine b m s) ≤ length p
+  unfolding masterLines
+  lines-room m {s = s} x h l = piece-room (pairLine b m) s x (b .«slave_count») h l
 
-  pub pairs-few : c * n ≤ 8 * 16
-  pairs-few = rw (count, slaves) (product-le _ _ 8 16 (legal .fewMasters) (legal .fewSlaves))
+  -- no slave yet, and one more
+  pub summed-none : {longest sums : List ℕ} → Summed b 0 longest sums
+  summed-none = record { at = λ s h. absurd (omega arith) }
 
-  module _ (i : ℕ) (h : i < c * n) where
-    pub pair-of : PairOf b (i / n) (i % n)
-    pair-of = record {
-      legal = legal;
-      master = rw (← count) (div-lt-iff-lt-mul some-slave .1 h);
-      slave = rw (← slaves) (mod-lt i some-slave);
-    }
+  pub summed-next : (s : ℕ) {longest sums : List ℕ} {t : Turns} → Summed b s longest sums → t ≡ slaveTurns b s
+      → s < length longest → s < length sums → Summed b (s + 1) (set longest s (t .v)) (set sums s (t .sum))
+  summed-next s {longest} {sums} {t} x e h l = record { at = λ k d. go k d (ℕ-discrete k s) }
+    where
+      go : (k : ℕ) → k < s + 1 → Dec (k ≡ s)
+          → record { v = getD (set longest s (t .v)) k 0; sum = getD (set sums s (t .sum)) k 0 } ≡ slaveTurns b k
+      go k d (yes q) = rw (q, getD-set-same longest s (t .v) 0 h, getD-set-same sums s (t .sum) 0 l) e
+      go k d (no q) =
+          rw (getD-set-other longest s k (t .v) 0 q, getD-set-other sums s k (t .sum) 0 q)
+          (x .at k (omega arith))
 
-    line-is : pairLine b (i / n) (i % n) ≡ pairAt b i
-    line-is = rw slaves
-
-    -- the lines of the first i pairs are written: one pair more
-    module _ {o p : List ℕ} {at r : ℕ} (x : Put o at (gather (pairAt b) i) p r) where
-      pub pair-room : at + length (pairLines b) ≤ length o → r + length (pairLine b (i / n) (i % n)) ≤ length p
-      pair-room l =
-          omega (
-            arith,
-            x .end,
-            put-length x,
-            ap length line-is,
-            ap length (pairs-all b),
-            gather-room (pairAt b) i (b .«master_count» * b .«slave_count») (rw (← pairs-are) h),
-            l,
-          )
-
-      pub pair-next : {q : List ℕ} {t : ℕ} → Put p r (pairLine b (i / n) (i % n)) q t
-          → Put o at (gather (pairAt b) (i + 1)) q t
-      pair-next y = rw (gather-suc (pairAt b) i) (put-then x (rw line-is at y))
+  pub summed-all : {longest sums : List ℕ} {s : ℕ} → Summed b s longest sums → s ≡ b .«slave_count»
+      → Summed b (b .«slave_count») longest sums
+  summed-all x e = rw e at x

@@ -1,1 +1,1 @@
-pub mod QuoteLine
+pub mod PairLines

@@ -1,16 +1,18 @@
 // The table of a board: one line for each connected pair (rule 5.9).
 use common_numbers::BOARD_NUMBERS;
+use common_numbers::SLAVES;
 use wait_turns::Quote;
+use wait_turns::Turns;
 ghost use mathlib.Core.Path.{_≡_};
-ghost use Prim.Native.Nat.{_+_, _≤_};
+ghost use Prim.Native.Nat.{_+_, _≤_, _<_};
 ghost use lib.ListN.{length};
 ghost use Rattle.common_text.specs.Code.Scanning.{Put};
 ghost use Rattle.description_board.specs.Legal.{Legal};
 ghost use Rattle.description_layout.specs.Layout.{boardIn};
 ghost use Rattle.description.specs.Reader.{readText};
-ghost use Rattle.wait_turns.specs.Code.Pairs.{PairOf};
+ghost use Rattle.wait_turns.specs.Code.Pairs.{PairOf, slaveTurns};
 ghost use Rattle.wait_table.specs.Tables.{pairLine, pairLines, tableText, printAnswer, printOutput, Page};
-ghost use Rattle.wait_table.specs.Code.QuoteLine.{quoteLine};
+ghost use Rattle.wait_table.specs.Code.PairLines.{quoteLine, masterLines, Summed};
 
 // A refusal's number and 0, or 0 and the count of bytes written (rule 8.1).
 pub struct Printed {
@@ -29,33 +31,86 @@ fn put_quote(out: &mut [u8], at: usize, m: u32, s: u32, q: Quote) -> usize
     common_text::put_end(&mut *out, end)
 }
 
-// Writes the line of master m at slave s, where they are connected (rule 5.9).
-fn put_pair(out: &mut [u8], at: usize, board: &[u32; BOARD_NUMBERS], m: u32, s: u32) -> usize
-    requires { ⌜ PairOf (boardIn (now board)) m s ⌝ }
+// Writes the line of master m at slave s, where they are connected (rule 5.9), by the turns there.
+fn put_pair(
+    out: &mut [u8],
+    at: usize,
+    board: &[u32; BOARD_NUMBERS],
+    t: Turns,
+    m: u32,
+    s: u32,
+) -> usize
+    requires { ⌜ PairOf (boardIn (now board)) m s × (t ≡ slaveTurns (boardIn (now board)) s) ⌝ }
     requires { ⌜ at + length (pairLine (boardIn (now board)) m s) ≤ length (now out) ⌝ }
     ensures { λ r. ⌜ Put (now (out .entry)) at (pairLine (boardIn (now (board .entry))) m s) (now (out .exit)) r ⌝ }
 {
     if description_layout::shares_at(board, m as usize, s as usize) == 0 {
         return at;
     }
-    let q = wait_turns::figures_of(board, m, s);
+    let q = wait_turns::figures_by(board, t, m, s);
     put_quote(&mut *out, at, m, s, q)
 }
 
-// Writes the lines of all pairs (rule 5.9): of n slaves, pair i is master i / n at slave i % n.
+// v and the turns of each slave (rules 5.1, 5.7), once for all masters. What stands behind the board's slaves stays.
+fn add_turns(board: &[u32; BOARD_NUMBERS], longest: &mut [u32; SLAVES], sums: &mut [u64; SLAVES])
+    requires { ⌜ Legal (boardIn (now board)) × (length (now longest) ≡ 16) × (length (now sums) ≡ 16) ⌝ }
+    ensures { λ _. ⌜ Summed (boardIn (now (board .entry))) (boardIn (now (board .entry)) .«slave_count»)
+        (now (longest .exit)) (now (sums .exit)) ⌝ }
+{
+    let n = description_layout::slave_count(board);
+    let mut s: u32 = 0;
+    while s < n {
+        let t = wait_turns::slave_turns(board, s);
+        let v = t.v;
+        let sum = t.sum;
+        longest[s as usize] = v;
+        sums[s as usize] = sum;
+        s += 1;
+    }
+}
+
+// Writes the lines of master m, slave after slave (rule 5.9).
+fn put_master_lines(
+    out: &mut [u8],
+    at: usize,
+    board: &[u32; BOARD_NUMBERS],
+    longest: &[u32; SLAVES],
+    sums: &[u64; SLAVES],
+    m: u32,
+) -> usize
+    requires { ⌜ Legal (boardIn (now board)) × (m < boardIn (now board) .«master_count») ⌝ }
+    requires { ⌜ Summed (boardIn (now board)) (boardIn (now board) .«slave_count») (now longest) (now sums) ⌝ }
+    requires { ⌜ at + length (masterLines (boardIn (now board)) m) ≤ length (now out) ⌝ }
+    ensures { λ r. ⌜ Put (now (out .entry)) at (masterLines (boardIn (now (board .entry))) m) (now (out .exit)) r ⌝ }
+{
+    let n = description_layout::slave_count(board);
+    let mut next = at;
+    let mut s: u32 = 0;
+    while s < n {
+        let v = longest[s as usize];
+        let sum = sums[s as usize];
+        let t = Turns { v: v, sum: sum };
+        next = put_pair(&mut *out, next, board, t, m, s);
+        s += 1;
+    }
+    next
+}
+
+// Writes the lines of all pairs, master after master (rule 5.9). The turns of each slave are added up before.
 fn put_pairs(out: &mut [u8], at: usize, board: &[u32; BOARD_NUMBERS]) -> usize
     requires { ⌜ Legal (boardIn (now board)) ⌝ }
     requires { ⌜ at + length (pairLines (boardIn (now board))) ≤ length (now out) ⌝ }
     ensures { λ r. ⌜ Put (now (out .entry)) at (pairLines (boardIn (now (board .entry)))) (now (out .exit)) r ⌝ }
 {
+    let mut longest = [0u32; SLAVES];
+    let mut sums = [0u64; SLAVES];
+    add_turns(board, &mut longest, &mut sums);
     let count = description_layout::master_count(board);
-    let n = description_layout::slave_count(board);
-    let pairs = count * n;
     let mut next = at;
-    let mut i: u32 = 0;
-    while i < pairs {
-        next = put_pair(&mut *out, next, board, i / n, i % n);
-        i += 1;
+    let mut m: u32 = 0;
+    while m < count {
+        next = put_master_lines(&mut *out, next, board, &longest, &sums, m);
+        m += 1;
     }
     next
 }

@@ -1,7 +1,7 @@
 -- How large the figures of a pair can be, and those of a legal board.
 -- Assumes nothing.
 use mathlib.Core.Path.{_≡_, refl}
-use mathlib.Core.Bool.{Bool, true, false, cond, not, _&&_}
+use mathlib.Core.Bool.{Bool, true, false, cond}
 use Prim.Native.Nat.{ℕ, _+_, _*_, _^_, _≤_, _<_}
 use native.Mathlib.Nat.{add-le-add}
 use native.Mathlib.Omega.{arith}
@@ -17,8 +17,10 @@ use Rattle.description_board.specs.Legal.{LegalMaster, Legal}
 use Rattle.description_board.proofs.RuleLaws.{width-bound, burst-bound}
 use Rattle.fabric_accesses.specs.Alignment.{ratio}
 use Rattle.fabric_accesses.proofs.AlignmentLaws.{ratio-le}
-use Rattle.wait_turns.specs.Waits.{longestAccess, mostBeats, single, serve, turn, otherTurn, turnsOf, quotedWait, serveOf}
+use Rattle.wait_turns.specs.Waits.{longestAccess, mostBeats, single, serve, turn, quotedWait, serveOf}
+use Rattle.wait_turns.specs.Sums.{turnAt, turnsAt, Once}
 use Rattle.wait_turns.proofs.SumLaws.{sum-le}
+use Rattle.wait_turns.proofs.OwnTurn.{others-and-own}
 
 -- a legal master: a width is at most 8, a burst 64
 module _ (ma : Master) (legal : LegalMaster ma) (sl : Slave) where
@@ -59,33 +61,40 @@ module _ (b : Board) (legal : Legal b) (s : ℕ) (hs : s < b .«slave_count») w
           let i : 16 * k + s < 128 = omega (arith, legal .fewMasters, legal .fewSlaves) in
           omega (arith, legal .shares (16 * k + s) i (eqb-false _ _ e) .0)
 
-  module _ (m : ℕ) where
-    -- for accesses of at most l clocks: one turn, and the first k
-    module _ (v l : ℕ) (hv : v ≤ l) where
-      pub other-le : (k : ℕ) → k < b .«master_count» → otherTurn b v m s k ≤ 99 * (8 * l) + 64 * 8 * l
-      unfolding otherTurn
-      other-le k h = go (connected b k s && not (eqb k m))
-        where
-          go : (t : Bool) → cond t (turn (masterAt b k) (slaveAt b s) (sharesAt b k s) v) 0 ≤ 99 * (8 * l) + 64 * 8 * l
-          go true =
-              turn-le (masterAt b k) (legal .master k h) (slaveAt b s) v l hv 99 (sharesAt b k s) (omega (arith, shares-le k h))
-          go false = omega arith
+  -- for accesses of at most l clocks: one turn, and the first k
+  module _ (v l : ℕ) (hv : v ≤ l) where
+    at-le : (k : ℕ) → k < b .«master_count» → turnAt b v s k ≤ 99 * (8 * l) + 64 * 8 * l
+    unfolding turnAt
+    at-le k h = go (connected b k s)
+      where
+        go : (t : Bool) → cond t (turn (masterAt b k) (slaveAt b s) (sharesAt b k s) v) 0 ≤ 99 * (8 * l) + 64 * 8 * l
+        go true =
+            turn-le (masterAt b k) (legal .master k h) (slaveAt b s) v l hv 99 (sharesAt b k s) (omega (arith, shares-le k h))
+        go false = omega arith
 
-      pub turns-le : (k : ℕ) → k ≤ b .«master_count» → sum (otherTurn b v m s) k ≤ k * (99 * (8 * l) + 64 * 8 * l)
-      turns-le k h = sum-le (otherTurn b v m s) (99 * (8 * l) + 64 * 8 * l) k (λ i d. other-le i (omega arith))
+    pub turns-le : (k : ℕ) → k ≤ b .«master_count» → sum (turnAt b v s) k ≤ k * (99 * (8 * l) + 64 * 8 * l)
+    turns-le k h = sum-le (turnAt b v s) (99 * (8 * l) + 64 * 8 * l) k (λ i d. at-le i (omega arith))
 
+  module _ (m : ℕ) (hm : m < b .«master_count») where
     -- a wait has at most 7 digits
     pub wait-small : quotedWait b m s < 10 ^ 7
-    unfolding quotedWait turnsOf
+    unfolding quotedWait turnsAt
     wait-small =
-        omega (
-          arith,
-          turns-le (longestAccess (slaveAt b s)) 256 v-le (b .«master_count») (omega arith),
-          legal .fewMasters,
-        )
+        let v = longestAccess (slaveAt b s) in
+        omega (arith, others-and-own b v s m hm, turns-le v 256 v-le (b .«master_count») (omega arith), legal .fewMasters)
 
     -- a serve 6
-    pub serve-small : m < b .«master_count» → serveOf b m s < 10 ^ 6
+    pub serve-small : serveOf b m s < 10 ^ 6
     unfolding serveOf
-    serve-small h =
-        omega (arith, serve-le (masterAt b m) (legal .master m h) (slaveAt b s) (longestAccess (slaveAt b s)) 256 v-le)
+    serve-small =
+        omega (arith, serve-le (masterAt b m) (legal .master m hm) (slaveAt b s) (longestAccess (slaveAt b s)) 256 v-le)
+
+  -- the turns at a slave, added up once
+  pub turns-once : Once b s
+  unfolding quotedWait turnsAt
+  turns-once = record {
+    fits = λ v h.
+        omega (arith, turns-le v 4294967296 (omega arith) (b .«master_count») (omega arith), legal .fewMasters);
+    others = λ v. others-and-own b v s;
+    waits = others-and-own b (longestAccess (slaveAt b s)) s;
+  }

@@ -1,3 +1,4 @@
 pub mod SumLaws
+pub mod OwnTurn
 pub mod FigureBounds
 pub mod TurnSums

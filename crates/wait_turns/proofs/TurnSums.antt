@@ -1,21 +1,24 @@
--- The sum of the other turns, one master after another; what a legal board gives of its pairs.
+-- The turns at a slave, one master after another, and the figures by them; what a legal board gives of its pairs.
 -- Assumes nothing.
 use mathlib.Core.Path.{_≡_, refl, ap, _∙_}
-use mathlib.Core.Bool.{Bool, true, false, cond, not, _&&_}
-use Prim.Native.Nat.{ℕ, _+_, _≤_, _<_}
+use mathlib.Core.Bool.{Bool, true, false, cond, _&&_}
+use Prim.Native.Nat.{ℕ, _+_, _-_, _≤_, _<_}
 use native.Mathlib.Numerals.{add-one}
 use native.Mathlib.Omega.{arith}
-use lib.Dec.{ltb, eqb}
-use borrow.Author.Tests.{lt-ltb, eq-eqb, ne-eqb}
+use lib.Dec.{ltb}
+use borrow.Author.Tests.{lt-ltb}
 use Rattle.common_laws.specs.Lists.{sum}
 use Rattle.description_board.specs.declared.Master.{Master}
 use Rattle.description_board.specs.declared.Slave.{Slave}
 use Rattle.description_board.specs.declared.Board.{Board}
 use Rattle.description_board.specs.Records.{masterAt, slaveAt, sharesAt, connected}
 use Rattle.description_board.specs.Legal.{LegalSlave}
-use Rattle.wait_turns.specs.Waits.{longestAccess, serve, turn, otherTurn, turnsOf, quotedWait, serveOf}
-use Rattle.wait_turns.specs.Code.Pairs.{LegalBoth, SlaveOf, PairOf, figuresOf}
+use Rattle.wait_turns.specs.declared.Turns.{Turns}
+use Rattle.wait_turns.specs.Waits.{longestAccess, serve, turn, turnsOf, quotedWait, serveOf}
+use Rattle.wait_turns.specs.Sums.{turnAt, turnsAt}
+use Rattle.wait_turns.specs.Code.Pairs.{LegalBoth, SlaveOf, PairOf, figuresOf, slaveTurns}
 use Rattle.wait_turns.proofs.FigureBounds.{shares-le}
+use Rattle.wait_turns.proofs.OwnTurn.{others-and-own}
 
 -- a legal slave's record, and a pair of records with it
 module _ {b : Board} {sl : Slave} {s : ℕ} (x : SlaveOf b sl s) where
@@ -34,48 +37,59 @@ pub slave-of : {b : Board} {m s : ℕ} {sl : Slave} → PairOf b m s → sl ≡ 
 slave-of p e = record { legal = p .legal; known = p .slave; same = e }
 
 -- one master's part of the sum
-module _ (b : Board) (v m s k : ℕ) where
-  pub other-own : k ≡ m → 0 ≡ otherTurn b v m s k
-  unfolding otherTurn
-  other-own e = rw (eq-eqb k m e) (go (connected b k s))
+module _ (b : Board) (v s k : ℕ) {n : ℕ} (e : n ≡ sharesAt b k s) where
+  pub turn-none : n ≡ 0 → 0 ≡ turnAt b v s k
+  unfolding turnAt connected
+  turn-none z = rw (← e, z) (go (ltb s (b .«slave_count»)))
     where
-      go : (t : Bool) → 0 ≡ cond (t && false) (turn (masterAt b k) (slaveAt b s) (sharesAt b k s) v) 0
+      go : (t : Bool) → 0 ≡ cond (t && false) (turn (masterAt b k) (slaveAt b s) 0 v) 0
       go true = refl
       go false = refl
 
-  module _ {n : ℕ} (e : n ≡ sharesAt b k s) where
-    pub other-none : n ≡ 0 → 0 ≡ otherTurn b v m s k
-    unfolding otherTurn connected
-    other-none z = rw (← e, z) (go (ltb s (b .«slave_count»)))
-      where
-        go : (t : Bool) → 0 ≡ cond ((t && false) && not (eqb k m)) (turn (masterAt b k) (slaveAt b s) 0 v) 0
-        go true = refl
-        go false = refl
-
-    pub other-turn : {sl : Slave} {ma : Master} {r : ℕ} → SlaveOf b sl s → (k ≡ m → ⊥) → (n ≡ 0 → ⊥)
-        → ma ≡ masterAt b k → r ≡ turn ma sl n v → r ≡ otherTurn b v m s k
-    unfolding otherTurn connected
-    other-turn x own some f q =
-        rw (lt-ltb s (b .«slave_count») (x .known), ← e, lt-ltb 0 n (omega arith), ne-eqb k m own, ← f, ← x .same) q
+  pub turn-some : {sl : Slave} {ma : Master} {r : ℕ} → SlaveOf b sl s → (n ≡ 0 → ⊥) → ma ≡ masterAt b k → r ≡ turn ma sl n v
+      → r ≡ turnAt b v s k
+  unfolding turnAt connected
+  turn-some x some f q =
+      rw (lt-ltb s (b .«slave_count») (x .known), ← e, lt-ltb 0 n (omega arith), ← f, ← x .same) q
 
 -- the sum of the first k
-module _ (b : Board) (v m s : ℕ) where
-  pub turns-none : 0 ≡ sum (otherTurn b v m s) 0
+module _ (b : Board) (v s : ℕ) where
+  pub turns-none : 0 ≡ sum (turnAt b v s) 0
   unfolding sum
   turns-none = refl
 
-  pub turns-more : (k : ℕ) {q t : ℕ} → q ≡ sum (otherTurn b v m s) k → t ≡ otherTurn b v m s k
-      → q + t ≡ sum (otherTurn b v m s) (k + 1)
+  pub turns-more : (k : ℕ) {q t : ℕ} → q ≡ sum (turnAt b v s) k → t ≡ turnAt b v s k → q + t ≡ sum (turnAt b v s) (k + 1)
   unfolding sum
   turns-more k e f = rw (add-one, e, f)
 
-  pub turns-all : {q k : ℕ} → q ≡ sum (otherTurn b v m s) k → k ≡ b .«master_count» → q ≡ turnsOf b v m s
-  unfolding turnsOf
-  turns-all e f = e ∙ ap (sum (otherTurn b v m s)) f
+  pub turns-all : {q k : ℕ} → q ≡ sum (turnAt b v s) k → k ≡ b .«master_count» → q ≡ turnsAt b v s
+  unfolding turnsAt
+  turns-all e f = e ∙ ap (sum (turnAt b v s)) f
 
--- both figures
-pub figures-at : (b : Board) (m s : ℕ) {sl : Slave} {ma : Master} {v wait own : ℕ} → sl ≡ slaveAt b s → v ≡ longestAccess sl
-    → wait ≡ turnsOf b v m s → ma ≡ masterAt b m → own ≡ serve ma sl v
-    → record { wait = wait; serve = own } ≡ figuresOf b m s
-unfolding figuresOf quotedWait serveOf
-figures-at b m s e f g h q = rw (g, q, h, f, e)
+-- v and the turns of a slave
+pub turns-of-slave : (b : Board) (s : ℕ) {sl : Slave} {v all : ℕ} → sl ≡ slaveAt b s → v ≡ longestAccess sl → all ≡ turnsAt b v s
+    → record { v = v; sum = all } ≡ slaveTurns b s
+unfolding slaveTurns
+turns-of-slave b s e f g = rw (g, f, e)
+
+-- both figures of a pair, by the turns of its slave
+module _ (b : Board) (m s : ℕ) {t : Turns} (e : t ≡ slaveTurns b s) where
+  v-is : t .v ≡ longestAccess (slaveAt b s)
+  unfolding slaveTurns
+  v-is = rw e
+
+  sum-is : t .sum ≡ turnsAt b (t .v) s
+  unfolding slaveTurns
+  sum-is = rw e
+
+  -- the own turn is one of those added up
+  pub own-within : m < b .«master_count» → {own : ℕ} → own ≡ turnAt b (t .v) s m → own ≤ t .sum
+  own-within h f = omega (arith, f, sum-is, others-and-own b (t .v) s m h)
+
+  pub figures-at : m < b .«master_count» → {sl : Slave} {ma : Master} {own wait serves : ℕ} → sl ≡ slaveAt b s
+      → own ≡ turnAt b (t .v) s m → wait + own ≡ t .sum → ma ≡ masterAt b m → serves ≡ serve ma sl (t .v)
+      → record { wait = wait; serve = serves } ≡ figuresOf b m s
+  unfolding figuresOf quotedWait serveOf
+  figures-at h {wait = wait} g f left q r =
+      let w : wait ≡ turnsOf b (t .v) m s = omega (arith, f, left, sum-is, others-and-own b (t .v) s m h) in
+      rw (w, r, q, g, v-is)

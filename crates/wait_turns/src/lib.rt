@@ -4,15 +4,22 @@ use description_board::Master;
 use description_board::Slave;
 ghost use mathlib.Core.Path.{_≡_};
 ghost use Prim.Native.Nat.{_≤_, _<_};
-ghost use Rattle.description_board.specs.Legal.{LegalMaster, LegalSlave};
+ghost use Rattle.description_board.specs.Legal.{LegalMaster, LegalSlave, Legal};
 ghost use Rattle.description_layout.specs.Layout.{boardIn};
-ghost use Rattle.wait_turns.specs.Waits.{longestAccess, mostBeats, single, serve, turn, otherTurn, turnsOf};
-ghost use Rattle.wait_turns.specs.Code.Pairs.{LegalBoth, SlaveOf, PairOf, figuresOf};
+ghost use Rattle.wait_turns.specs.Waits.{longestAccess, mostBeats, single, serve, turn};
+ghost use Rattle.wait_turns.specs.Sums.{turnAt, turnsAt};
+ghost use Rattle.wait_turns.specs.Code.Pairs.{LegalBoth, SlaveOf, PairOf, figuresOf, slaveTurns};
 
 // Wait and serve of a pair, in clocks (rules 5.5, 5.7).
 pub struct Quote {
     pub wait: u64,
     pub serve: u64,
+}
+
+// v of a slave, and the turns of all masters there (rules 5.1, 5.7).
+pub struct Turns {
+    pub v: u32,
+    pub sum: u64,
 }
 
 // v, the clocks of one access at most (rule 5.1).
@@ -69,14 +76,11 @@ pub fn turn(ma: Master, sl: Slave, shares: u32, v: u32) -> u64
     singles + longest
 }
 
-// The turn of master k at slave s, where another master waits for it (rules 5.6, 5.7). The slave is handed on: it is read once.
-fn other_turn(board: &[u32; BOARD_NUMBERS], sl: Slave, v: u32, m: u32, s: u32, k: u32) -> u64
+// The turn of master k at slave s (rule 5.6); 0 where they are not connected. The slave is handed on: it is read once.
+fn turn_at(board: &[u32; BOARD_NUMBERS], sl: Slave, v: u32, s: u32, k: u32) -> u64
     requires { ⌜ SlaveOf (boardIn (now board)) sl s × (k < boardIn (now board) .«master_count») ⌝ }
-    ensures { λ r. ⌜ r ≡ otherTurn (boardIn (now (board .entry))) v m s k ⌝ }
+    ensures { λ r. ⌜ r ≡ turnAt (boardIn (now (board .entry))) v s k ⌝ }
 {
-    if k == m {
-        return 0;
-    }
     let shares = description_layout::shares_at(board, k as usize, s as usize);
     if shares == 0 {
         return 0;
@@ -89,32 +93,55 @@ fn other_turn(board: &[u32; BOARD_NUMBERS], sl: Slave, v: u32, m: u32, s: u32, k
     )
 }
 
-// The turns of the other masters at slave s, for any v (rule 5.7). A turn is below 2 ^ 50, so the sum of 8 fits.
-fn turns_of(board: &[u32; BOARD_NUMBERS], sl: Slave, v: u32, m: u32, s: u32) -> u64
+// The turns at slave s, added up over its masters (rule 5.7). v is handed in, and the sum is right whatever it is: with 32 bits a turn
+// is below 2 ^ 50, so that 8 of them fit.
+fn turns_at(board: &[u32; BOARD_NUMBERS], sl: Slave, v: u32, s: u32) -> u64
     requires { ⌜ SlaveOf (boardIn (now board)) sl s ⌝ }
-    ensures { λ r. ⌜ r ≡ turnsOf (boardIn (now (board .entry))) v m s ⌝ }
+    ensures { λ r. ⌜ r ≡ turnsAt (boardIn (now (board .entry))) v s ⌝ }
 {
     let n = description_layout::master_count(board);
     let mut sum: u64 = 0;
     let mut k: u32 = 0;
     while k < n {
-        sum += other_turn(board, sl, v, m, s, k);
+        sum += turn_at(board, sl, v, s, k);
         k += 1;
     }
     sum
 }
 
-// Wait and serve of master m at slave s (rules 5.5, 5.7). The longer wait is chosen once, for every turn (rule 5.1).
+// v of slave s, and the turns there (rules 5.1, 5.7). Which wait is the longer one is asked here, and not again for each master.
+pub fn slave_turns(board: &[u32; BOARD_NUMBERS], s: u32) -> Turns
+    requires { ⌜ Legal (boardIn (now board)) × (s < boardIn (now board) .«slave_count») ⌝ }
+    ensures { λ r. ⌜ r ≡ slaveTurns (boardIn (now (board .entry))) s ⌝ }
+{
+    let sl = description_layout::slave_at(board, s as usize);
+    let v = longest_access(sl);
+    Turns {
+        v: v,
+        sum: turns_at(board, sl, v, s),
+    }
+}
+
+// Wait and serve of master m at slave s (rules 5.5, 5.7), by the turns there: its own is taken off.
+pub fn figures_by(board: &[u32; BOARD_NUMBERS], t: Turns, m: u32, s: u32) -> Quote
+    requires { ⌜ PairOf (boardIn (now board)) m s × (t ≡ slaveTurns (boardIn (now board)) s) ⌝ }
+    ensures { λ q. ⌜ q ≡ figuresOf (boardIn (now (board .entry))) m s ⌝ }
+{
+    let sl = description_layout::slave_at(board, s as usize);
+    let own = turn_at(board, sl, t.v, s, m);
+    let wait = t.sum - own;
+    let ma = description_layout::master_at(board, m as usize);
+    Quote {
+        wait: wait,
+        serve: serve(ma, sl, t.v),
+    }
+}
+
+// Wait and serve of master m at slave s (rules 5.5, 5.7).
 pub fn figures_of(board: &[u32; BOARD_NUMBERS], m: u32, s: u32) -> Quote
     requires { ⌜ PairOf (boardIn (now board)) m s ⌝ }
     ensures { λ q. ⌜ q ≡ figuresOf (boardIn (now (board .entry))) m s ⌝ }
 {
-    let sl = description_layout::slave_at(board, s as usize);
-    let v = longest_access(sl);
-    let wait = turns_of(board, sl, v, m, s);
-    let ma = description_layout::master_at(board, m as usize);
-    Quote {
-        wait: wait,
-        serve: serve(ma, sl, v),
-    }
+    let t = slave_turns(board, s);
+    figures_by(board, t, m, s)
 }

@@ -15,17 +15,17 @@ shares-at-requires c κs = search needs
 returns : tie.Need-returns
 returns c =
     let share = c .before in
-    rw (line-none _ _ _ (share .before .before .pre .0) (share .shares-at .ensures) (c .if1 .taken)) (put-none _ _)
+    rw (line-none _ _ _ (share .before .before .pre .0 .0) (share .shares-at .ensures) (c .if1 .taken)) (put-none _ _)
 
-figures-of-requires : tie.Need-figures-of-requires
-figures-of-requires c κs = search needs
+figures-by-requires : tie.Need-figures-by-requires
+figures-by-requires c κs = search needs
 
 put-quote-requires : tie.Need-put-quote-requires
 put-quote-requires c κs =
     let q = c .before in
     let share = q .before .before in
     let start = share .before .before in
-    let e = line-some _ _ _ (start .pre .0) (share .shares-at .ensures) (q .before .if1 .left) (q .figures-of .ensures) in
+    let e = line-some _ _ _ (start .pre .0 .0) (share .shares-at .ensures) (q .before .if1 .left) (q .figures-by .ensures) in
     omega (arith, ap length e, start .pre .1)
 
 same-length : tie.Need-same-length
@@ -36,11 +36,11 @@ returns-2 c =
     let put = c .before .before in
     let q = put .before .before in
     let share = q .before .before in
-    let legal = share .before .before .pre .0 in
-    rw (line-some _ _ _ legal (share .shares-at .ensures) (q .before .if1 .left) (q .figures-of .ensures))
+    let legal = share .before .before .pre .0 .0 in
+    rw (line-some _ _ _ legal (share .shares-at .ensures) (q .before .if1 .left) (q .figures-by .ensures))
     (put .put-quote .ensures)
 
 pub put-pair-spec : {M : Type 1} → statement M
 put-pair-spec =
     tie.close
-    (tie.spec shares-at-requires returns figures-of-requires put-quote-requires same-length returns-2)
+    (tie.spec shares-at-requires returns figures-by-requires put-quote-requires same-length returns-2)

@@ -1,71 +1,51 @@
--- `wait_table::put_pairs` meets its contract. The loop's invariant: the lines of the first i pairs are stored.
+-- `wait_table::put_pairs` meets its contract. The loop's invariant: the lines of the first m masters are stored.
 -- The measure is how many are left.
 -- Assumes nothing.
-use mathlib.Core.Path.{_≡_}
-use Prim.Native.Nat.{_-_, _*_, _≤_}
+use Prim.Native.Nat.{_-_, _≤_, _<_}
 use native.Mathlib.Omega.{arith}
 use borrow.Author.Needs.{needs}
 use Rattle.common_laws.specs.Lists.{gather}
-use Rattle.common_text.proofs.Puts.{put-none, put-length}
 use Rattle.common_text.specs.Code.Scanning.{Put}
+use Rattle.common_text.proofs.Puts.{put-none, put-length}
 use Rattle.description_layout.specs.Layout.{boardIn}
-use Rattle.wait_table.proofs.TableLines.{pairAt, pairs-all, some-slave, pairs-are}
-use Rattle.wait_table.proofs.TableLines.{pairs-few, pair-of, pair-room, pair-next}
+use Rattle.wait_table.specs.Code.PairLines.{masterLines}
+use Rattle.wait_table.proofs.TableLines.{piece-next, pairs-room, pairs-put}
 use Rattle.wait_table.proofs.put_pairs.Statement.{statement}
 use Rattle.wait_table.proofs.put_pairs.Tie as tie
 
 abbrev Inv-loop : tie.InvT-loop
-Inv-loop out₀ at board count n pairs next₀ i₀ out next i =
-    (i ≤ count * n) × Put out₀ at (gather (pairAt (boardIn board)) i) out next
+Inv-loop out₀ at board longest sums count next₀ m₀ out next m =
+    (m ≤ boardIn board .«master_count») × Put out₀ at (gather (masterLines (boardIn board)) m) out next
 
 abbrev μ-loop : tie.MeasureT-loop
-μ-loop out₀ at board count n pairs next₀ i₀ out next i = count * n - i
+μ-loop out₀ at board longest sums count next₀ m₀ out next m = boardIn board .«master_count» - m
+
+add-turns-requires : tie.Need-add-turns-requires Inv-loop μ-loop
+add-turns-requires c κs = search needs
 
 master-count-requires : tie.Need-master-count-requires Inv-loop μ-loop
 master-count-requires c κs = search needs
-
-slave-count-requires : tie.Need-slave-count-requires Inv-loop μ-loop
-slave-count-requires c κs = search needs
-
--- 8 masters at 16 slaves at most
-few : (c : tie.After-slave-count Inv-loop μ-loop) → c .before .master-count .result * c .slave-count .result ≤ 128
-few c = let count = c .before in
-    omega (arith, pairs-few _ (count .before .before .pre .0) (count .master-count .ensures) (c .slave-count .ensures))
-
-mul-pairs : tie.Need-mul-pairs Inv-loop μ-loop
-mul-pairs c = omega (arith, few c)
 
 loop-holds : tie.Need-loop-holds Inv-loop μ-loop
 unfolding gather
 loop-holds c = (omega arith, put-none _ _)
 
-div-put-pair : tie.Need-div-put-pair Inv-loop μ-loop
-div-put-pair c =
-    let n = c .before .before .before in
-    let count = n .before in
-    some-slave _ (count .before .before .pre .0) (count .master-count .ensures) (n .slave-count .ensures)
+-- one of the board's masters
+known : (c : tie.In-loop Inv-loop μ-loop)
+    → c .before .loop .m < boardIn (c .before .before .before .before .before .before .before .args .board .now) .«master_count»
+known c = omega (arith, c .loop-test .taken, c .before .before .master-count .ensures)
 
-rem-put-pair : tie.Need-rem-put-pair Inv-loop μ-loop
-rem-put-pair c = div-put-pair c
+put-master-lines-requires : tie.Need-put-master-lines-requires Inv-loop μ-loop
+put-master-lines-requires c κs =
+    let in-loop = c .before .before .before in
+    let l = in-loop .before .loop in
+    let turns = in-loop .before .before .before in
+    let pre = turns .before .before .before .before .pre in
+    let h = known in-loop in
+    ((pre .0, h), (turns .add-turns .ensures, pairs-room _ (l .inv .1) h (pre .1)))
 
-put-pair-requires : tie.Need-put-pair-requires Inv-loop μ-loop
-put-pair-requires c κs =
-    let t = c .before in
-    let l = t .before in
-    let n = l .before in
-    let count = n .before in
-    let start = count .before .before in
-    let legal = start .pre .0 in
-    let e = count .master-count .ensures in
-    let f = n .slave-count .ensures in (
-      pair-of _ legal e f (l .loop .i) (t .loop-test .taken),
-      pair-room _ legal e f (l .loop .i) (t .loop-test .taken) (l .loop .inv .1) (start .pre .1),
-    )
-
-add-i : tie.Need-add-i Inv-loop μ-loop
-add-i c =
-    let t = c .before .before .before .before in
-    omega (arith, t .loop-test .taken, few (t .before .before))
+add-m : tie.Need-add-m Inv-loop μ-loop
+add-m c = search needs
 
 loop-less : tie.Need-loop-less Inv-loop μ-loop
 loop-less c = search needs
@@ -73,30 +53,17 @@ loop-less c = search needs
 loop-again : tie.Need-loop-again Inv-loop μ-loop
 loop-again c =
     let put = c .before .before in
-    let t = put .before .before in
-    let l = t .before in
-    let n = l .before in
-    let count = n .before in
-    let legal = count .before .before .pre .0 in
-    let e = count .master-count .ensures in
-    let f = n .slave-count .ensures in (
-      omega arith,
-      pair-next _ legal e f (l .loop .i) (t .loop-test .taken) (l .loop .inv .1) (put .put-pair .ensures),
-    )
+    let in-loop = put .before .before .before .before in
+    let l = in-loop .before .loop in
+    (omega (arith, known in-loop), piece-next _ (l .m) (l .inv .1) (put .put-master-lines .ensures))
 
 same-length : tie.Need-same-length Inv-loop μ-loop
 same-length c = put-length (c .before .loop .inv .1)
 
 returns : tie.Need-returns Inv-loop μ-loop
 returns c =
-    let l = c .before in
-    let n = l .before in
-    let count = n .before in
-    let start = count .before .before in
-    let b = boardIn (start .args .board .now) in
-    let p = pairs-are b (start .pre .0) (count .master-count .ensures) (n .slave-count .ensures) in
-    let e : l .loop .i ≡ b .«master_count» * b .«slave_count» = omega (arith, p, l .loop .inv .0, c .loop-test .left) in
-    rw (← pairs-all b, ← e) (l .loop .inv .1)
+    let l = c .before .loop in
+    pairs-put _ (l .inv .1) (omega (arith, l .inv .0, c .loop-test .left, c .before .before .master-count .ensures))
 
 pub put-pairs-spec : {M : Type 1} → statement M
 put-pairs-spec =
@@ -104,14 +71,11 @@ put-pairs-spec =
     (tie.spec
     Inv-loop
     μ-loop
+    add-turns-requires
     master-count-requires
-    slave-count-requires
-    mul-pairs
     loop-holds
-    div-put-pair
-    rem-put-pair
-    put-pair-requires
-    add-i
+    put-master-lines-requires
+    add-m
     loop-less
     loop-again
     same-length

@@ -6,7 +6,7 @@ use borrow.Author.Needs.{needs}
 use Rattle.common_text.proofs.Puts.{put-then}
 use Rattle.common_text.proofs.Decimal.{line-length}
 use Rattle.common_text.specs.Digits.{digits, lineText}
-use Rattle.wait_table.specs.Code.QuoteLine.{quoteLine}
+use Rattle.wait_table.specs.Code.PairLines.{quoteLine}
 use Rattle.wait_table.proofs.put_quote.Statement.{statement}
 use Rattle.wait_table.proofs.put_quote.Tie as tie
 

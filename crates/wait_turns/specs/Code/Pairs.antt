@@ -8,7 +8,9 @@ use Rattle.description_board.specs.declared.Board.{Board}
 use Rattle.description_board.specs.Records.{slaveAt}
 use Rattle.description_board.specs.Legal.{LegalMaster, LegalSlave, Legal}
 use Rattle.wait_turns.specs.declared.Quote.{Quote}
-use Rattle.wait_turns.specs.Waits.{quotedWait, serveOf}
+use Rattle.wait_turns.specs.declared.Turns.{Turns}
+use Rattle.wait_turns.specs.Waits.{longestAccess, quotedWait, serveOf}
+use Rattle.wait_turns.specs.Sums.{turnsAt}
 
 -- a master and a slave whose values are in their lists and ranges (rules 1.6, 1.7)
 pub record LegalBoth (ma : Master) (sl : Slave) : Type 0 where
@@ -30,3 +32,10 @@ pub record PairOf (b : Board) (m s : ℕ) : Type 0 where
 -- wait and serve of a pair of a board (rules 5.5, 5.7)
 unfoldable pub figuresOf : Board → ℕ → ℕ → Quote
 figuresOf b m s = record { wait = quotedWait b m s; serve = serveOf b m s }
+
+-- v of slave s, and the turns there (rules 5.1, 5.7)
+unfoldable pub slaveTurns : Board → ℕ → Turns
+slaveTurns b s = record {
+  v = longestAccess (slaveAt b s);
+  sum = turnsAt b (longestAccess (slaveAt b s)) s;
+}
