@@ -2,7 +2,7 @@
 -- Assumes nothing.
 use mathlib.Core.Bool.{Bool, true, false, cond}
 use mathlib.Core.List.{List, [], _∷_, _++_, append-assoc, append-nil}
-use mathlib.Core.Path.{_≡_, refl, ap, sym, _∙_}
+use mathlib.Core.Path.{_≡_, refl, ap, ap₂, sym, _∙_}
 use Prim.Native.Nat.{ℕ, zero, suc, _+_, _*_, _/_, _%_, _^_, _≤_, _<_}
 use native.Mathlib.Nat.{pow-suc}
 use native.Mathlib.Numerals.{add-one}
@@ -15,6 +15,7 @@ use Rattle.common_laws.proofs.TextLists.{member-append, member-one}
 use Rattle.common_laws.specs.Lists.{member}
 use Rattle.common_text.specs.Digits.{digitsIn, digits, fieldsText, lineText}
 use Rattle.common_text.specs.Fields.{comma}
+use Rattle.common_text.specs.Code.Scanning.{twoDigits, fourDigits}
 
 pub digitsIn-small : (k n : ℕ) → n < 10 → digitsIn (suc k) n ≡ (48 + n) ∷ []
 unfolding digitsIn
@@ -36,11 +37,44 @@ pub digits-small : (n : ℕ) → n < 10 → digits n ≡ (48 + n) ∷ []
 unfolding digits
 digits-small n h = digitsIn-small 19 n h
 
-pub digits-large : (n : ℕ) → 10 ≤ n → n < 10 ^ 20 → digits n ≡ digits (n / 10) ++ ((48 + n % 10) ∷ [])
+digits-large : (n : ℕ) → 10 ≤ n → n < 10 ^ 20 → digits n ≡ digits (n / 10) ++ ((48 + n % 10) ∷ [])
 unfolding digits
 digits-large n h g =
     digitsIn-large 19 n h
     ∙ ap (λ (l : List ℕ). l ++ ((48 + n % 10) ∷ [])) (digitsIn-room 18 (n / 10) (omega arith))
+
+-- two digits
+pub digits-two : (n : ℕ) → 10 ≤ n → n < 100 → digits n ≡ twoDigits n
+unfolding twoDigits
+digits-two n h g =
+    digits-large n h (omega arith)
+    ∙ ap (λ (l : List ℕ). l ++ ((48 + n % 10) ∷ [])) (digits-small (n / 10) (omega arith))
+
+-- the last two digits behind the others
+pub digits-last-two : (n : ℕ) → 100 ≤ n → n < 10 ^ 20 → digits n ≡ digits (n / 100) ++ twoDigits (n % 100)
+unfolding twoDigits
+digits-last-two n h g =
+    let tens : n / 10 % 10 ≡ n % 100 / 10 = omega arith in
+    let ones : n % 10 ≡ n % 100 % 10 = omega arith in
+    let rest : n / 10 / 10 ≡ n / 100 = omega arith in
+    digits-large n (omega arith) g
+    ∙ ap (λ (l : List ℕ). l ++ ((48 + n % 10) ∷ [])) (digits-large (n / 10) (omega arith) (omega arith))
+    ∙ append-assoc (digits (n / 10 / 10)) ((48 + n / 10 % 10) ∷ []) ((48 + n % 10) ∷ [])
+    ∙ ap (λ (k : ℕ). digits k ++ ((48 + n / 10 % 10) ∷ (48 + n % 10) ∷ [])) rest
+    ∙ ap₂ (λ (t o : ℕ). digits (n / 100) ++ ((48 + t) ∷ (48 + o) ∷ [])) tens ones
+
+-- the last four digits behind the others
+pub digits-last-four : (n : ℕ) → 10000 ≤ n → n < 10 ^ 20 → digits n ≡ digits (n / 10000) ++ fourDigits (n % 10000)
+unfolding fourDigits
+digits-last-four n h g =
+    let upper : n / 100 % 100 ≡ n % 10000 / 100 = omega arith in
+    let lower : n % 100 ≡ n % 10000 % 100 = omega arith in
+    let rest : n / 100 / 100 ≡ n / 10000 = omega arith in
+    digits-last-two n (omega arith) g
+    ∙ ap (λ (l : List ℕ). l ++ twoDigits (n % 100)) (digits-last-two (n / 100) (omega arith) (omega arith))
+    ∙ append-assoc (digits (n / 100 / 100)) (twoDigits (n / 100 % 100)) (twoDigits (n % 100))
+    ∙ ap (λ (k : ℕ). digits k ++ (twoDigits (n / 100 % 100) ++ twoDigits (n % 100))) rest
+    ∙ ap₂ (λ (u l : ℕ). digits (n / 10000) ++ (twoDigits u ++ twoDigits l)) upper lower
 
 -- how many digits there are
 pub digits-small-length : (n : ℕ) → n < 10 → length (digits n) ≡ 1
@@ -48,6 +82,17 @@ digits-small-length n h = ap length (digits-small n h)
 
 pub digits-large-length : (n : ℕ) → 10 ≤ n → n < 10 ^ 20 → length (digits n) ≡ length (digits (n / 10)) + 1
 digits-large-length n h g = ap length (digits-large n h g) ∙ length-append (digits (n / 10)) ((48 + n % 10) ∷ [])
+
+pub digits-last-two-length : (n : ℕ) → 100 ≤ n → n < 10 ^ 20 → length (digits n) ≡ length (digits (n / 100)) + 2
+unfolding twoDigits
+digits-last-two-length n h g =
+    ap length (digits-last-two n h g) ∙ length-append (digits (n / 100)) (twoDigits (n % 100))
+
+pub digits-last-four-length :
+    (n : ℕ) → 10000 ≤ n → n < 10 ^ 20 → length (digits n) ≡ length (digits (n / 10000)) + 4
+unfolding twoDigits fourDigits
+digits-last-four-length n h g =
+    ap length (digits-last-four n h g) ∙ length-append (digits (n / 10000)) (fourDigits (n % 10000))
 
 pub digitsIn-most : (k j n : ℕ) → n < 10 ^ (suc j) → length (digitsIn k n) ≤ suc j
 unfolding digitsIn

@@ -4,13 +4,13 @@ use mathlib.Core.List.{List, [], _∷_, _++_}
 use mathlib.Core.Path.{_≡_, refl, ap, ap₂, sym, _∙_}
 use Prim.Native.Nat.{ℕ, _+_, _/_, _%_, _^_, _≤_, _<_}
 use native.Mathlib.Omega.{arith}
-use lib.ListN.{length, getD, take, drop, set, length-append}
+use lib.ListN.{length, getD, take, drop, length-append}
 use lib.Seq.{sets, length-sets, sets-eq}
 use Rattle.common_laws.proofs.TextLists.{sets-append}
 use Rattle.common_text.specs.Digits.{digits, fieldsText}
 use Rattle.common_text.specs.Fields.{comma}
-use Rattle.common_text.specs.Code.Scanning.{Put}
-use Rattle.common_text.proofs.Decimal.{digits-large, fields-more}
+use Rattle.common_text.specs.Code.Scanning.{Put, twoDigits, fourDigits}
+use Rattle.common_text.proofs.Decimal.{digits-last-two, digits-last-four, fields-more}
 
 -- nothing written
 pub put-none : (o : List ℕ) (at : ℕ) → Put o at [] o at
@@ -25,12 +25,6 @@ put-then {o} {p} {q} {at} {r} {t} {A} {B} x y =
       bytes = y .bytes ∙ ap₂ (λ (l : List ℕ) (k : ℕ). sets l k B) (x .bytes) (x .end) ∙ sym (sets-append o at A B);
     }
 
--- one byte behind a text
-pub put-byte :
-    {o p : List ℕ} {at r : ℕ} {A : List ℕ} (c : ℕ) → Put o at A p r
-    → Put o at (A ++ (c ∷ [])) (set p r c) (r + 1)
-put-byte {o} {p} {at} {r} {A} c x = put-then x (record { end = omega arith; bytes = refl })
-
 -- the length stays
 pub put-length : {o p : List ℕ} {at r : ℕ} {A : List ℕ} → Put o at A p r → length p ≡ length o
 put-length {o} {p} {at} {r} {A} x = ap length (x .bytes) ∙ length-sets o at A
@@ -42,11 +36,17 @@ put-front {o} {p} {r} {A} x h =
     let e : 0 + length A ≡ length A = omega arith in
     x .bytes ∙ sets-eq A o 0 (omega arith) ∙ ap (λ (k : ℕ). A ++ drop k o) e
 
--- the last digit of n behind those of n / 10
-pub put-digit :
-    {o p : List ℕ} {at r : ℕ} (n : ℕ) → 10 ≤ n → n < 10 ^ 20 → Put o at (digits (n / 10)) p r
-    → Put o at (digits n) (set p r (48 + n % 10)) (r + 1)
-put-digit n h g x = rw (digits-large n h g) (put-byte (48 + n % 10) x)
+-- the last two digits of n behind the others
+pub put-last-two :
+    {o p q : List ℕ} {at r t : ℕ} (n : ℕ) → 100 ≤ n → n < 10 ^ 20 → Put o at (digits (n / 100)) p r
+    → Put p r (twoDigits (n % 100)) q t → Put o at (digits n) q t
+put-last-two n h g x y = rw (digits-last-two n h g) (put-then x y)
+
+-- the last four
+pub put-last-four :
+    {o p q : List ℕ} {at r t : ℕ} (n : ℕ) → 10000 ≤ n → n < 10 ^ 20 → Put o at (digits (n / 10000)) p r
+    → Put p r (fourDigits (n % 10000)) q t → Put o at (digits n) q t
+put-last-four n h g x y = rw (digits-last-four n h g) (put-then x y)
 
 -- field i of a line behind those before it
 pub put-next :

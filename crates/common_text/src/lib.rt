@@ -8,7 +8,7 @@ ghost use Rattle.common_laws.specs.Lists.{same};
 ghost use Rattle.common_text.specs.Fields.{comma, lineFeed, split, scan};
 ghost use Rattle.common_text.specs.Fields.{numberOf, mostNumbers, numbersOf, withNumber, noNumbers};
 ghost use Rattle.common_text.specs.Digits.{digits, fieldsText, lineText};
-ghost use Rattle.common_text.specs.Code.Scanning.{behind, Cut, Put};
+ghost use Rattle.common_text.specs.Code.Scanning.{behind, Cut, Put, twoDigits, fourDigits};
 
 // The count of numbers behind which none has room. A count is a byte: with a wider one the compiled reader takes a fifth longer.
 const FULL: u8 = LINE_NUMBERS as u8;
@@ -182,8 +182,30 @@ pub fn put_bytes(out: &mut [u8], at: usize, s: &[u8]) -> usize
     at + i
 }
 
-// Writes n in decimal (rule 1.5). The digits before the last go first, so that no length has to be known.
-pub fn put_number(out: &mut [u8], at: usize, n: u64) -> usize
+// Writes the two digits of n, with a 0 in front where n has only one.
+fn put_two(out: &mut [u8], at: usize, n: u64) -> usize
+    requires { ⌜ n < 100 ⌝ }
+    requires { ⌜ at + 2 ≤ length (now out) ⌝ }
+    ensures { λ r. ⌜ Put (now (out .entry)) at (twoDigits n) (now (out .exit)) r ⌝ }
+{
+    out[at] = (48 + n / 10) as u8;
+    out[at + 1] = (48 + n % 10) as u8;
+    at + 2
+}
+
+// Writes the four digits of n, with a 0 in front for each that n lacks.
+fn put_four(out: &mut [u8], at: usize, n: u64) -> usize
+    requires { ⌜ n < 10000 ⌝ }
+    requires { ⌜ at + 4 ≤ length (now out) ⌝ }
+    ensures { λ r. ⌜ Put (now (out .entry)) at (fourDigits n) (now (out .exit)) r ⌝ }
+{
+    let next = put_two(&mut *out, at, n / 100);
+    put_two(&mut *out, next, n % 100)
+}
+
+// Writes n in decimal where it has one or two digits.
+fn put_to_two(out: &mut [u8], at: usize, n: u64) -> usize
+    requires { ⌜ n < 100 ⌝ }
     requires { ⌜ at + length (digits n) ≤ length (now out) ⌝ }
     ensures { λ r. ⌜ Put (now (out .entry)) at (digits n) (now (out .exit)) r ⌝ }
 {
@@ -191,9 +213,57 @@ pub fn put_number(out: &mut [u8], at: usize, n: u64) -> usize
         out[at] = (48 + n) as u8;
         return at + 1;
     }
-    let p = put_number(&mut *out, at, n / 10);
-    out[p] = (48 + n % 10) as u8;
-    p + 1
+    put_two(&mut *out, at, n)
+}
+
+// Writes n in decimal where it has at most four digits.
+fn put_to_four(out: &mut [u8], at: usize, n: u64) -> usize
+    requires { ⌜ n < 10000 ⌝ }
+    requires { ⌜ at + length (digits n) ≤ length (now out) ⌝ }
+    ensures { λ r. ⌜ Put (now (out .entry)) at (digits n) (now (out .exit)) r ⌝ }
+{
+    if n < 100 {
+        return put_to_two(&mut *out, at, n);
+    }
+    let next = put_to_two(&mut *out, at, n / 100);
+    put_two(&mut *out, next, n % 100)
+}
+
+// Writes n in decimal where it has at most eight digits.
+fn put_to_eight(out: &mut [u8], at: usize, n: u64) -> usize
+    requires { ⌜ n < 100000000 ⌝ }
+    requires { ⌜ at + length (digits n) ≤ length (now out) ⌝ }
+    ensures { λ r. ⌜ Put (now (out .entry)) at (digits n) (now (out .exit)) r ⌝ }
+{
+    if n < 10000 {
+        return put_to_four(&mut *out, at, n);
+    }
+    let next = put_to_four(&mut *out, at, n / 10000);
+    put_four(&mut *out, next, n % 10000)
+}
+
+// Writes n in decimal, whatever its length: what stands before the last four digits goes first.
+fn put_long(out: &mut [u8], at: usize, n: u64) -> usize
+    requires { ⌜ at + length (digits n) ≤ length (now out) ⌝ }
+    ensures { λ r. ⌜ Put (now (out .entry)) at (digits n) (now (out .exit)) r ⌝ }
+{
+    if n < 100000000 {
+        return put_to_eight(&mut *out, at, n);
+    }
+    let next = put_long(&mut *out, at, n / 10000);
+    put_four(&mut *out, next, n % 10000)
+}
+
+// Writes n in decimal (rule 1.5), the first digit first, so that no length has to be known. Nearly every number has at most eight
+// digits, and those are written by functions that can be inlined: a call of itself for each digit is three times the instructions.
+pub fn put_number(out: &mut [u8], at: usize, n: u64) -> usize
+    requires { ⌜ at + length (digits n) ≤ length (now out) ⌝ }
+    ensures { λ r. ⌜ Put (now (out .entry)) at (digits n) (now (out .exit)) r ⌝ }
+{
+    if n < 100000000 {
+        return put_to_eight(&mut *out, at, n);
+    }
+    put_long(&mut *out, at, n)
 }
 
 // Writes a comma and n in decimal (rule 1.2).
