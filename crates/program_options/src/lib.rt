@@ -21,11 +21,12 @@ enum Word {
     Unknown,
 }
 
-// To work on `operands` words, which stand from `first` on; the program's name is word 0.
-fn operands_from(first: usize, operands: usize) -> Mode {
+// To work on the words from `first` on, where they are as many as the program takes; its name is word 0.
+fn operands_from(first: usize, least: usize, most: usize) -> Mode {
     let count = os::arg_count();
     if first <= count {
-        if count - first == operands {
+        let operands = count - first;
+        if (least <= operands) & (operands <= most) {
             return Mode::Operands(first);
         }
     }
@@ -56,19 +57,19 @@ fn option_of(word: &[u8]) -> Word
     Word::Unknown
 }
 
-// What the words ask of a program that has so many operands. A first word that begins with `-` is an option, and `--` ends the
+// What the words ask of a program that takes so many operands. A first word that begins with `-` is an option, and `--` ends the
 // options. Of a word that is too long to be handed out the first byte still tells that it is one.
-pub fn asked(operands: usize) -> Mode {
+pub fn asked(least: usize, most: usize) -> Mode {
     let mut word = io::buffer();
     let length = os::arg(1, &mut word);
     if word[0] != b'-' {
-        return operands_from(1, operands);
+        return operands_from(1, least, most);
     }
     let option = option_of(&word[..length]);
     match option {
         Word::Help => alone(Mode::Help),
         Word::Version => alone(Mode::Version),
-        Word::End => operands_from(2, operands),
+        Word::End => operands_from(2, least, most),
         Word::Unknown => Mode::Wrong,
     }
 }
@@ -89,6 +90,6 @@ pub fn print(program: &[u8], bytes: &[u8]) -> bool {
 pub fn print_version(program: &[u8]) {
     let taken = print(program, program);
     if taken {
-        print(program, b" (Zelgwy) 1.2\n");
+        print(program, b" (Zelgwy) 1.3\n");
     }
 }

@@ -191,9 +191,9 @@ fn say_of_old_line(text: &[u8], r: Refusal) {
     }
 }
 
-// One line on standard error, as `line 3: refusal 4: base no multiple of span`. Of 1 and 2 the cause is told by whether a line is
-// charged; 20 is charged to none, and names the master.
-pub fn explain(text: &[u8], r: Refusal) {
+// The rest of a line on standard error, as `line 3: refusal 4: base no multiple of span`. Of 1 and 2 the cause is told by whether a
+// line is charged; 20 is charged to none, and names the master.
+fn say_cause(text: &[u8], r: Refusal) {
     if r.number == NO_SHARE {
         explain_number(r.number, r.master);
         return;
@@ -210,6 +210,18 @@ pub fn explain(text: &[u8], r: Refusal) {
         say_of_old_line(text, r);
     }
     program_streams::write_all(STDERR_FILENO, b"\n");
+}
+
+// One line on standard error, as `table: board.txt: line 3: refusal 4: base no multiple of span`. The text of standard input has no
+// path, and none is said.
+pub fn explain(program: &[u8], path: &[u8], text: &[u8], r: Refusal) {
+    program_streams::write_all(STDERR_FILENO, program);
+    program_streams::write_all(STDERR_FILENO, b": ");
+    if path.len() != 0 {
+        program_streams::write_all(STDERR_FILENO, path);
+        program_streams::write_all(STDERR_FILENO, b": ");
+    }
+    say_cause(text, r);
 }
 
 // A number and what it means.

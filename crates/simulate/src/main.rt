@@ -31,10 +31,7 @@ fn help() {
 fn refuse(path: &[u8], text: &[u8]) {
     let r = description::refused_at(text);
     program_options::printed(b"simulate", program_refusals::print(r.number));
-    io::write_all(STDERR_FILENO, b"simulate: ");
-    io::write_all(STDERR_FILENO, path);
-    io::write_all(STDERR_FILENO, b": ");
-    program_refusals::explain(text, r);
+    program_refusals::explain(b"simulate", path, text, r);
 }
 
 // Obeys the script on the board that a text describes.
@@ -79,7 +76,7 @@ fn simulate_word(i: usize) {
 }
 
 fn main() {
-    let mode = program_options::asked(1);
+    let mode = program_options::asked(1, 1);
     match mode {
         Mode::Help => help(),
         Mode::Version => program_options::print_version(b"simulate"),

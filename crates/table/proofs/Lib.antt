@@ -1,1 +1,2 @@
 pub mod PrepareLaws
+pub mod FileLines

@@ -9,6 +9,7 @@ use lib.ListN.{length, take, drop}
 use Rattle.common_laws.specs.Bytes.{bytesOf}
 use Rattle.common_laws.specs.Lists.{gather}
 use Rattle.common_text.specs.Digits.{digits, lineText}
+use Rattle.common_text.specs.Fields.{lineFeed}
 use Rattle.description_board.specs.declared.Board.{Board}
 use Rattle.description_board.specs.Records.{connected}
 use Rattle.description.specs.Reader.{readText}
@@ -61,6 +62,10 @@ refusedText n = lineText (bytesOf "refused") (n ∷ [])
 -- rule 5.9: what the table program prints
 unfoldable pub printed : List ℕ → List ℕ
 printed text = let n = readText text .number in cond (eqb n 0) (tableOf text) (refusedText n)
+
+-- rule 5.10: the line in front of what is printed of a file
+unfoldable pub fileLine : List ℕ → List ℕ
+fileLine name = bytesOf "file," ++ name ++ (lineFeed ∷ [])
 
 -- rule 5.9: a page whose first n bytes are what is printed. `counted` follows from `within`; with both at hand `&page[..n]` needs
 -- no proof file.
