@@ -1,4 +1,4 @@
--- Every example of Rows, Examples, NativeRows and ConnectionRows holds: each side computes to the same.
+-- Every example of Rows, Examples, NativeRows, ConnectionRows and VariantRows holds: each side computes to the same.
 -- Assumes nothing.
 use mathlib.Core.Path.{refl}
 use lib.Count.{ones, onesIn, trailingZeros}
@@ -43,19 +43,22 @@ use Rattle.fabric_state.specs.Resetting.{resetState, stateAtReset}
 use Rattle.fabric.specs.Calls.{reset, wrongWords, requestRefusal, postRefusalBy, postRefusal, post, bufferAfterPost, clockRefusal}
 use Rattle.fabric.specs.Calls.{clock, storeAfterClock, afterPost, afterClock}
 use Rattle.wait_turns.specs.Waits as quoted
+use Rattle.wait_turns.specs.Sums.{turnAt, turnsAt}
 use Rattle.wait.specs.Calls.{quoteRefusal, quoteOf}
 use Rattle.wait.specs.Answers.{bytes64, pairBytes, pairRefusal, waitRefusal, waitOutput}
 use Rattle.wait_table.specs.Tables.{heading, pairLine, pairLines, tableText, tableOf, printRefusal, refusedText, printed}
+use Rattle.wait_table.specs.Tables.{fileLine}
 use Rattle.wait_table.specs.Named.{firstField, someLine, names}
 use Rattle.theorem_rows.specs.RowCalls.{runs, started, lineNow, phases, grants}
 use Rattle.theorem_rows.specs.Examples.{readAnswers, slaveAnswers, Examples}
 use Rattle.theorem_rows.specs.NativeRows.{nativeText, nativeBoard, nativeStart, clockedWith, shownWith, nativeAnswers}
 use Rattle.theorem_rows.specs.NativeRows.{joined, NativeRows}
 use Rattle.theorem_rows.specs.ConnectionRows.{withShares, threeMasters, lent, world, ConnectionRows}
+use Rattle.theorem_rows.specs.VariantRows.{variant, variantText, exchangedText, board, variantTable, VariantRows}
 use Rattle.theorem_rows.specs.Rows.{boardText, sharesText, tableOutput, Rows}
 
 -- one list of definitions for all tables, crate by crate
-proved : Rows × Examples × NativeRows × ConnectionRows
+proved : Rows × Examples × NativeRows × ConnectionRows × VariantRows
 unfolding
     ones onesIn trailingZeros
     bytesOf bit member same gather table sum every some firstFrom first
@@ -82,12 +85,13 @@ unfolding
     reset wrongWords requestRefusal postRefusalBy postRefusal post bufferAfterPost clockRefusal clock storeAfterClock afterPost
     afterClock
     quoted.longestAccess quoted.mostBeats quoted.single quoted.serve quoted.turn quoted.otherTurn quoted.turnsOf
-    quoted.quotedWait quoted.serveOf
+    quoted.quotedWait quoted.serveOf turnAt turnsAt
     quoteRefusal quoteOf bytes64 pairBytes pairRefusal waitRefusal waitOutput
-    heading pairLine pairLines tableText tableOf printRefusal refusedText printed firstField someLine names
+    heading pairLine pairLines tableText tableOf printRefusal refusedText printed fileLine firstField someLine names
     runs started lineNow phases grants readAnswers slaveAnswers boardText sharesText tableOutput
     nativeText nativeBoard nativeStart clockedWith shownWith nativeAnswers joined
     withShares threeMasters lent world
+    variant variantText exchangedText board variantTable
 proved = (
   record {
     sixteen = refl;
@@ -167,6 +171,21 @@ proved = (
     lentOutside = refl;
     lentTaken = refl;
   },
+  record {
+    turnFirst = refl;
+    turnSecond = refl;
+    turnThird = refl;
+    turns = refl;
+    turnsOther = refl;
+    figures = refl;
+    exchanged = refl;
+    unconnected = refl;
+    alone = refl;
+    shorter = refl;
+    largest = refl;
+    others = refl;
+    line = refl;
+  },
 )
 
 pub rows : Rows
@@ -180,3 +199,6 @@ native-rows = proved .2
 
 pub connection-rows : ConnectionRows
 connection-rows = proved .3
+
+pub variant-rows : VariantRows
+variant-rows = proved .4

@@ -3,3 +3,4 @@ pub mod Examples
 pub mod RowCalls
 pub mod NativeRows
 pub mod ConnectionRows
+pub mod VariantRows
