@@ -9,9 +9,11 @@ usage: tests/compare.sh [SEED] [COUNT]
 Compares what the programs that `rt check` built in target/bin print with what the model prints,
 byte for byte, on input that the model generates from SEED (2 where it is not given):
 
-  texts     COUNT descriptions, good and damaged (2000 where it is not given)
-  table     COUNT / 2 boards
-  simulate  COUNT boards, each with a script of about 100 calls
+  texts        COUNT descriptions, good and damaged (2000 where it is not given)
+  table        COUNT / 2 boards, each on standard input
+  table-files  the same boards as files, 50 at one start, and among them files that are not there,
+               empty ones, folders, and names with spaces and a comma
+  simulate     COUNT boards, each with a script of about 100 calls
 
 Before that the model is held to the rules by its own tests (cargo test). Prints a line for each;
 of what differs, the input and both outputs are kept in target/compare/NAME. Exit status: 0 where
@@ -25,6 +27,8 @@ self=$root/tests/compare.sh
 model=$root/target/model/release/model
 folder=$root/target/compare
 calls=100
+# The boards that one part compares, or one start of table-files.
+at_once=50
 
 fail() {
     echo "compare: $1" >&2
@@ -47,11 +51,55 @@ judge() {
     fi
 }
 
+# The words for the boards of the numbers given, a line each. Among them, and at the front of every second start, stand a name
+# that is not all text and that no file has, an empty word, a folder, an empty file, and the first board under another name.
+words() {
+    for index; do
+        case $index in
+            0 | *00 | *5)
+                printf '%s\377\n\n' "$item, not there"
+                printf '%s\n' "$folder/$kind" "$item.empty" "$item.under another name, once more"
+                ;;
+        esac
+        echo "$folder/$kind/$index.txt"
+    done
+}
+
+# The boards of the numbers given at one start: for each word whose answers differ, prints the list of words and its number
+# there, from 0.
+start() {
+    item=$folder/$kind/$1
+    : > "$item.empty"
+    cp "$item.txt" "$item.under another name, once more"
+    words "$@" > "$item.words"
+    # a program that leaves its files open runs out of them
+    ulimit -n 24
+    run_to "$item.program" xargs -a "$item.words" -d '\n' "$root/target/bin/table"
+    run_to "$item.model" xargs -a "$item.words" -d '\n' "$model" table
+    # where neither could be started, the outputs agree
+    [ "$(LC_ALL=C grep -c '^file,' "$item.model")" -eq "$(wc -l < "$item.words")" ] || fail "the model left out a word"
+    if cmp -s "$item.program" "$item.model"; then
+        for index; do
+            shift
+            set -- "$@" "$folder/$kind/$index".*
+        done
+        rm -f "$@"
+    else
+        differing_answers file, "$item.program" "$item.model" | while read -r number; do
+            echo "$item.words $number"
+        done
+    fi
+}
+
 # The boards of the numbers given, one after another: prints the items that differ.
 part() {
     kind=$1
     seed=$2
     shift 2
+    if [ "$kind" = table-files ]; then
+        start "$@"
+        return
+    fi
     for index; do
         item=$folder/$kind/$index
         case $kind in
@@ -82,23 +130,26 @@ report() {
 # The folder of a kind is made anew. A program that is not built fails: a comparison left out would pass for one without
 # differences.
 begin() {
-    [ -x "$root/target/bin/$1" ] || fail "$1 is not built: rt check $1"
+    program=${1%-files}
+    [ -x "$root/target/bin/$program" ] || fail "$program is not built: rt check $program"
     rm -rf "${folder:?}/$1"
     mkdir -p "$folder/$1"
 }
 
-# Prints the number of each record, from 0, whose answers differ: an answer starts with a line read,N.
-differing_records() {
-    awk '
+# Prints the number of each answer, from 0, that differs between two outputs: an answer starts with a line of this front. An
+# answer of -1 stands before the first such line, or for outputs that differ in bytes that awk does not tell apart.
+differing_answers() {
+    LC_ALL=C awk -v front="$1" '
         FNR == 1 { side++; number = -1 }
-        /^read,/ { number++ }
+        index($0, front) == 1 { number++ }
         { answer[side, number] = answer[side, number] $0 "\n" }
         number > last { last = number }
         END {
             for (number = -1; number <= last; number++)
-                if (answer[1, number] != answer[2, number]) print number
+                if (answer[1, number] != answer[2, number]) { print number; found = 1 }
+            if (!found) print -1
         }
-    ' "$1" "$2"
+    ' "$2" "$3"
 }
 
 compare_texts() {
@@ -109,9 +160,8 @@ compare_texts() {
     run_to "$item.model" "$model" texts < "$item.txt"
     differences=0
     if ! cmp -s "$item.program" "$item.model"; then
-        differing_records "$item.program" "$item.model" > "$item.differing"
+        differing_answers read, "$item.program" "$item.model" > "$item.differing"
         differences=$(wc -l < "$item.differing")
-        [ "$differences" -gt 0 ] || differences=1
     fi
     judge "$item" > "$folder/texts.differing"
     report texts "$count records" "$differences"
@@ -129,7 +179,7 @@ compare_stored() {
 compare_boards() {
     begin "$1"
     "$model" gen-boards "$seed" "$2" "$folder/$1"
-    seq 0 $(($2 - 1)) | xargs -P 2 -n 50 "$self" --part "$1" "$seed" > "$folder/$1.differing" ||
+    seq 0 $(($2 - 1)) | xargs -P 2 -n "$at_once" "$self" --part "$1" "$seed" > "$folder/$1.differing" ||
         fail "the comparison of $1 broke off"
     report "$1" "$3" "$(wc -l < "$folder/$1.differing")"
 }
@@ -164,6 +214,8 @@ cargo test --offline --quiet --manifest-path "$root/model/Cargo.toml" --target-d
 different=0
 compare_stored
 compare_texts
-compare_boards table "$((count / 2))" "$((count / 2)) boards"
+tables=$((count / 2))
+compare_boards table "$tables" "$tables boards"
+compare_boards table-files "$tables" "$tables boards in $(((tables + at_once - 1) / at_once)) starts"
 compare_boards simulate "$count" "$count boards of $calls calls"
 exit "$different"

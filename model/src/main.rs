@@ -1,6 +1,7 @@
 //! The model's commands: takes the words of the command line and calls the library.
 
 use std::env;
+use std::ffi::OsString;
 use std::fs;
 use std::io::{self, BufReader, BufWriter, Read, Write};
 use std::path::Path;
@@ -10,6 +11,7 @@ use model::generate::{boards, scripts, texts};
 use model::{records, script, table};
 
 const USAGE: &str = "usage: model table < TEXT
+       model table FILE..
        model simulate BOARDFILE < SCRIPT
        model texts < RECORDS
        model count-texts < RECORDS
@@ -42,7 +44,8 @@ fn simulate(board_file: &str, output: &mut impl Write) -> io::Result<()> {
     script::simulate(&text, &mut lines, output)
 }
 
-fn run(words: &[&str], output: &mut impl Write) -> io::Result<()> {
+/// The commands whose words are all text.
+fn run_text(words: &[&str], output: &mut impl Write) -> io::Result<()> {
     match words {
         ["table"] => table::print(&mut io::stdin().lock(), output),
         ["simulate", board_file] => simulate(board_file, output),
@@ -62,9 +65,21 @@ fn run(words: &[&str], output: &mut impl Write) -> io::Result<()> {
     }
 }
 
+/// Names of files are bytes; all other words are text, and one that is not belongs to no command.
+fn run(words: &[OsString], output: &mut impl Write) -> io::Result<()> {
+    match words {
+        [command, files @ ..] if command == "table" && !files.is_empty() => {
+            table::print_files(files, output, &mut io::stderr())
+        }
+        _ => {
+            let words: Option<Vec<&str>> = words.iter().map(|word| word.to_str()).collect();
+            run_text(&words.unwrap_or_default(), output)
+        }
+    }
+}
+
 fn main() -> ExitCode {
-    let words: Vec<String> = env::args().skip(1).collect();
-    let words: Vec<&str> = words.iter().map(String::as_str).collect();
+    let words: Vec<OsString> = env::args_os().skip(1).collect();
     let mut output = BufWriter::with_capacity(PIECE, io::stdout().lock());
     let result = run(&words, &mut output).and_then(|()| output.flush());
     match result {

@@ -117,10 +117,10 @@ pub fn free_base(random: &mut Random, slaves: &[Slave], span: u64) -> u64 {
 /// The longest wait of a board's slaves.
 fn wait_limit(random: &mut Random) -> usize {
     match random.below(20) {
-        0..=6 => 0,
-        7..=13 => 2,
-        14..=17 => 6,
-        18 => 30,
+        0..=4 => 0,
+        5..=11 => 2,
+        12..=16 => 6,
+        17 | 18 => 30,
         _ => 255,
     }
 }
@@ -130,6 +130,16 @@ fn wait(random: &mut Random, limit: usize) -> u8 {
         limit as u8
     } else {
         random.between(0, limit) as u8
+    }
+}
+
+/// Read wait and write wait of a slave. In one of four slaves a direction has no wait, and the other the longest: then only the
+/// longer of the two gives the table's figures.
+fn waits(random: &mut Random, limit: usize) -> (u8, u8) {
+    match random.below(8) {
+        0 => (limit as u8, 0),
+        1 => (0, limit as u8),
+        _ => (wait(random, limit), wait(random, limit)),
     }
 }
 
@@ -149,8 +159,9 @@ fn connect(random: &mut Random, board: &mut Board, size: Size) {
         _ if size == Size::Largest => 8,
         // then each master has exactly one
         0 => 0,
-        1..=3 => 3,
-        4..=8 => 6,
+        1 | 2 => 1,
+        3 | 4 => 3,
+        5..=8 => 6,
         _ => 8,
     };
     for (master, slave) in board.pairs() {
@@ -231,13 +242,14 @@ fn place_slaves(random: &mut Random, board: &mut Board) {
     let spans = spans(random, board.slave_count as usize);
     for (index, &span) in spans.iter().enumerate() {
         let (width, native) = alignment(random, &board.masters[..board.master_count as usize]);
+        let (read_wait, write_wait) = waits(random, limit);
         board.slaves[index] = Slave {
             base: free_base(random, &board.slaves[..index], span) as u32,
             span: span as u32,
             width,
             burst: random.pick(&BURSTS) as u8,
-            read_wait: wait(random, limit),
-            write_wait: wait(random, limit),
+            read_wait,
+            write_wait,
             native,
         };
     }
@@ -331,7 +343,8 @@ fn taken_text(random: &mut Random) -> Vec<u8> {
     joined(&lines(random, &board))
 }
 
-/// Boards for the simulator and the table, a file each: nearly nine in ten are taken by the reader.
+/// Boards for the simulator and the table, a file each: nearly nine in ten are taken by the reader, one in a hundred is about as
+/// long as a text may be or longer.
 pub fn write_boards(seed: u64, count: usize, directory: &Path) -> io::Result<()> {
     fs::create_dir_all(directory)?;
     let mut random = Random::new(seed);
@@ -344,6 +357,10 @@ pub fn write_boards(seed: u64, count: usize, directory: &Path) -> io::Result<()>
             }
             10..=13 => {
                 let plan = texts::unconnected_plan(&mut random);
+                texts::text(&mut random, plan)
+            }
+            14 => {
+                let plan = texts::long_plan(&mut random);
                 texts::text(&mut random, plan)
             }
             _ => taken_text(&mut random),

@@ -97,6 +97,11 @@ pub fn unconnected_plan(random: &mut Random) -> Plan {
     Plan::Unconnected(random.below(limit))
 }
 
+/// A text of a length near the limit, or far above it.
+pub fn long_plan(random: &mut Random) -> Plan {
+    random.pick(&plans_of_lengths())
+}
+
 fn all_plans() -> Vec<Plan> {
     let mut plans = damaging_plans();
     for (count, size) in [

@@ -1,5 +1,6 @@
 //! The generators: boards that are taken, and texts and scripts that reach every refusal.
 
+use model::board::Board;
 use model::description::{read, write};
 use model::generate::boards::{any_size, board, longest_board, Size};
 use model::generate::random::Random;
@@ -29,6 +30,74 @@ fn generated_boards_have_native_cards_at_wider_masters() {
     };
     let boards = (0..200).filter(is_wider).count();
     assert!(boards > 50, "only {boards} of 200");
+}
+
+/// How many boards of 200 are such, of all sizes.
+fn boards_that(are_such: impl Fn(&Board) -> bool) -> usize {
+    let is_such = |seed: &u64| {
+        let mut random = Random::new(*seed);
+        let size = any_size(&mut random);
+        are_such(&board(&mut random, size))
+    };
+    (0..200).filter(is_such).count()
+}
+
+/// The masters that are connected with the slave.
+fn masters_at(board: &Board, slave: usize) -> Vec<usize> {
+    (0..board.master_count as usize)
+        .filter(|&master| board.connected(master, slave))
+        .collect()
+}
+
+#[test]
+fn generated_boards_have_either_wait_longer_where_masters_wait_for_each_other() {
+    let differences = |board: &Board| -> Vec<i32> {
+        (0..board.slave_count as usize)
+            .filter(|&slave| masters_at(board, slave).len() > 1)
+            .map(|slave| &board.slaves[slave])
+            .map(|slave| slave.read_wait as i32 - slave.write_wait as i32)
+            .collect()
+    };
+    let read = boards_that(|board| differences(board).iter().any(|&longer| longer > 0));
+    let write = boards_that(|board| differences(board).iter().any(|&longer| longer < 0));
+    let equal = boards_that(|board| differences(board).contains(&0));
+    assert!(read > 50, "only {read} of 200");
+    assert!(write > 50, "only {write} of 200");
+    assert!(equal > 50, "only {equal} of 200");
+}
+
+#[test]
+fn generated_boards_have_several_unlike_masters_at_a_slave() {
+    let unlike = boards_that(|board| {
+        (0..board.slave_count as usize).any(|slave| {
+            let masters = masters_at(board, slave);
+            let differ = |value: &dyn Fn(usize) -> u8| {
+                masters
+                    .iter()
+                    .any(|&other| value(other) != value(masters[0]))
+            };
+            masters.len() > 2
+                && differ(&|master| board.masters[master].width)
+                && differ(&|master| board.masters[master].burst)
+                && differ(&|master| board.shares[master][slave])
+        })
+    });
+    assert!(unlike > 80, "only {unlike} of 200");
+}
+
+#[test]
+fn generated_boards_have_masters_at_few_slaves() {
+    let slaves_of = |board: &Board, master: usize| {
+        let slaves = 0..board.slave_count as usize;
+        slaves
+            .filter(|&slave| board.connected(master, slave))
+            .count()
+    };
+    let few = boards_that(|board| {
+        let mut masters = 0..board.master_count as usize;
+        board.slave_count >= 3 && masters.all(|master| slaves_of(board, master) <= 2)
+    });
+    assert!(few > 10, "only {few} of 200");
 }
 
 #[test]

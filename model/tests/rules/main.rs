@@ -4,6 +4,7 @@ mod accesses;
 mod arbiter;
 mod description;
 mod fabric;
+mod files;
 mod generators;
 mod histories;
 mod lanes;
