@@ -1,7 +1,7 @@
 #!/bin/sh
-# Tries table and simulate on boards that are refused, simulate on scripts with refused calls, and both with options, and compares
-# what they write on standard output and on standard error, byte for byte, with the text that stands here. Refusal k is rule 7.k
-# of docs/RULES.md.
+# Tries table and simulate on boards that are refused, simulate on scripts with refused calls, and both with options and names.
+# Compares what they write on standard output and on standard error, byte for byte, with the text that stands here. Refusal k is
+# rule 7.k of docs/RULES.md.
 set -eu
 
 root=$(CDPATH= cd -- "$(dirname -- "$0")/.." && pwd)
@@ -43,6 +43,8 @@ refused() {
     # shellcheck disable=SC2059
     printf "$1" > board.txt
     try table board.txt "refused,$2" "table: $3"
+    try table script.txt "file,board.txt
+refused,$2" "table: board.txt: $3" board.txt
     try simulate script.txt "refused,$2" "simulate: board.txt: $3" board.txt
 }
 
@@ -393,7 +395,9 @@ meanings="  1 text over 8192 bytes; $line
   6 spans total over 65536
   7 $share"
 usage="usage: table < BOARD
-Prints master,slave,wait,serve of every connected pair, or refused, and a number:
+       table BOARD..
+Prints master,slave,wait,serve of every connected pair, or refused, and a number.
+Of each BOARD that is named, a line file,NAME comes first. The numbers:
 $meanings
   19 $narrow
   20 a master has no share line"
@@ -402,11 +406,57 @@ try table board.txt "$usage" '' -h
 try table board.txt "table (Zelgwy) $version" '' --version
 try table board.txt 'master,slave,wait,serve
 0,0,0,8' '' --
-try table board.txt '' "$usage" board.txt
-try table board.txt '' "$usage" ''
-try table board.txt '' "$usage" -- board.txt
-try table board.txt '' "$usage" --help --help
-try table board.txt '' "$usage" --version --help
+# With names, standard input is another board, and is not read. The first word alone can be an option, and help and version stand
+# by themselves: no file is read behind them.
+figures='master,slave,wait,serve
+0,0,0,8'
+absent='No such file or directory'
+try table fabric.txt "file,board.txt
+$figures" '' board.txt
+try table fabric.txt "file,board.txt
+$figures" '' -- board.txt
+try table fabric.txt "file,board.txt
+$figures
+file,board.txt
+$figures" '' board.txt board.txt
+try table fabric.txt 'file,' "table: : $absent" ''
+try table fabric.txt 'file,' "table: : $absent" -- ''
+try table fabric.txt "file,board.txt
+$figures
+file,absent.txt
+file,board.txt
+$figures" "table: absent.txt: $absent" board.txt absent.txt board.txt
+for option in -h --help --version; do
+    for word in "$option" board.txt absent.txt '' --; do
+        try table fabric.txt '' "$usage" "$option" "$word"
+        try table fabric.txt '' "$usage" "$option" board.txt "$word"
+    done
+    try table fabric.txt "file,board.txt
+$figures
+file,$option" "table: $option: $absent" board.txt "$option"
+    try table fabric.txt "file,$option
+file,board.txt
+$figures" "table: $option: $absent" -- "$option" board.txt
+    try table fabric.txt "file,$option" "table: $option: $absent" -- "$option"
+done
+try table fabric.txt "file,board.txt
+$figures
+file,--
+file,board.txt
+$figures" "table: --: $absent" board.txt -- board.txt
+try table fabric.txt 'file,--' "table: --: $absent" -- --
+try table fabric.txt "file,--
+file,--
+file,board.txt
+$figures" "table: --: $absent
+table: --: $absent" -- -- -- board.txt
+try table fabric.txt "file,-
+file,-x
+file,-hh
+file,--helpful" "table: -: $absent
+table: -x: $absent
+table: -hh: $absent
+table: --helpful: $absent" -- - -x -hh --helpful
 help="usage: simulate BOARD < SCRIPT
 Runs the script's lines on the board and prints what each call answers, a refusal by its number:
 $meanings
@@ -433,6 +483,18 @@ try simulate wait.txt 'wait,0,0,8' '' -- board.txt
 try simulate wait.txt 'wait,0,0,8' '' -- --help
 try simulate wait.txt 'wait,0,0,8' '' -- --
 try simulate wait.txt 'wait,0,0,8' '' ./--help
+try table fabric.txt "file,--help
+$figures
+file,--
+$figures
+file,./--help
+$figures" '' -- --help -- ./--help
+try table fabric.txt "file,board.txt
+$figures
+file,--help
+$figures
+file,--
+$figures" '' board.txt --help --
 usage_line='usage: simulate BOARD < SCRIPT'
 try simulate script.txt '' "$usage_line"
 try simulate script.txt '' "$usage_line" --
@@ -444,6 +506,8 @@ try simulate script.txt '' "$usage_line" --version board.txt
 # A word of 5,000 bytes is no option, and no file has such a name.
 for word in - -x -hh --h --helpful --Version --version=1 --- "-$(printf '%04999d' 0)"; do
     try table board.txt '' "$usage" "$word"
+    try table board.txt '' "$usage" "$word" board.txt
+    try table board.txt '' "$usage" "$word" --
     try simulate script.txt '' "$usage_line" "$word"
 done
 try simulate script.txt '' 'simulate: BOARD: File name too long' "$(printf '%05000d' 0)"

@@ -8,10 +8,12 @@
  *   FAULT_AT     the call that fails, counted from 1
  *   FAULT_TIMES  how many calls from that one on fail, 1 where it is not given
  *   FAULT_ERRNO  with which error
+ *   FAULT_SHUT   a descriptor that is to be closed by then: calls fail with EBUSY while it is open
  */
 #define _GNU_SOURCE
 #include <dlfcn.h>
 #include <errno.h>
+#include <fcntl.h>
 #include <stdlib.h>
 #include <string.h>
 #include <unistd.h>
@@ -30,12 +32,17 @@ static ssize_t asked(const char *call, int fd, size_t count)
     const char *faulty = getenv("FAULT_CALL");
     long at = setting("FAULT_AT", 0);
     long most = setting("FAULT_MOST", 0);
+    long shut = setting("FAULT_SHUT", -1);
 
     if (faulty == NULL || strcmp(faulty, call) != 0 || fd != setting("FAULT_FD", -1))
         return (ssize_t)count;
     calls++;
     if (at > 0 && at <= calls && calls < at + setting("FAULT_TIMES", 1)) {
         errno = (int)setting("FAULT_ERRNO", EIO);
+        return -1;
+    }
+    if (shut >= 0 && fcntl((int)shut, F_GETFD) != -1) {
+        errno = EBUSY;
         return -1;
     }
     return most > 0 && count > (size_t)most ? most : (ssize_t)count;

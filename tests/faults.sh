@@ -150,6 +150,166 @@ try "FAULT_CALL=read FAULT_FD=0 FAULT_AT=2 FAULT_ERRNO=$eio" '' refused "table: 
 try '' '> /dev/full' none "table: standard output: No space left on device
 table: $long"
 
+# table with the names of files. It opens each as descriptor 3, one behind the other, and writes twice for each: its line, and its
+# table or refusal.
+cp "$root/boards/encoder.txt" second.txt
+sed 's/,1,0,0$/,1,5,0/' board.txt > third.txt
+cat > page.second <<'PAGE'
+master,slave,wait,serve
+0,0,2,16
+0,1,3,24
+1,0,22,2
+1,1,27,3
+PAGE
+cat > page.third <<'PAGE'
+master,slave,wait,serve
+0,0,18,96
+1,0,108,6
+PAGE
+cksum board.txt second.txt third.txt long.txt > boards.before
+for file in board second third; do
+    echo "file,$file.txt" > "line.$file"
+done
+cp page page.board
+
+# The reads of one of three files, 5 bytes at most in each: how many reads were made before it, the file, and what is printed
+# where it cannot be read.
+file_reads() {
+    last=$((($(wc -c < "$2") + 4) / 5 + 1))
+    reading='FAULT_CALL=read FAULT_FD=3 FAULT_MOST=5'
+    for at in $(($1 + 1)) $(($1 + last / 2 + 1)) $(($1 + last)); do
+        try "$reading FAULT_AT=$at FAULT_ERRNO=$eio" '' "$3" "table: $2: Input/output error"
+        try "$reading FAULT_AT=$at FAULT_ERRNO=$eintr" '' "$whole" ''
+        try "$reading FAULT_AT=$at FAULT_ERRNO=$eagain FAULT_TIMES=3" '' "$whole" ''
+    done
+    before=$(($1 + last))
+}
+
+cat line.board page.board line.second page.second line.third page.third > three
+cat line.board line.second page.second line.third page.third > without.board
+cat line.board page.board line.second line.third page.third > without.second
+cat line.board page.board line.second page.second line.third > without.third
+cat line.board line.second line.third > lines
+subject 'table board.txt second.txt third.txt' none three
+before=0
+for file in board second third; do
+    file_reads "$before" "$file.txt" "without.$file"
+done
+try "$reading FAULT_AT=$((before + 1)) FAULT_ERRNO=$eio" '' three ''
+try 'FAULT_CALL=read FAULT_FD=3 FAULT_MOST=1' '' three ''
+failed='Input/output error'
+try "FAULT_CALL=read FAULT_FD=3 FAULT_AT=1 FAULT_TIMES=9 FAULT_ERRNO=$eio" '' lines "table: board.txt: $failed
+table: second.txt: $failed
+table: third.txt: $failed"
+writes
+# Each write by itself: those before it are whole, none is made behind it, and the files behind it are not looked at.
+writing="FAULT_CALL=write FAULT_FD=1"
+: > part.whole
+at=1
+for piece in line.board page.board line.second page.second line.third page.third; do
+    try "$writing FAULT_AT=$at FAULT_ERRNO=$eio" '' part.whole "table: standard output: $failed"
+    try "$writing FAULT_AT=$at FAULT_TIMES=100 FAULT_ERRNO=28" '' part.whole 'table: standard output: No space left on device'
+    try "$writing FAULT_AT=$at FAULT_ERRNO=$eintr" '' three ''
+    try "$writing FAULT_AT=$at FAULT_ERRNO=$eagain FAULT_TIMES=3" '' three ''
+    cat "$piece" >> part.whole
+    at=$((at + 1))
+done
+try "$writing FAULT_AT=$at FAULT_ERRNO=$eio" '' three ''
+# A file is closed before its table is printed. It is not taken for standard input, output or error where one of these is closed,
+# but may have that descriptor meanwhile.
+try "$writing FAULT_SHUT=3" '' three ''
+try "$writing FAULT_SHUT=0" '<&-' three ''
+try "$writing FAULT_SHUT=2" '2>&-' three ''
+try '' '<&-' three ''
+try '' '2>&-' three ''
+try '' '<&- 2>&-' three ''
+try '' '<&- >&-' none 'table: standard output: Bad file descriptor'
+try '' '>&- 2>&-' none ''
+try '' '<&- >&- 2>&-' none ''
+try "FAULT_CALL=read FAULT_FD=0 FAULT_AT=1 FAULT_ERRNO=$eio" '<&-' without.board "table: board.txt: $failed"
+# Standard input is not touched.
+try "FAULT_CALL=read FAULT_FD=0 FAULT_AT=1 FAULT_ERRNO=$eio" '' three ''
+try '' '< .' three ''
+try '' '0> other' three ''
+
+# Among the files one that is refused, by its length, without a second read, and one that is not there.
+printf 'file,long.txt\nrefused,1\nfile,absent.txt\nfile,.\n' > rest
+cat line.board page.board rest line.third page.third > mixed
+explained="table: long.txt: $long"
+unread="table: absent.txt: No such file or directory
+table: .: Is a directory"
+subject 'table board.txt long.txt absent.txt . third.txt' none mixed
+try '' '' mixed "$explained
+$unread"
+try "FAULT_CALL=read FAULT_FD=3 FAULT_AT=4 FAULT_ERRNO=$eio" '' mixed "$explained
+table: absent.txt: No such file or directory
+table: .: $failed"
+try '' '2>&-' mixed ''
+try '' '<&- 2>&-' mixed ''
+try '' '2> /dev/full' mixed ''
+try "$writing FAULT_MOST=1" '' mixed "$explained
+$unread"
+try "$writing FAULT_SHUT=3" '' mixed "$explained
+$unread"
+try '' '> /dev/full' none 'table: standard output: No space left on device'
+try '' '>&-' none 'table: standard output: Bad file descriptor'
+# The line of the file that is refused, then its refusal, which is explained nevertheless, and the line of the absent file.
+cat line.board page.board > part.whole
+try "$writing FAULT_AT=3 FAULT_ERRNO=$eio" '' part.whole "table: standard output: $failed"
+echo file,long.txt >> part.whole
+try "$writing FAULT_AT=4 FAULT_ERRNO=$eio" '' part.whole "table: standard output: $failed
+$explained"
+echo refused,1 >> part.whole
+try "$writing FAULT_AT=5 FAULT_ERRNO=$eio" '' part.whole "$explained
+table: standard output: $failed"
+echo file,absent.txt >> part.whole
+try "$writing FAULT_AT=6 FAULT_ERRNO=$eio" '' part.whole "$explained
+table: absent.txt: No such file or directory
+table: standard output: $failed"
+echo file,. >> part.whole
+try "$writing FAULT_AT=7 FAULT_ERRNO=$eio" '' part.whole "$explained
+$unread
+table: standard output: $failed"
+for absent in absent.txt . long.txt; do
+    subject "table $absent board.txt" none none
+    try '' '> /dev/full' none 'table: standard output: No space left on device'
+done
+# The line of a file is one write, however long it is: the second is that of the file behind it.
+for length in 4000 100000; do
+    word=$(printf "%0${length}d" 0)
+    subject "table $word board.txt" none none
+    echo "file,$word" > part.whole
+    try "$writing FAULT_AT=2 FAULT_ERRNO=$eio" '2>&-' part.whole ''
+    try "$writing FAULT_AT=1 FAULT_ERRNO=$eio" '' none "table: standard output: $failed"
+done
+subject 'table /dev/stdin' none none
+echo file,/dev/stdin > part.whole
+try '' '<&-' part.whole 'table: /dev/stdin: No such file or directory'
+
+# 100 tables of the largest board are more than a pipe holds that does not wait; standard input has two parts.
+cp "$root/boards/largest.txt" largest.txt
+{
+    echo file,largest.txt
+    ./table < largest.txt
+} > page.largest
+largest=$(seq 100 | while read -r _; do echo largest.txt; done | tr '\n' ' ')
+{
+    cat line.board page.board
+    for file in $largest; do
+        cat page.largest
+    done
+    echo file,/dev/stdin
+    cat page.board
+} > many
+subject "table board.txt $largest/dev/stdin" board.txt many
+through_pipes 4
+tries=$((tries + 1))
+cksum board.txt second.txt third.txt long.txt > boards.after
+cmp -s boards.before boards.after || {
+    different=$((different + 1))
+    echo 'faults: a board was written to'
+}
+
 # simulate: its board, which it opens as descriptor 3, and its script
 cat > script.txt <<'SCRIPT'
 reset
