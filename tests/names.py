@@ -7,6 +7,7 @@ usage: tests/names.py [--write]
 - a crate, file, definition, function, law or must-fail edit that a document names in backquotes exists;
 - each must-fail edit is named in docs/PROMISES.md;
 - the constants of include/fabric.h are those of crate common_numbers;
+- each row of a document's table has as many cells as the table's heading;
 - docs/READING.md lists every file of definitions that is to be believed, with its number of lines (--write puts the numbers).
 
 Prints a line for each complaint; exit status 0 where there is none, else 1.
@@ -130,6 +131,22 @@ def name_complaints(files):
             yield f"docs/PROMISES.md: the edit {edit} is not named"
 
 
+def cells(row):
+    return re.sub(r"`[^`]*`", "", row).count("|")
+
+
+def table_complaints():
+    for path in documents() + [ROOT / "docs/LANDINGS.md"]:
+        heading = 0
+        for number, line in enumerate(text_of(path).split("\n"), 1):
+            if not line.startswith("|"):
+                heading = 0
+            elif heading == 0:
+                heading = cells(line)
+            elif cells(line) != heading:
+                yield f"{path.relative_to(ROOT)}: line {number}: a row of {cells(line)} bars where the heading has {heading}"
+
+
 def value_of(expression, values):
     return eval(re.sub(r"[A-Z]\w*", lambda m: str(values[m.group(0)]), expression), {"__builtins__": {}})
 
@@ -194,6 +211,7 @@ def main(arguments):
     files = tracked()
     complaints = list(reading_complaints(arguments == ["--write"]))
     complaints += list(rule_complaints(files)) + list(name_complaints(files)) + list(constant_complaints())
+    complaints += list(table_complaints())
     for complaint in complaints or ["names: all that is cited exists"]:
         print(complaint)
     return 1 if complaints and complaints[0] != "names: all that is cited exists" else 0
