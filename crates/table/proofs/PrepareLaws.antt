@@ -10,7 +10,7 @@ use lib.ListN.{length, take}
 use Rattle.program_streams.specs.declared.Got.{Got}
 use Rattle.program_streams.specs.Reading.{gathered, Standing, ended, broken, going, standing, Marks, Gathered}
 use Rattle.description.specs.Reader.{mostBytes}
-use Rattle.wait_table.specs.Tables.{printed, Page}
+use Rattle.wait_table.specs.Tables.{printed, Begins}
 use Rattle.table.specs.Preparing.{Reads}
 
 module _ {text : List ℕ} {g : Got} (x : Gathered text g) where
@@ -47,7 +47,7 @@ module _ {text : List ℕ} {g : Got} (x : Gathered text g) where
           let full : g .end ≡ length text = rw fine at (k .1) in
           inr (omega (arith, x .fits .1, ap length (x .handed)))
 
-  pub page-made : mostBytes < length text → g .failed ≡ false → {page : List ℕ} {n : ℕ} → Page (take (g .end) text) page n
+  pub page-made : mostBytes < length text → g .failed ≡ false → {page : List ℕ} {n : ℕ} → Begins (printed (take (g .end) text)) page n
       → Reads text page (record { read = g .end; length = n; failed = false })
   page-made room fine p = record {
     answers = x .answers;

@@ -1,15 +1,15 @@
--- What the table program has read, and what it is to print of it.
+-- What the table program has read, and the page that it is to print of it.
 -- Assumes nothing.
 use mathlib.Core.Bool.{true, false}
 use mathlib.Core.List.{List}
 use mathlib.Core.Logic.{_⊎_, _≢_}
 use mathlib.Core.Path.{_≡_}
-use Prim.Native.Nat.{ℕ, _≤_, _<_}
+use Prim.Native.Nat.{ℕ, _<_}
 use lib.ListN.{length, take}
 use Rattle.io.specs.Counts.{Counts}
 use Rattle.program_streams.specs.Reading.{Answer, gathered, ended, standing}
 use Rattle.description.specs.Reader.{mostBytes}
-use Rattle.wait_table.specs.Tables.{printed, fileLine}
+use Rattle.wait_table.specs.Tables.{printed}
 use Rattle.table.specs.declared.Prepared.{Prepared}
 
 -- Where no read failed, the input was read to its end, or over the length at which a text is refused by its length alone, and the
@@ -26,10 +26,3 @@ pub record Reads (text page : List ℕ) (r : Prepared) : Type 0 where
   pub fails : r .failed ≡ true → standing answers ≢ ended
   pub kept : Counts (r .read) text
   pub made : Counts (r .length) page
-
--- rule 5.10: a line whose first n bytes are to be printed in front of a file's page. `counted` follows from `within`; with both at
--- hand `&line[..n]` needs no proof file.
-pub record Headed (name line : List ℕ) (n : ℕ) : Type 0 where
-  pub within : n ≤ length line
-  pub counted : n ≡ length (take n line)
-  pub front : take n line ≡ fileLine name

@@ -4,7 +4,8 @@ use common_numbers::TEXT_ROOM;
 ghost use Prim.Native.Nat.{_+_, _≤_, _<_};
 ghost use lib.ListN.{length};
 ghost use Rattle.description.specs.Reader.{mostBytes};
-ghost use Rattle.table.specs.Preparing.{Reads, Headed};
+ghost use Rattle.wait_table.specs.Tables.{fileLine, Begins};
+ghost use Rattle.table.specs.Preparing.{Reads};
 use libc::STDERR_FILENO;
 use libc::STDIN_FILENO;
 use libc::STDOUT_FILENO;
@@ -106,7 +107,7 @@ const LINE_ROOM: usize = WORD_ROOM + 6;
 // Puts the line in front of a file's page (rule 5.10).
 fn put_file_line(line: &mut [u8], name: &[u8]) -> usize
     requires { ⌜ length (now name) + 6 ≤ length (now line) ⌝ }
-    ensures { λ r. ⌜ Headed (now (name .entry)) (now (line .exit)) r ⌝ }
+    ensures { λ r. ⌜ Begins (fileLine (now (name .entry))) (now (line .exit)) r ⌝ }
 {
     let behind = common_text::put_bytes(&mut *line, 0, b"file,");
     let end = common_text::put_bytes(&mut *line, behind, name);

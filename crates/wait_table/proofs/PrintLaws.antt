@@ -25,7 +25,7 @@ use Rattle.wait_table.specs.declared.Printed.{Printed}
 use Rattle.wait_turns.specs.Waits.{quotedWait, serveOf}
 use Rattle.wait_table.specs.Tables.{heading, pairLine, pairLines, tableText, tableOf}
 use Rattle.wait_table.specs.Tables.{printRefusal, printAnswer, printOutput}
-use Rattle.wait_table.specs.Tables.{refusedText, printed, Page}
+use Rattle.wait_table.specs.Tables.{refusedText, printed, Begins}
 use Rattle.wait_table.specs.Longest.{longestTable}
 use Rattle.wait_turns.proofs.SumLaws.{gather-le}
 use Rattle.wait_turns.proofs.FigureBounds.{wait-small, serve-small}
@@ -185,15 +185,14 @@ module _ (text : List ℕ) {k : ℕ} (e : k ≡ readText text .number) where
               let z = le-ltb (length out) (length (tableOf text)) l in
               (rw (accepted, z, page-end), rw (accepted, z) (put-front (rw page-text at y) l))
 
--- a page whose front is a text
-page-front : (text page line before : List ℕ) (n : ℕ) → page ≡ line ++ drop (length line) before → n ≡ length line
-    → line ≡ printed text → Page text page n
-page-front text page line before n e l f =
-    let t : take n page ≡ line = ap (take n) e ∙ take-at line (drop (length line) before) n (sym l) in
+-- a list that begins with a text
+pub begins : (text list before : List ℕ) (n : ℕ) → list ≡ text ++ drop (length text) before → n ≡ length text → Begins text list n
+begins text list before n e l =
+    let t : take n list ≡ text = ap (take n) e ∙ take-at text (drop (length text) before) n (sym l) in
     record {
-      within = omega (arith, ap length e, length-append line (drop (length line) before));
+      within = omega (arith, ap length e, length-append text (drop (length text) before));
       counted = l ∙ sym (ap length t);
-      front = t ∙ f;
+      front = t;
     }
 
 -- a page of `most` bytes, and what a print made of it: the table, or nothing, and then the refusal's line has room
@@ -205,13 +204,13 @@ module _ (text page : List ℕ) (most : ℕ) {r : Printed} {after : List ℕ} (e
   refusal-is : printRefusal text page ≡ r .number
   refusal-is = print-room text page (omega arith) ∙ sym number-read
 
-  pub page-table : r .number ≡ 0 → Page text after (r .length)
+  pub page-table : r .number ≡ 0 → Begins (printed text) after (r .length)
   unfolding printed printAnswer printOutput
   page-table none =
-      page-front text after (tableOf text) page (r .length)
+      rw (← number-read, none)
+      (begins (tableOf text) after page (r .length)
       (e .1 .0 ∙ rw (refusal-is, none))
-      (ap (λ (q : Printed). q .length) (e .0) ∙ rw (refusal-is, none))
-      (rw (← number-read, none))
+      (ap (λ (q : Printed). q .length) (e .0) ∙ rw (refusal-is, none)))
 
   module _ (some : r .number ≡ 0 → ⊥) where
     page-kept : after ≡ page
@@ -223,9 +222,10 @@ module _ (text page : List ℕ) (most : ℕ) {r : Printed} {after : List ℕ} (e
     unfolding longestTable
     line-room word h = omega (arith, ap length page-kept, line-length word (r .number ∷ []), fields-long (r .number ∷ []))
 
-    pub page-refused : {o : List ℕ} {n : ℕ} → Put after 0 (lineText (bytesOf "refused") (r .number ∷ [])) o n → Page text o n
+    pub page-refused : {o : List ℕ} {n : ℕ} → Put after 0 (lineText (bytesOf "refused") (r .number ∷ [])) o n
+        → Begins (printed text) o n
     unfolding printed refusedText bytesOf
     page-refused {o} {n} x =
-        page-front text o (lineText (bytesOf "refused") (r .number ∷ [])) after n
-        (put-front x (omega (arith, line-room (bytesOf "refused") (lit≤ tt)))) (omega (arith, x .end))
-        (rw (← number-read, ne-eqb (r .number) 0 some))
+        rw (← number-read, ne-eqb (r .number) 0 some)
+        (begins (lineText (bytesOf "refused") (r .number ∷ [])) o after n
+        (put-front x (omega (arith, line-room (bytesOf "refused") (lit≤ tt)))) (omega (arith, x .end)))

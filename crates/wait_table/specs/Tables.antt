@@ -67,9 +67,9 @@ printed text = let n = readText text .number in cond (eqb n 0) (tableOf text) (r
 unfoldable pub fileLine : List ℕ → List ℕ
 fileLine name = bytesOf "file," ++ name ++ (lineFeed ∷ [])
 
--- rule 5.9: a page whose first n bytes are what is printed. `counted` follows from `within`; with both at hand `&page[..n]` needs
--- no proof file.
-pub record Page (text page : List ℕ) (n : ℕ) : Type 0 where
-  pub within : n ≤ length page
-  pub counted : n ≡ length (take n page)
-  pub front : take n page ≡ printed text
+-- rules 5.9, 5.10: a list whose first n bytes are a text that is to be printed. `counted` follows from `within`; with both at hand
+-- `&list[..n]` needs no proof file.
+pub record Begins (text list : List ℕ) (n : ℕ) : Type 0 where
+  pub within : n ≤ length list
+  pub counted : n ≡ length (take n list)
+  pub front : take n list ≡ text

@@ -4,7 +4,7 @@ use native.Mathlib.Omega.{arith}
 use borrow.Author.Needs.{needs}
 use Rattle.common_laws.specs.Bytes.{bytesOf}
 use Rattle.common_text.proofs.Puts.{put-length}
-use Rattle.table.proofs.FileLines.{headed}
+use Rattle.table.proofs.FileLines.{line-begins}
 use Rattle.table.proofs.put_file_line.Statement.{statement}
 use Rattle.table.proofs.put_file_line.Tie as tie
 
@@ -46,7 +46,7 @@ returns c =
     let name = end .before .before .before .before in
     let word = name .before .before .before .before in
     let start = word .before .before .before .before .before in
-    headed _ (word .put-bytes .ensures) (name .put-bytes2 .ensures) (end .put-end .ensures) (start .pre)
+    line-begins _ (word .put-bytes .ensures) (name .put-bytes2 .ensures) (end .put-end .ensures) (start .pre)
 
 pub put-file-line-spec : {M : Type 1} → statement M
 put-file-line-spec =
