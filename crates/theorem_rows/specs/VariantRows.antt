@@ -10,7 +10,7 @@ use Rattle.wait_turns.specs.Waits.{turnsOf}
 use Rattle.wait_turns.specs.Sums.{turnAt, turnsAt}
 use Rattle.wait_table.specs.Tables.{printed, fileLine}
 
--- three masters at two slaves that differ in their waits alone, the second master at a third slave too
+-- three masters at two slaves that differ in base and waits alone, the second master at a third slave too
 unfoldable pub variant : List ℕ → List ℕ → List ℕ
 variant first second =
     bytesOf "master,8,8\nmaster,4,1\nmaster,2,4\n"
