@@ -3,7 +3,7 @@
 -- Assumes nothing.
 use mathlib.Core.Path.{_≡_, refl, sym, ap, _∙_}
 use mathlib.Core.Bool.{Bool, true, false, cond}
-use mathlib.Core.List.{List, [], _∷_}
+use mathlib.Core.List.{List, [], _∷_, _++_, append-nil}
 use mathlib.Core.Logic.{_≢_}
 use Prim.Native.Nat.{ℕ, zero, suc, _+_, _≤_, _<_}
 use native.Mathlib.Decide.{ℕ-discrete}
@@ -13,6 +13,7 @@ use lib.ListN.{length, getD, set, replicate, length-append, length-set, length-r
 use lib.Seq.{getD-set-same, getD-set-other, set-getD, ext-getD}
 use borrow.Author.Tests.{ltb-true, ltb-false, lt-ltb, le-ltb}
 use Rattle.common_laws.specs.Lists.{gather, table}
+use Rattle.common_laws.proofs.ListLaws.{gather-suc}
 use Rattle.common_laws.proofs.TableLaws.{length-table, getD-table, getD-replicate-all}
 
 -- what is true of the element set, and of the others, is true of each
@@ -33,6 +34,24 @@ gather-same f g (suc n) h = rw (gather-same f g n (λ i l. h i (omega arith)), h
 pub table-same : {X : Type 0} (f g : ℕ → X) (n : ℕ) → ((i : ℕ) → i < n → f i ≡ g i) → table f n ≡ table g n
 unfolding table
 table-same f g n h = gather-same (λ i. f i ∷ []) (λ i. g i ∷ []) n (λ i l. rw (h i l))
+
+-- from j on there is nothing more
+pub gather-end : {X : Type 0} (f : ℕ → List X) (j n : ℕ) → j ≤ n → ((i : ℕ) → j ≤ i → i < n → f i ≡ []) → gather f n ≡ gather f j
+unfolding gather
+gather-end f j zero h none = let z : j ≡ 0 = omega arith in rw z
+gather-end f j (suc n) h none = go (ℕ-discrete j (suc n)) (λ l. gather-end f j n l (λ i p q. none i p (omega arith)))
+  where
+    go : Dec (j ≡ suc n) → (j ≤ n → gather f n ≡ gather f j) → gather f n ++ f n ≡ gather f j
+    go (yes e) before = rw e
+    go (no e) before = rw (none n (omega arith) (omega arith), append-nil) (before (omega arith))
+
+-- one element more, behind those that are the same
+pub table-more : {X : Type 0} (f g : ℕ → X) (n : ℕ) (x : X) → ((i : ℕ) → i < n → f i ≡ g i) → f n ≡ x
+    → table f (n + 1) ≡ table g n ++ (x ∷ [])
+unfolding table
+table-more f g n x same new =
+    gather-suc (λ i. f i ∷ []) n
+    ∙ rw (gather-same (λ i. f i ∷ []) (λ i. g i ∷ []) n (λ i l. rw (same i l)), new)
 
 -- lists of at most one element
 pub length-gather : {X : Type 0} (f : ℕ → List X) (n : ℕ) → ((i : ℕ) → length (f i) ≤ 1) → length (gather f n) ≤ n

@@ -44,8 +44,10 @@ pub const TOO_NARROW: u32 = 19;
 
 pub const NO_SHARE: u32 = 20;
 
+pub const SHARE_ORDER: u32 = 21;
+
 // The highest refusal.
-pub const LAST_REFUSAL: u32 = NO_SHARE;
+pub const LAST_REFUSAL: u32 = SHARE_ORDER;
 
 // Rules 1.1, 1.8: the most masters and slaves, and the most pairs, each with a number for its shares.
 pub const MASTERS: usize = 8;

@@ -2,6 +2,7 @@
 -- Assumes nothing.
 use mathlib.Core.Bool.{cond}
 use mathlib.Core.List.{List, _∷_}
+use mathlib.Core.Logic.{_≢_}
 use mathlib.Core.Path.{_≡_, refl, ap, ap₂, sym, _∙_}
 use Prim.Native.Nat.{ℕ, _+_, _≤_, _<_}
 use native.Mathlib.Omega.{arith}
@@ -105,10 +106,10 @@ module _ (s : List ℕ) (r q : Reading) (n at : ℕ) (before : Counted s r n at)
     counted-refused some =
         let all : described (itemsOf s) ≡ q =
         ap finish (goes-on ∙ run-stays q (itemsOf (drop next s)) some) ∙ finish-stays q some in
-        let low : described (itemsOf s) .number ≤ 19 = rw (all, e) (step-number r x (omega (arith, before .none))) in record {
+        let other : described (itemsOf s) .number ≢ 20 = rw (all, e) (step-number r x (λ z. omega (arith, before .none))) in record {
           reading = sym all;
           charged = sym (before .line ∙ rw (line .lines) (first-refused n r q x _ e some));
-          named = line-named (itemsOf s) (λ z. omega arith);
+          named = line-named (itemsOf s) other;
         }
 
 -- the same of a reading whose board is an array

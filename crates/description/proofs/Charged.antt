@@ -3,6 +3,7 @@
 -- Assumes nothing.
 use mathlib.Core.Bool.{Bool, true, false, cond}
 use mathlib.Core.List.{List, [], _∷_}
+use mathlib.Core.Logic.{_≢_}
 use mathlib.Core.Path.{_≡_, refl, ap, sym, _∙_}
 use Prim.Native.Nat.{ℕ, zero, suc, _+_, _≤_, _<_}
 use native.Mathlib.Omega.{arith}
@@ -133,19 +134,19 @@ charged-twenty s e = go (refusedAt s .line) refl
     go : (n : ℕ) → refusedAt s .line ≡ n → n ≡ 0
     go zero h = refl
     go (suc k) h =
-        let low = run-number start (take (suc k) (itemsOf s)) (omega arith) in
-        absurd (omega (arith, charged-first s k (h ∙ (omega arith)) .1))
+        let other = run-number start (take (suc k) (itemsOf s)) (λ z. omega arith) in
+        absurd (other (sym (charged-first s k (h ∙ (omega arith)) .1) ∙ e))
 
 -- The master that it names is the lowest that has no share line, on the board of the text's lines.
 pub named-lowest : (s : List ℕ) → refusedAt s .number ≡ 20 → Lowest (stepAll start (itemsOf s) .board) (refusedAt s .master)
 unfolding refusedAt namedMaster masterNamedBy readText reading described start refused
-named-lowest s = go (ltb mostBytes (length s)) (run-number start (itemsOf s) (omega arith))
+named-lowest s = go (ltb mostBytes (length s)) (run-number start (itemsOf s) (λ z. omega arith))
   where
     go :
-        (b : Bool) → stepAll start (itemsOf s) .number ≤ 19
+        (b : Bool) → stepAll start (itemsOf s) .number ≢ 20
         → cond b (refused 1) (described (itemsOf s)) .number ≡ 20
         → Lowest (stepAll start (itemsOf s) .board) (cond b 0 (masterNamedBy (itemsOf s)))
-    go true low e = absurd (omega arith)
-    go false low e =
+    go true other e = absurd (omega arith)
+    go false other e =
         rw (eq-eqb (described (itemsOf s) .number) 20 e)
-        (end-lowest (stepAll start (itemsOf s) .board) (end-twenty (stepAll start (itemsOf s)) low e))
+        (end-lowest (stepAll start (itemsOf s) .board) (end-twenty (stepAll start (itemsOf s)) other e))

@@ -1,4 +1,4 @@
--- The reader: the board that a text describes, or the number it is refused with (rules 7.1 to 7.7, 7.19, 7.20,
+-- The reader: the board that a text describes, or the number it is refused with (rules 7.1 to 7.7, 7.19 to 7.21,
 -- 8.2).
 -- Assumes nothing.
 use mathlib.Core.Bool.{cond}

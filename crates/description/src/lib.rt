@@ -98,7 +98,7 @@ fn read_bounded(text: &[u8], board: &mut [u32; BOARD_NUMBERS]) -> Refusal
     }
 }
 
-// Reads the board that a text describes, or answers the number that the text is refused with (rules 7.1 to 7.7, 7.19, 7.20,
+// Reads the board that a text describes, or answers the number that the text is refused with (rules 7.1 to 7.7, 7.19 to 7.21,
 // 8.2): then no number of board is changed (rule 8.1).
 pub fn read(text: &[u8], board: &mut [u32; BOARD_NUMBERS]) -> u32
     ensures { λ r. ⌜ Read (now (text .entry)) (now (board .entry)) (now (board .exit)) r ⌝ }

@@ -1,29 +1,25 @@
 -- The check accepts exactly the legal boards.
 -- Assumes nothing.
 use mathlib.Core.Path.{_≡_, refl, sym, ap}
-use mathlib.Core.Bool.{true}
 use mathlib.Core.Logic.{_≢_}
 use Prim.Native.Nat.{ℕ, suc, _+_, _*_, _/_, _%_, _≤_, _<_}
 use native.Mathlib.Omega.{arith}
-use lib.Dec.{ltb}
 use lib.ListN.{getD, take}
-use borrow.Author.Tests.{lt-ltb, le-ltb, le-leb, lt-leb, eq-eqb, ne-eqb}
-use Rattle.common_laws.specs.Lists.{some}
+use borrow.Author.Tests.{le-ltb, le-leb, lt-leb, eq-eqb, ne-eqb}
 use Rattle.common_laws.proofs.FrontLaws.{front, front-there, front-blank}
-use Rattle.common_laws.proofs.TableLaws.{getD-table, some-here}
+use Rattle.common_laws.proofs.TableLaws.{getD-table}
 use Rattle.description_board.specs.declared.Board.{Board}
 use Rattle.description_board.specs.declared.Reading.{Reading}
-use Rattle.description_board.specs.Records.{noMaster, noSlave, masterAt, slaveAt, sharesAt, totalSpan, startOf, memoryLength}
-use Rattle.description_board.specs.Rules.{slaveValues, masterRefusal, slaveRefusal, shareRefusal, itemRefusal}
+use Rattle.description_board.specs.Records.{noMaster, noSlave, masterAt, slaveAt, totalSpan, startOf, memoryLength}
+use Rattle.description_board.specs.Rules.{slaveValues, masterRefusal, slaveRefusal, pairRank, shareRefusal, itemRefusal}
 use Rattle.description_board.specs.Rules.{start, stepAll, endRefusal, finish, described}
 use Rattle.description_board.specs.Items.{masterItem, slaveItem, items, boardRefusal}
 use Rattle.description_board.specs.Rebuilt.{trimmed}
 use Rattle.description_board.specs.Legal.{Legal}
-use Rattle.description_board.proofs.EndLaws.{share-slave, share-carried, end-clear}
-use Rattle.description_board.proofs.PairLaws.{connected-pair}
+use Rattle.description_board.proofs.EndLaws.{share-carried, end-clear}
 use Rattle.description_board.proofs.SpanLaws.{all-apart, total-suc, total-same, total-fewer}
 use Rattle.description_board.proofs.BoardSound.{step-accepted, run-accepted, finish-accepted, described-legal}
-use Rattle.description_board.proofs.OwnLines.{readTo, allRead, shareLine, read-items}
+use Rattle.description_board.proofs.OwnLines.{lastRank, last-within, readTo, allRead, shareLine, read-items}
 
 -- a trimmed board has the entries of the board
 module _ (b : Board) where
@@ -81,7 +77,7 @@ module _ (b : Board) (k : Legal b) where
 
   slave-clear : (s : ℕ) → s < b .«slave_count»
       → itemRefusal (readTo b (b .«master_count») s 0) (slaveItem (b .slaves) s) ≡ 0
-  unfolding readTo some slaveItem itemRefusal slaveRefusal slaveValues memoryLength startOf
+  unfolding readTo lastRank slaveItem itemRefusal slaveRefusal slaveValues memoryLength startOf
   slave-clear s l =
       let x = k .slave s l in
       let y = slaveAt b s in
@@ -115,7 +111,7 @@ module _ (b : Board) (k : Legal b) where
 
   share-clear : (i : ℕ) → i < 128 → getD (b .shares) i 0 ≢ 0
       → itemRefusal (readTo b (b .«master_count») (b .«slave_count») i) (shareLine b i) ≡ 0
-  unfolding readTo itemRefusal shareRefusal
+  unfolding readTo itemRefusal shareRefusal pairRank
   share-clear i l z =
       let p = k .shares i l z in
       let n = getD (b .shares) i 0 in
@@ -131,6 +127,7 @@ module _ (b : Board) (k : Legal b) where
         front-there (masterAt b) noMaster 8 (b .«master_count») (i / 16) (p .1) (omega (arith, k .fewMasters)),
         front-there (slaveAt b) noSlave 16 (b .«slave_count») (i % 16) (p .2) (omega (arith, k .fewSlaves)),
         k .wide i l z,
+        le-ltb (i + 1) (lastRank b i) (omega (arith, last-within b i)),
       )
 
   -- nothing is missing at the end
@@ -143,23 +140,15 @@ module _ (b : Board) (k : Legal b) where
         share-carried b (trimmed b) m (omega (arith, k .fewMasters)) refl (λ i h. sym (trimmed-share b i h)) (k .connects m l);
   })
 
-  -- its last line is a share line
-  last-share : some (λ i. ltb 0 (getD (b .shares) i 0)) 128 ≡ true
-  last-share =
-      let h = share-slave b 0 (k .connects 0 (k .someMaster)) in
-      let p = connected-pair b 0 (h .0) (h .2) in
-      some-here _ 128 (16 * 0 + h .0) (omega (arith, h .1)) (lt-ltb 0 (sharesAt b 0 (h .0)) (p .1))
-
-  pub legal-described : described (items b) ≡ record { number = 0; sharing = true; board = trimmed b }
+  pub legal-described : described (items b) ≡ allRead b
   unfolding described finish allRead
   legal-described =
       rw (
         read-items (λ r. Unit {0}) (λ r xs e. tt) b (λ m l _. master-clear m l) (λ s l _. slave-clear s l)
             (λ i l z _. share-clear i l z) tt,
-        last-share,
         end-none,
       )
 
   pub legal-accepted : boardRefusal b ≡ 0
-  unfolding boardRefusal
+  unfolding boardRefusal allRead
   legal-accepted = ap (λ (r : Reading). r .number) legal-described

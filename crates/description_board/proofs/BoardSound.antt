@@ -7,7 +7,7 @@ use mathlib.Core.Logic.{_≢_}
 use Prim.Native.Nat.{ℕ, _+_, _*_, _/_, _%_, _≤_, _<_}
 use native.Mathlib.Numerals.{add-one}
 use native.Mathlib.Omega.{arith}
-use lib.Dec.{eqb}
+use lib.Dec.{ltb, eqb}
 use lib.ListN.{length, getD, length-set}
 use lib.Seq.{getD-set-same, getD-set-other, take-set-le}
 use borrow.Author.Tests.{eqb-true, eqb-false}
@@ -60,7 +60,7 @@ pub record Sound (b : Board) : Type 0 where
   pub masterEnd : (m : ℕ) → b .«master_count» ≤ m → masterAt b m ≡ noMaster
   pub slaveEnd : (s : ℕ) → b .«slave_count» ≤ s → slaveAt b s ≡ noSlave
 
-sound-start : Sound noBoard
+pub sound-start : Sound noBoard
 unfolding noBoard memoryLength startOf totalSpan
 sound-start = record {
   masterPlaces = refl;
@@ -134,10 +134,10 @@ sound-slave b sharing n e k =
       slaveEnd = λ s l. getD-set-other (b .slaves) c s x noSlave (omega arith) ∙ k .slaveEnd s (omega arith);
     }
 
-sound-share : (b : Board) (m s n : ℕ) → shareRefusal b m s n ≡ 0 → Sound b → Sound (withShare b m s n)
+sound-share : (b : Board) (above m s n : ℕ) → shareRefusal b above m s n ≡ 0 → Sound b → Sound (withShare b m s n)
 unfolding withShare memoryLength startOf
-sound-share b m s n e k =
-    let t = share-taken b m s n e in
+sound-share b above m s n e k =
+    let t = share-taken b above m s n e in
     let row : (16 * m + s) / 16 ≡ m = omega arith in
     let column : (16 * m + s) % 16 ≡ s = omega arith in
     record {
@@ -159,12 +159,12 @@ sound-share b m s n e k =
       slaveEnd = k .slaveEnd;
     }
 
-sound-item : (r : Reading) (x : Item) → itemRefusal r x ≡ 0 → Sound (r .board) → Sound (withItem (r .board) x)
+pub sound-item : (r : Reading) (x : Item) → itemRefusal r x ≡ 0 → Sound (r .board) → Sound (withItem (r .board) x)
 unfolding itemRefusal withItem
 sound-item r Malformed e k = absurd (omega arith)
 sound-item r (MasterLine w u) e k = sound-master (r .board) w u e k
-sound-item r (SlaveLine n) e k = sound-slave (r .board) (r .sharing) n e k
-sound-item r (ShareLine m s n) e k = sound-share (r .board) m s n e k
+sound-item r (SlaveLine n) e k = sound-slave (r .board) (ltb 0 (r .above)) n e k
+sound-item r (ShareLine m s n) e k = sound-share (r .board) (r .above) m s n e k
 
 -- a line, lines or an end that is not refused
 pub step-accepted : (r : Reading) (x : Item) → step r x .number ≡ 0

@@ -5,7 +5,9 @@ pub mod EndLaws
 pub mod SpanLaws
 pub mod StartLaws
 pub mod BoardSound
+pub mod ItemLaws
+pub mod OwnOrder
 pub mod OwnLines
-pub mod ShareOrder
 pub mod Accepted
 pub mod Rebuilt
+pub mod AcceptedLines

@@ -1,35 +1,47 @@
 -- A board's own lines, read: as long as none is refused, the board so far has the board's own entries.
 -- Assumes nothing.
 use mathlib.Core.Path.{_≡_, refl, sym, _∙_}
-use mathlib.Core.Bool.{or-true, or-false}
+use mathlib.Core.Bool.{cond}
 use mathlib.Core.List.{List, [], _∷_, _++_}
 use mathlib.Core.Logic.{_≢_}
-use Prim.Native.Nat.{ℕ, zero, suc, _+_, _*_, _/_, _%_, _<_}
+use Prim.Native.Nat.{ℕ, zero, suc, _+_, _*_, _/_, _%_, _≤_, _<_}
 use native.Mathlib.Decide.{ℕ-discrete}
 use native.Mathlib.Numerals.{add-one}
 use native.Mathlib.Omega.{arith}
 use lib.Dec.{ltb}
 use lib.ListN.{getD}
-use borrow.Author.Tests.{ne-eqb, lt-ltb}
-use Rattle.common_laws.specs.Lists.{gather, table, some}
+use borrow.Author.Tests.{lt-ltb}
+use Rattle.common_laws.specs.Lists.{gather, table}
+use Rattle.common_laws.proofs.Tests.{at-most}
 use Rattle.common_laws.proofs.FrontLaws.{front, front-none, front-next, front-skip, front-all}
 use Rattle.description_board.specs.declared.Board.{Board}
 use Rattle.description_board.specs.declared.Item.{Item}
 use Rattle.description_board.specs.declared.Item.the-variants.{ShareLine}
 use Rattle.description_board.specs.declared.Reading.{Reading}
 use Rattle.description_board.specs.Records.{noMaster, noSlave, noBoard, masterAt, slaveAt}
-use Rattle.description_board.specs.Rules.{itemRefusal, withItem, withMaster, withSlave, withShare, isShare}
-use Rattle.description_board.specs.Rules.{refused, start, taken, step, stepAll}
+use Rattle.description_board.specs.Rules.{itemRefusal, withItem, withMaster, withSlave, withShare}
+use Rattle.description_board.specs.Rules.{pairRank, rankOf, refused, start, taken, step, stepAll}
 use Rattle.description_board.specs.Items.{masterItem, slaveItem, shareItem, items}
 use Rattle.description_board.specs.Rebuilt.{trimmed}
 use Rattle.description_board.proofs.RuleLaws.{master-taken, slave-taken}
+use Rattle.description_board.proofs.ItemLaws.{line-none, line-some}
 use Rattle.description_board.proofs.StepAllLaws.{step-taken, run-append}
+
+-- the rank of the last connected pair of b among its first k, 0 where there is none
+unfoldable pub lastRank : Board → ℕ → ℕ
+lastRank b zero = 0
+lastRank b (suc k) = cond (ltb 0 (getD (b .shares) k 0)) (k + 1) (lastRank b k)
+
+pub last-within : (b : Board) (k : ℕ) → lastRank b k ≤ k
+unfolding lastRank
+last-within b zero = omega arith
+last-within b (suc k) = at-most (ltb 0 (getD (b .shares) k 0)) (k + 1) _ (omega arith) (omega (arith, last-within b k))
 
 -- what has been read after b's first m masters, its first s slaves and its first k shares
 unfoldable pub readTo : Board → ℕ → ℕ → ℕ → Reading
 readTo b m s k = record {
   number = 0;
-  sharing = some (λ i. ltb 0 (getD (b .shares) i 0)) k;
+  above = lastRank b k;
   board = record {
     «master_count» = m;
     «slave_count» = s;
@@ -43,7 +55,7 @@ readTo b m s k = record {
 unfoldable pub allRead : Board → Reading
 allRead b = record {
   number = 0;
-  sharing = some (λ i. ltb 0 (getD (b .shares) i 0)) 128;
+  above = lastRank b 128;
   board = trimmed b;
 }
 
@@ -51,13 +63,9 @@ allRead b = record {
 abbrev pub shareLine : Board → ℕ → Item
 shareLine b k = ShareLine (k / 16) (k % 16) (getD (b .shares) k 0)
 
-share-line : (b : Board) (k : ℕ) → getD (b .shares) k 0 ≢ 0 → shareItem (b .shares) k ≡ shareLine b k ∷ []
-unfolding shareItem
-share-line b k z = rw (ne-eqb _ _ z)
-
 module _ (b : Board) where
   pub read-none : start ≡ readTo b 0 0 0
-  unfolding start refused noBoard readTo some
+  unfolding start refused noBoard readTo lastRank
   read-none =
       rw (front-none (masterAt b) noMaster 8, front-none (slaveAt b) noSlave 16, front-none (λ i. getD (b .shares) i 0) 0 128)
 
@@ -69,14 +77,14 @@ module _ (b : Board) where
   -- one line more
   pub read-master : (m : ℕ) → itemRefusal (readTo b m 0 0) (masterItem (b .masters) m) ≡ 0
       → step (readTo b m 0 0) (masterItem (b .masters) m) ≡ readTo b (suc m) 0 0
-  unfolding readTo masterItem itemRefusal taken withItem withMaster isShare some
+  unfolding readTo masterItem itemRefusal taken withItem withMaster rankOf lastRank
   read-master m e =
       let l : m < 8 = master-taken _ _ _ e .room in
       sym (step-taken _ _ refl refl e) ∙ rw (front-next (masterAt b) noMaster 8 m l, add-one m)
 
   pub read-slave : (m s : ℕ) → itemRefusal (readTo b m s 0) (slaveItem (b .slaves) s) ≡ 0
       → step (readTo b m s 0) (slaveItem (b .slaves) s) ≡ readTo b m (suc s) 0
-  unfolding readTo slaveItem itemRefusal taken withItem withSlave isShare some
+  unfolding readTo slaveItem itemRefusal taken withItem withSlave rankOf lastRank
   read-slave m s e =
       let l : s < 16 = slave-taken _ _ _ e .room in
       sym (step-taken _ _ refl refl e) ∙ rw (front-next (slaveAt b) noSlave 16 s l, add-one s)
@@ -84,22 +92,21 @@ module _ (b : Board) where
   -- one share more
   module _ (m s k : ℕ) (h : k < 128) where
     read-zero : getD (b .shares) k 0 ≡ 0 → stepAll (readTo b m s k) (shareItem (b .shares) k) ≡ readTo b m s (suc k)
-    unfolding stepAll shareItem readTo some
-    read-zero z = rw (z, front-skip (λ i. getD (b .shares) i 0) 0 128 k h z, add-one k, or-false)
+    unfolding stepAll readTo lastRank
+    read-zero z = rw (line-none (b .shares) k z, z, front-skip (λ i. getD (b .shares) i 0) 0 128 k h z, add-one k)
 
     read-share : getD (b .shares) k 0 ≢ 0 → itemRefusal (readTo b m s k) (shareLine b k) ≡ 0
         → stepAll (readTo b m s k) (shareItem (b .shares) k) ≡ readTo b m s (suc k)
-    unfolding stepAll readTo some taken withItem withShare isShare
+    unfolding stepAll readTo lastRank taken withItem withShare rankOf pairRank
     read-share z e =
         let i : 16 * (k / 16) + k % 16 ≡ k = omega arith in
-        rw (share-line b k z)
+        rw (line-some (b .shares) k z)
         (sym (step-taken _ _ refl refl e)
         ∙ rw (
           i,
           front-next (λ i. getD (b .shares) i 0) 0 128 k h,
           add-one k,
           lt-ltb 0 (getD (b .shares) k 0) (omega arith),
-          or-true,
         ))
 
 -- lines that lead from one reading to another, and a line that is not refused, where E tells that none was refused
@@ -135,7 +142,7 @@ module _ (E : Reading → Type 0) (back : (r : Reading) (xs : List Item) → E (
         go : Dec (getD (b .shares) k 0 ≡ 0) → E (stepAll (readTo b m s k) (shareItem (b .shares) k))
             → stepAll (readTo b m s k) (shareItem (b .shares) k) ≡ readTo b m s (suc k)
         go (yes z) e = read-zero b m s k l z
-        go (no z) e = read-share b m s k l z (h z (rw (share-line b k z) at e))
+        go (no z) e = read-share b m s k l z (h z (rw (line-some (b .shares) k z) at e))
 
     pub read-items : ((m : ℕ) → m < b .«master_count» → Clear E (readTo b m 0 0) (masterItem (b .masters) m))
         → ((s : ℕ) → s < b .«slave_count» → Clear E (readTo b (b .«master_count») s 0) (slaveItem (b .slaves) s))

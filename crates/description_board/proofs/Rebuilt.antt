@@ -2,7 +2,6 @@
 -- describe comes back as it is.
 -- Assumes nothing.
 use mathlib.Core.Path.{_≡_, refl, ap, _∙_}
-use mathlib.Core.Bool.{true}
 use mathlib.Core.List.{List}
 use native.Mathlib.Omega.{arith}
 use lib.ListN.{getD}
@@ -14,16 +13,18 @@ use Rattle.description_board.specs.Rules.{described}
 use Rattle.description_board.specs.Items.{masterItem, slaveItem, shareItem, items, boardRefusal}
 use Rattle.description_board.specs.Rebuilt.{trimmed}
 use Rattle.description_board.proofs.BoardSound.{Sound, described-sound, described-legal}
+use Rattle.description_board.proofs.ItemLaws.{line-same}
+use Rattle.description_board.proofs.OwnLines.{allRead}
 use Rattle.description_board.proofs.Accepted.{trimmed-master, trimmed-slave, trimmed-share}
 use Rattle.description_board.proofs.Accepted.{accepted-legal, legal-described, legal-accepted}
 
 module _ (b : Board) (e : boardRefusal b ≡ 0) where
-  pub rebuilt : described (items b) ≡ record { number = 0; sharing = true; board = trimmed b }
+  pub rebuilt : described (items b) ≡ allRead b
   rebuilt = legal-described b (accepted-legal b e)
 
   -- the trimmed board has the same lines
   pub items-trimmed : items (trimmed b) ≡ items b
-  unfolding items trimmed masterItem slaveItem shareItem
+  unfolding items trimmed masterItem slaveItem
   items-trimmed =
       let k = accepted-legal b e in
       rw (
@@ -31,7 +32,8 @@ module _ (b : Board) (e : boardRefusal b ≡ 0) where
             (λ m l. rw (trimmed-master b (k .fewMasters) m l)),
         table-same (slaveItem (trimmed b .slaves)) (slaveItem (b .slaves)) (b .«slave_count»)
             (λ s l. rw (trimmed-slave b (k .fewSlaves) s l)),
-        gather-same (shareItem (trimmed b .shares)) (shareItem (b .shares)) 128 (λ i l. rw (trimmed-share b i l)),
+        gather-same (shareItem (trimmed b .shares)) (shareItem (b .shares)) 128
+            (λ i l. line-same (trimmed b .shares) (b .shares) i (trimmed-share b i l)),
       )
 
   pub trimmed-check : boardRefusal (trimmed b) ≡ 0

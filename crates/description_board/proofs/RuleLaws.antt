@@ -1,14 +1,14 @@
 -- What the rules' tests say: bounds of the values in the lists, the first n slaves one by one, and what holds of a line
 -- that is not refused.
 -- Assumes nothing.
-use mathlib.Core.Path.{_≡_}
-use mathlib.Core.Bool.{Bool, true, false, not, _&&_, _||_}
+use mathlib.Core.Path.{_≡_, refl}
+use mathlib.Core.Bool.{Bool, true, false, cond, not, _&&_, _||_}
 use mathlib.Core.List.{List}
 use Prim.Native.Nat.{ℕ, _+_, _%_, _≤_, _<_}
 use native.Mathlib.Omega.{arith}
 use lib.Dec.{leb, ltb, eqb}
 use lib.ListN.{length, getD, drop, take}
-use borrow.Author.Tests.{eqb-true, eqb-false, leb-true, leb-false, ltb-false, not-false}
+use borrow.Author.Tests.{eqb-true, eqb-false, leb-true, leb-false, ltb-true, ltb-false, not-false}
 use Rattle.common_laws.specs.Lists.{member}
 use Rattle.common_laws.proofs.ListLaws.{member-within, drop-take-next, drop-take-end}
 use Rattle.common_laws.proofs.Tests.{both, neither, passed, at-most}
@@ -20,7 +20,7 @@ use Rattle.description_board.specs.declared.Item.the-variants.{Malformed
 use Rattle.description_board.specs.declared.Reading.{Reading}
 use Rattle.description_board.specs.Records.{noSlave, masterAt, slaveAt, sharesAt, totalSpan}
 use Rattle.description_board.specs.Rules.{widths, bursts, spans, slaveValues, meets, overlaps}
-use Rattle.description_board.specs.Rules.{masterRefusal, slaveRefusal, tooNarrow, shareRefusal, itemRefusal}
+use Rattle.description_board.specs.Rules.{masterRefusal, slaveRefusal, tooNarrow, pairRank, shareRefusal, itemRefusal, rankOf}
 use Rattle.description_board.specs.Legal.{LegalMaster}
 
 pub width-bound : (x : ℕ) → member x widths ≡ true → (1 ≤ x) × (x ≤ 8)
@@ -149,53 +149,69 @@ slave-taken b sharing n e =
     }
 
 -- a share line that is not refused
-pub record ShareTaken (b : Board) (m s shares : ℕ) : Type 0 where
+pub record ShareTaken (b : Board) (above m s shares : ℕ) : Type 0 where
   pub low : 1 ≤ shares
   pub high : shares ≤ 100
   pub master-there : m < b .«master_count»
   pub slave-there : s < b .«slave_count»
   pub unset : sharesAt b m s ≤ 0
   pub wide : tooNarrow (masterAt b m) (slaveAt b s) ≡ false
+  pub behind : above ≤ pairRank m s
 
-pub share-taken : (b : Board) (m s shares : ℕ) → shareRefusal b m s shares ≡ 0 → ShareTaken b m s shares
+pub share-taken : (b : Board) (above m s shares : ℕ) → shareRefusal b above m s shares ≡ 0 → ShareTaken b above m s shares
 unfolding shareRefusal
-share-taken b m s shares e =
-    let order = passed (eqb (b .«slave_count») 0) 1 _ e in
-    let legal = passed (ltb shares 1 || ltb 100 shares) 2 _ (order .1) in
+share-taken b above m s shares e =
+    let there = passed (eqb (b .«slave_count») 0) 1 _ e in
+    let legal = passed (ltb shares 1 || ltb 100 shares) 2 _ (there .1) in
     let bounds = neither (ltb shares 1) _ (legal .0) in
-    let pair = passed (leb (b .«master_count») m || (leb (b .«slave_count») s || ltb 0 (sharesAt b m s))) 6 _ (legal .1)
-    in
-    let wide = passed (tooNarrow (masterAt b m) (slaveAt b s)) 18 0 (pair .1) in
+    let pair = passed _ 6 _ (legal .1) in
+    let wide = passed (tooNarrow (masterAt b m) (slaveAt b s)) 18 _ (pair .1) in
+    let order = passed _ 20 0 (wide .1) in
     let master = neither (leb (b .«master_count») m) _ (pair .0) in
     let slave = neither (leb (b .«slave_count») s) _ (master .1) in
+    let free = ltb-false _ (sharesAt b m s) (slave .1) in
+    let later = ltb-false (pairRank m s) _ (order .0) in
     record {
       low = ltb-false _ _ (bounds .0);
       high = ltb-false _ _ (bounds .1);
       master-there = leb-false _ _ (master .0);
       slave-there = leb-false _ _ (slave .0);
-      unset = ltb-false _ _ (slave .1);
+      unset = omega (arith, free);
       wide = wide .0;
+      behind = omega (arith, later);
     }
 
--- no line is refused with a number above 19
-pub item-number : (r : Reading) (x : Item) → itemRefusal r x ≤ 19
-unfolding itemRefusal masterRefusal slaveRefusal shareRefusal
-item-number r Malformed = omega arith
-item-number r (MasterLine w u) =
+-- what is true of every number up to 19, and of 21 where the line's pair comes before the pair above, is true of what it is refused
+-- with: so no line is refused with 20
+pub item-number : (P : ℕ → Type 0) (r : Reading) (x : Item) → ((n : ℕ) → n ≤ 19 → P n) → (rankOf x < r .above → P 21)
+    → P (itemRefusal r x)
+unfolding itemRefusal masterRefusal slaveRefusal shareRefusal rankOf
+item-number P r Malformed low before = low 1 (omega arith)
+item-number P r (MasterLine w u) low before =
     let b = r .board in
-    at-most (ltb 0 (b .«slave_count») || leb 8 (b .«master_count»)) 2 _ (omega arith)
-    (at-most (not (member w widths && member u bursts)) 3 0 (omega arith) (omega arith))
-item-number r (SlaveLine n) =
+    low _
+    (at-most (ltb 0 (b .«slave_count») || leb 8 (b .«master_count»)) 2 _ (omega arith)
+    (at-most (not (member w widths && member u bursts)) 3 0 (omega arith) (omega arith)))
+item-number P r (SlaveLine n) low before =
     let b = r .board in
     let earlier = take (b .«slave_count») (b .slaves) in
-    at-most (eqb (b .«master_count») 0 || (r .sharing || leb 16 (b .«slave_count»))) 2 _ (omega arith)
+    low _
+    (at-most (eqb (b .«master_count») 0 || (ltb 0 (r .above) || leb 16 (b .«slave_count»))) 2 _ (omega arith)
     (at-most (not (slaveValues n)) 3 _ (omega arith)
     (at-most (not (eqb (n .base % n .span) 0)) 4 _ (omega arith)
     (at-most (overlaps (n .base) (n .span) earlier) 5 _ (omega arith)
-    (at-most (ltb 65536 (totalSpan earlier + n .span)) 6 0 (omega arith) (omega arith)))))
-item-number r (ShareLine m s n) =
+    (at-most (ltb 65536 (totalSpan earlier + n .span)) 6 0 (omega arith) (omega arith))))))
+item-number P r (ShareLine m s n) low before =
     let b = r .board in
-    at-most (eqb (b .«slave_count») 0) 2 _ (omega arith)
-    (at-most (ltb n 1 || ltb 100 n) 3 _ (omega arith)
-    (at-most (leb (b .«master_count») m || (leb (b .«slave_count») s || ltb 0 (sharesAt b m s))) 7 _ (omega arith)
-    (at-most (tooNarrow (masterAt b m) (slaveAt b s)) 19 0 (omega arith) (omega arith))))
+    go (eqb (b .«slave_count») 0) (ltb n 1 || ltb 100 n)
+    (leb (b .«master_count») m || (leb (b .«slave_count») s || ltb 0 (sharesAt b m s)))
+    (tooNarrow (masterAt b m) (slaveAt b s)) (ltb (pairRank m s) (r .above)) refl
+  where
+    go : (c d e f t : Bool) → ltb (pairRank m s) (r .above) ≡ t
+        → P (cond c 2 (cond d 3 (cond e 7 (cond f 19 (cond t 21 0)))))
+    go true d e f t q = low 2 (omega arith)
+    go false true e f t q = low 3 (omega arith)
+    go false false true f t q = low 7 (omega arith)
+    go false false false true t q = low 19 (omega arith)
+    go false false false false true q = before (ltb-true _ _ q)
+    go false false false false false q = low 0 (omega arith)

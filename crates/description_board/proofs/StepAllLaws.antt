@@ -3,7 +3,8 @@
 use mathlib.Core.Path.{_≡_, refl}
 use mathlib.Core.Bool.{Bool, true, false, cond}
 use mathlib.Core.List.{List, [], _∷_, _++_}
-use Prim.Native.Nat.{ℕ, _≤_}
+use mathlib.Core.Logic.{_≢_}
+use Prim.Native.Nat.{ℕ}
 use native.Mathlib.Omega.{arith}
 use lib.Dec.{eqb}
 use borrow.Author.Tests.{eq-eqb, ne-eqb}
@@ -46,25 +47,25 @@ module _ (r : Reading) {n : ℕ} (none : r .number ≡ 0) (e : n ≡ endRefusal 
   unfolding finish
   finish-taken h = rw (eq-eqb _ _ none, ← e, eq-eqb _ _ h)
 
--- so is no line with a number above 19: 20 is the end's
-pub step-number : (r : Reading) (x : Item) → r .number ≤ 19 → step r x .number ≤ 19
+-- no line is refused with 20
+pub step-number : (r : Reading) (x : Item) → r .number ≢ 20 → step r x .number ≢ 20
 unfolding step taken refused
-step-number r x low = go (eqb (r .number) 0) (eqb (itemRefusal r x) 0)
+step-number r x other = go (eqb (r .number) 0) (eqb (itemRefusal r x) 0)
   where
-    go : (c d : Bool) → cond c (cond d (taken r x) (refused (itemRefusal r x))) r .number ≤ 19
-    go true true = omega arith
-    go true false = item-number r x
-    go false d = low
+    go : (c d : Bool) → cond c (cond d (taken r x) (refused (itemRefusal r x))) r .number ≢ 20
+    go true true = λ z. omega arith
+    go true false = item-number (λ n. n ≢ 20) r x (λ n l z. omega arith) (λ l z. omega arith)
+    go false d = other
 
-pub run-number : (r : Reading) (xs : List Item) → r .number ≤ 19 → stepAll r xs .number ≤ 19
+pub run-number : (r : Reading) (xs : List Item) → r .number ≢ 20 → stepAll r xs .number ≢ 20
 unfolding stepAll
-run-number r [] low = low
-run-number r (x ∷ xs) low = run-number (step r x) xs (step-number r x low)
+run-number r [] other = other
+run-number r (x ∷ xs) other = run-number (step r x) xs (step-number r x other)
 
 -- so 20 is the end's alone: every line is taken
-pub end-twenty : (r : Reading) → r .number ≤ 19 → finish r .number ≡ 20 → endRefusal (r .board) ≡ 20
+pub end-twenty : (r : Reading) → r .number ≢ 20 → finish r .number ≡ 20 → endRefusal (r .board) ≡ 20
 unfolding finish refused
-end-twenty r low e = go (eqb (r .number) 0) (eqb (endRefusal (r .board)) 0) refl e
+end-twenty r other e = go (eqb (r .number) 0) (eqb (endRefusal (r .board)) 0) refl e
   where
     n : ℕ
     n = endRefusal (r .board)
@@ -72,7 +73,7 @@ end-twenty r low e = go (eqb (r .number) 0) (eqb (endRefusal (r .board)) 0) refl
     go : (c d : Bool) → eqb n 0 ≡ d → cond c (cond d r (refused n)) r .number ≡ 20 → n ≡ 20
     go true true q e = absurd (omega arith)
     go true false q e = e
-    go false d q e = absurd (omega arith)
+    go false d q e = absurd (other e)
 
 pub run-append : (r : Reading) (xs ys : List Item) → stepAll r (xs ++ ys) ≡ stepAll (stepAll r xs) ys
 unfolding stepAll

@@ -1,7 +1,7 @@
--- The lines of a description: what each is refused for (rules 7.1 to 7.7, 7.19), the board with the line added, and what is
+-- The lines of a description: what each is refused for (rules 7.1 to 7.7, 7.19, 7.21), the board with the line added, and what is
 -- refused at the end (rules 7.2, 7.20).
 -- Assumes nothing.
-use mathlib.Core.Bool.{Bool, true, false, cond, not, _&&_, _||_}
+use mathlib.Core.Bool.{Bool, false, cond, not, _&&_, _||_}
 use mathlib.Core.List.{List, [], _∷_}
 use Prim.Native.Nat.{ℕ, _+_, _*_, _%_}
 use lib.Dec.{leb, ltb, eqb}
@@ -70,22 +70,28 @@ slaveRefusal b sharing n =
 unfoldable pub tooNarrow : Master → Slave → Bool
 tooNarrow m s = isNative s && ltb (m .width) (s .width)
 
--- rules 1.4, 1.6, 1.8, 7.2, 7.3, 7.7, 7.19 at a share line. 2: no slave before it. 3: the shares. 7: no such master or slave, or
--- the pair a second time. 19: a master that is too narrow.
-unfoldable pub shareRefusal : Board → ℕ → ℕ → ℕ → ℕ
-shareRefusal b m s shares =
+-- rules 1.4, 1.9: the rank of the pair of master m and slave s, from 1, by master, then slave; the numbers of slaves are below 16
+unfoldable pub pairRank : ℕ → ℕ → ℕ
+pairRank m s = 16 * m + s + 1
+
+-- rules 1.4, 1.6, 1.8, 7.2, 7.3, 7.7, 7.19, 7.21 at a share line; above is the rank of the pair on the line above, 0 where that is
+-- no share line. 2: no slave before it. 3: the shares. 7: no such master or slave, or the pair a second time. 19: a master that is
+-- too narrow. 21: the pair comes before the pair above.
+unfoldable pub shareRefusal : Board → ℕ → ℕ → ℕ → ℕ → ℕ
+shareRefusal b above m s shares =
     cond (eqb (b .«slave_count») 0) 2
     (cond (ltb shares 1 || ltb 100 shares) 3
     (cond (leb (b .«master_count») m || (leb (b .«slave_count») s || ltb 0 (sharesAt b m s))) 7
     (cond (tooNarrow (masterAt b m) (slaveAt b s)) 19
-    0)))
+    (cond (ltb (pairRank m s) above) 21
+    0))))
 
--- rules 7.1 to 7.7, 7.19, 8.2: what a line is refused for after what has been read, by its lowest number, or 0
+-- rules 7.1 to 7.7, 7.19, 7.21, 8.2: what a line is refused for after what has been read, by its lowest number, or 0
 unfoldable pub itemRefusal : Reading → Item → ℕ
 itemRefusal r Malformed = 1
 itemRefusal r (MasterLine width burst) = masterRefusal (r .board) width burst
-itemRefusal r (SlaveLine n) = slaveRefusal (r .board) (r .sharing) n
-itemRefusal r (ShareLine m s shares) = shareRefusal (r .board) m s shares
+itemRefusal r (SlaveLine n) = slaveRefusal (r .board) (ltb 0 (r .above)) n
+itemRefusal r (ShareLine m s shares) = shareRefusal (r .board) (r .above) m s shares
 
 -- rule 1.1: the board with one master more. `set` changes no list past its end; 2 comes first for a line over the count.
 unfoldable pub withMaster : Board → ℕ → ℕ → Board
@@ -136,16 +142,16 @@ withItem b (MasterLine w u) = withMaster b w u
 withItem b (SlaveLine n) = withSlave b (slaveOf n)
 withItem b (ShareLine m s n) = withShare b m s n
 
--- rule 1.4: the line is a share line; no slave line may follow it
-unfoldable pub isShare : Item → Bool
-isShare Malformed = false
-isShare (MasterLine w u) = false
-isShare (SlaveLine n) = false
-isShare (ShareLine m s n) = true
+-- rule 1.4: the rank of a share line's pair, which no slave line and no pair before it may follow; 0 of a line of another kind
+unfoldable pub rankOf : Item → ℕ
+rankOf Malformed = 0
+rankOf (MasterLine w u) = 0
+rankOf (SlaveLine n) = 0
+rankOf (ShareLine m s n) = pairRank m s
 
 -- rule 8.1: a refusal: its number, and a board of zeros
 unfoldable pub refused : ℕ → Reading
-refused n = record { number = n; sharing = false; board = noBoard }
+refused n = record { number = n; above = 0; board = noBoard }
 
 -- rule 8.2: before the first line
 unfoldable pub start : Reading
@@ -153,7 +159,7 @@ start = refused 0
 
 -- rule 8.2: the line is taken
 unfoldable pub taken : Reading → Item → Reading
-taken r x = record { number = 0; sharing = isShare x; board = withItem (r .board) x }
+taken r x = record { number = 0; above = rankOf x; board = withItem (r .board) x }
 
 -- rule 8.2: one line more, judged after those before it; a refusal stays
 unfoldable pub step : Reading → Item → Reading

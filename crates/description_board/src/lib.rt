@@ -1,5 +1,5 @@
-// A board, the lines of its description, and what has been read of one; specs/Rules.antt has their rules (7.1 to 7.7, 7.19,
-// 7.20).
+// A board, the lines of its description, and what has been read of one; specs/Rules.antt has their rules (7.1 to 7.7, 7.19 to
+// 7.21).
 // The numbers of a master and of a slave are those of their lines (rules 1.3, 1.6).
 pub struct Master {
     pub width: u32,
@@ -55,9 +55,10 @@ pub enum Item {
     ShareLine(u64, u64, u64),
 }
 
-// What has been read of a description (rule 8.2): the refusal's number or 0, whether a share line was read, the board so far.
+// What has been read of a description (rule 8.2): the refusal's number or 0, the rank of the pair on the line above, from 1, and 0
+// where that is no share line, the board so far.
 pub struct Reading {
     pub number: u32,
-    pub sharing: bool,
+    pub above: u64,
     pub board: Board,
 }

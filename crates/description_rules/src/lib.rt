@@ -21,10 +21,10 @@ pub use refusals::overlaps;
 pub use refusals::share_or_none;
 pub use refusals::without_share;
 
-// The refusal's number or 0, and whether a share line was read (rules 1.4, 8.2).
+// The refusal's number or 0, and the rank of the pair on the line above, from 1; 0 where that is no share line (rules 1.4, 8.2).
 pub struct Progress {
     pub number: u32,
-    pub sharing: bool,
+    pub above: u64,
 }
 
 // The slave of a line whose values are in their lists and ranges (rules 1.3, 1.6).
@@ -50,7 +50,7 @@ fn refused(board: &mut [u32; BOARD_NUMBERS], number: u32) -> Progress
     description_layout::clear(board);
     Progress {
         number: number,
-        sharing: false,
+        above: 0,
     }
 }
 
@@ -60,7 +60,7 @@ pub fn start() -> Progress
 {
     Progress {
         number: 0,
-        sharing: false,
+        above: 0,
     }
 }
 
@@ -76,7 +76,7 @@ fn step_master(board: &mut [u32; BOARD_NUMBERS], p: Progress, width: u64, burst:
     description_layout::put_master(board, width as u32, burst as u32);
     Progress {
         number: 0,
-        sharing: false,
+        above: 0,
     }
 }
 
@@ -85,14 +85,14 @@ fn step_slave(board: &mut [u32; BOARD_NUMBERS], p: Progress, n: SlaveNumbers) ->
     requires { ⌜ p .number ≡ 0 ⌝ }
     ensures { λ r. ⌜ readingOf r (now (board .exit)) ≡ step (readingOf p (now (board .entry))) (SlaveLine n) ⌝ }
 {
-    let number = refusals::slave_refusal(board, p.sharing, n);
+    let number = refusals::slave_refusal(board, 0 < p.above, n);
     if number != 0 {
         return refused(board, number);
     }
     description_layout::put_slave(board, slave_of(n));
     Progress {
         number: 0,
-        sharing: false,
+        above: 0,
     }
 }
 
@@ -109,7 +109,7 @@ fn in_table(m: u64, s: u64) -> bool
     16 * m + s < 128
 }
 
-// A share line after lines of which none was refused (rules 7.2, 7.3, 7.7, 7.19). Past the 128 there are no shares, as in
+// A share line after lines of which none was refused (rules 7.2, 7.3, 7.7, 7.19, 7.21). Past the 128 there are no shares, as in
 // share_or_none.
 fn step_share(
     board: &mut [u32; BOARD_NUMBERS],
@@ -121,20 +121,21 @@ fn step_share(
     requires { ⌜ p .number ≡ 0 ⌝ }
     ensures { λ r. ⌜ readingOf r (now (board .exit)) ≡ step (readingOf p (now (board .entry))) (ShareLine m s shares) ⌝ }
 {
-    let number = refusals::share_refusal(board, m, s, shares);
+    let number = refusals::share_refusal(board, p.above, m, s, shares);
     if number != 0 {
         return refused(board, number);
     }
+    let rank = refusals::pair_rank(m, s);
     if in_table(m, s) {
         description_layout::put_share_at(board, (16 * m + s) as usize, shares as u32);
     }
     Progress {
         number: 0,
-        sharing: true,
+        above: rank,
     }
 }
 
-// One line more (rules 7.1 to 7.7, 7.19, 8.2); a refusal stays.
+// One line more (rules 7.1 to 7.7, 7.19, 7.21, 8.2); a refusal stays.
 pub fn step(board: &mut [u32; BOARD_NUMBERS], p: Progress, x: Item) -> Progress
     ensures { λ r. ⌜ readingOf r (now (board .exit)) ≡ step (readingOf p (now (board .entry))) x ⌝ }
 {

@@ -1,5 +1,5 @@
-// What a line of a description is refused for after what has been read (rules 7.2 to 7.7, 7.19), and what is refused behind the last
-// line (rules 7.2, 7.20).
+// What a line of a description is refused for after what has been read (rules 7.2 to 7.7, 7.19, 7.21), and what is refused behind the
+// last line (rules 7.2, 7.20).
 // Tests are joined by & and |, not by && and ||: each part is safe by itself, and a proof meets the whole as one test.
 // The board read so far is lent as its array of numbers: see description_layout.
 use common_numbers::BAD_BASE;
@@ -14,6 +14,7 @@ use common_numbers::MOST_SHARES;
 use common_numbers::MOST_WAIT;
 use common_numbers::NO_SHARE;
 use common_numbers::OVERLAP;
+use common_numbers::SHARE_ORDER;
 use common_numbers::SLAVES;
 use common_numbers::SPAN_TOTAL;
 use common_numbers::TOO_NARROW;
@@ -25,7 +26,7 @@ ghost use lib.ListN.{take, getD};
 ghost use Rattle.common_laws.specs.Lists.{member};
 ghost use Rattle.description_board.specs.Records.{masterAt, slaveAt, totalSpan, memoryLength};
 ghost use Rattle.description_board.specs.Rules.{slaveValues, meets, overlaps, tooNarrow};
-ghost use Rattle.description_board.specs.Rules.{masterRefusal, slaveRefusal, shareRefusal};
+ghost use Rattle.description_board.specs.Rules.{masterRefusal, slaveRefusal, pairRank, shareRefusal};
 ghost use Rattle.description_board.specs.Rules.{hasShare, withoutShare, endRefusal};
 ghost use Rattle.description_layout.specs.Layout.{boardIn};
 
@@ -199,9 +200,19 @@ fn too_narrow(board: &[u32; BOARD_NUMBERS], m: u64, s: u64) -> bool
     false
 }
 
-// What a share line is refused for, or 0 (rules 7.2, 7.3, 7.7, 7.19).
-pub fn share_refusal(board: &[u32; BOARD_NUMBERS], m: u64, s: u64, shares: u64) -> u32
-    ensures { λ r. ⌜ r ≡ shareRefusal (boardIn (now (board .entry))) m s shares ⌝ }
+// The rank of a pair by master, then slave, from 1 (rules 1.4, 1.9).
+pub fn pair_rank(m: u64, s: u64) -> u64
+    requires { ⌜ (m ≤ 4294967295) × (s ≤ 4294967295) ⌝ }
+    ensures { λ r. ⌜ r ≡ pairRank m s ⌝ }
+{
+    16 * m + s + 1
+}
+
+// What a share line is refused for, or 0 (rules 7.2, 7.3, 7.7, 7.19, 7.21); above is the rank of the pair on the line above. A pair
+// that is not refused is one of the board's, whose counts have 32 bits.
+pub fn share_refusal(board: &[u32; BOARD_NUMBERS], above: u64, m: u64, s: u64, shares: u64) -> u32
+    ensures number { λ r. ⌜ r ≡ shareRefusal (boardIn (now (board .entry))) above m s shares ⌝ }
+    ensures pair { λ r. ⌜ (r ≡ 0 → (m ≤ 4294967295) × (s ≤ 4294967295)) ⌝ }
 {
     let masters = description_layout::master_count(board);
     let slaves = description_layout::slave_count(board);
@@ -222,6 +233,9 @@ pub fn share_refusal(board: &[u32; BOARD_NUMBERS], m: u64, s: u64, shares: u64) 
     }
     if too_narrow(board, m, s) {
         return TOO_NARROW;
+    }
+    if pair_rank(m, s) < above {
+        return SHARE_ORDER;
     }
     0
 }

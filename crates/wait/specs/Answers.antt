@@ -27,7 +27,7 @@ pairBytes b m s = bytes64 (quotedWait b m s) ++ bytes64 (serveOf b m s)
 unfoldable pub pairRefusal : Board → ℕ → ℕ → ℕ
 pairRefusal b m s = cond (leb (b .«master_count») m) 11 (cond (not (connected b m s)) 16 0)
 
--- rules 5.8, 7.10, 8.4: what a wait call is refused for, or 0: the text for 1 to 7, 19 and 20, then 10, then the pair
+-- rules 5.8, 7.10, 8.4: what a wait call is refused for, or 0: the text for 1 to 7 and 19 to 21, then 10, then the pair
 unfoldable pub waitRefusal : List ℕ → ℕ → ℕ → List ℕ → ℕ
 waitRefusal text m s out =
     let r = readText text in

@@ -7,8 +7,8 @@ use Rattle.common_laws.specs.Lists.{member, gather, table, sum, some, firstFrom
 use Rattle.common_text.specs.Digits.{digitsIn, digits, fieldsText, lineText}
 use Rattle.description_board.specs.Records.{noBoard, isNative, connected, totalSpan, startOf, memoryLength}
 use Rattle.description_board.specs.Rules.{slaveValues, meets, overlaps, tooNarrow}
-use Rattle.description_board.specs.Rules.{masterRefusal, slaveRefusal, shareRefusal, itemRefusal}
-use Rattle.description_board.specs.Rules.{withMaster, withSlave, withShare, withItem, isShare}
+use Rattle.description_board.specs.Rules.{masterRefusal, slaveRefusal, pairRank, shareRefusal, itemRefusal}
+use Rattle.description_board.specs.Rules.{withMaster, withSlave, withShare, withItem, rankOf}
 use Rattle.description_board.specs.Rules.{refused, start, taken, step, stepAll, hasShare, withoutShare, endRefusal, finish}
 use Rattle.description_board.specs.Rules.{described}
 use Rattle.description_board.specs.Items.{masterItem, slaveItem, shareItem, items, boardRefusal}
@@ -20,7 +20,7 @@ use Rattle.wait_table.specs.Longest.{longestTable, largest}
 pub largest-accepted : boardRefusal largest ≡ 0
 unfolding
     member gather table some firstFrom first noBoard isNative connected totalSpan startOf memoryLength slaveValues meets
-    overlaps tooNarrow masterRefusal slaveRefusal shareRefusal itemRefusal withMaster withSlave withShare withItem isShare
+    overlaps tooNarrow masterRefusal slaveRefusal pairRank shareRefusal itemRefusal withMaster withSlave withShare withItem rankOf
     refused start taken step stepAll hasShare withoutShare endRefusal finish described masterItem slaveItem shareItem items
     boardRefusal largest
 largest-accepted = refl

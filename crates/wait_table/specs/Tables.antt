@@ -37,7 +37,7 @@ tableText b = heading ++ pairLines b
 unfoldable pub tableOf : List ℕ → List ℕ
 tableOf text = tableText (readText text .board)
 
--- rules 7.10, 8.4: what `print_table` is refused for, or 0: the text for 1 to 7, 19 and 20, then the output for 10
+-- rules 7.10, 8.4: what `print_table` is refused for, or 0: the text for 1 to 7 and 19 to 21, then the output for 10
 unfoldable pub printRefusal : List ℕ → List ℕ → ℕ
 printRefusal text out =
     let n = readText text .number in

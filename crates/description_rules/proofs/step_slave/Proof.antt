@@ -2,6 +2,7 @@
 -- The values passed their test, and there is room, as the line is not refused.
 -- Assumes nothing.
 use mathlib.Core.Path.{_∙_, sym}
+use lib.Dec.{ltb}
 use borrow.Author.Needs.{needs}
 use Rattle.description_board.proofs.RuleLaws.{SlaveTaken, slave-taken}
 use Rattle.description_board.specs.Rules.{itemRefusal}
@@ -12,7 +13,8 @@ use Rattle.description_rules.proofs.step_slave.Statement.{statement}
 use Rattle.description_rules.proofs.step_slave.Tie as tie
 
 -- the line is not refused
-fits : (c : tie.Else1) → let a = c .before .before .before .args in SlaveTaken (boardIn (a .board .now)) (a .p .sharing) (a .n)
+fits : (c : tie.Else1) → let a = c .before .before .before .before .args in
+    SlaveTaken (boardIn (a .board .now)) (ltb 0 (a .p .above)) (a .n)
 fits c = slave-taken _ _ _ (sym (c .before .slave-refusal .ensures) ∙ c .if1 .left)
 
 slave-refusal-requires : tie.Need-slave-refusal-requires
@@ -25,7 +27,7 @@ returns : tie.Need-returns
 unfolding itemRefusal readingOf
 returns c =
     let judged = c .before .before .before in
-    line-refused _ _ _ _ _ (judged .before .before .pre) (judged .slave-refusal .ensures) (c .before .before .if1 .taken)
+    line-refused _ _ _ _ _ (judged .before .before .before .pre) (judged .slave-refusal .ensures) (c .before .before .if1 .taken)
     (c .refused .ensures)
 
 slave-of-requires : tie.Need-slave-of-requires
@@ -38,7 +40,7 @@ returns-2 : tie.Need-returns-2
 returns-2 c =
     let taken = c .before .before .before in
     let judged = taken .before in
-    slave-added _ _ _ _ _ (judged .before .before .pre) (judged .slave-refusal .ensures) (taken .if1 .left)
+    slave-added _ _ _ _ _ (judged .before .before .before .pre) (judged .slave-refusal .ensures) (taken .if1 .left)
     (c .before .slave-of .ensures) (c .put-slave .ensures)
 
 pub step-slave-spec : {M : Type 1} → statement M

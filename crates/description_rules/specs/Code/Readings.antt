@@ -8,4 +8,4 @@ use Rattle.description_rules.specs.declared.Progress.{Progress}
 
 -- the progress of the reader and the board in the array are one reading
 unfoldable pub readingOf : Progress → List ℕ → Reading
-readingOf p l = record { number = p .number; sharing = p .sharing; board = boardIn l }
+readingOf p l = record { number = p .number; above = p .above; board = boardIn l }
