@@ -3,3 +3,4 @@ pub mod Values
 pub mod Decimal
 pub mod Puts
 pub mod Round
+pub mod Spelling

@@ -159,18 +159,25 @@ abbrev pub numbered : List ℕ → Numbers
 numbered ns = record { count = length ns; values = sets (replicate mostNumbers 0) 0 ns }
 
 -- the numbers ms and then ns
-abbrev more : Numbers → List ℕ → Numbers
+abbrev pub more : Numbers → List ℕ → Numbers
 more ms ns = record { count = ms .count + length ns; values = sets (ms .values) (ms .count) ns }
+
+-- none more, and one more in front
+pub more-none : (ms : Numbers) → ms ≡ more ms []
+more-none ms = ap (λ (k : ℕ). record { count = k; values = ms .values }) (omega arith)
+
+pub more-one : (ms : Numbers) (n : ℕ) (ns : List ℕ) → more (withNumber ms n) ns ≡ more ms (n ∷ ns)
+unfolding withNumber
+more-one ms n ns = ap₂ (λ (k : ℕ) (l : List ℕ). record { count = k; values = l }) (omega arith) (rw add-one)
 
 collect-digits : (ms : Numbers) (ns : List ℕ) → ms .count + length ns ≤ mostNumbers → Short ns
     → collect ms (map digits ns) ≡ more ms ns
 unfolding withNumber
-collect-digits ms [] h s =
-    collect-end ms ∙ ap (λ (k : ℕ). record { count = k; values = ms .values }) (omega arith)
+collect-digits ms [] h s = collect-end ms ∙ more-none ms
 collect-digits ms (n ∷ ns) h s =
     collect-value ms (digits n) (map digits ns) n (λ e. omega arith) (number-digits n (s .0))
     ∙ collect-digits (withNumber ms n) ns (omega arith) (s .1)
-    ∙ ap₂ (λ (k : ℕ) (l : List ℕ). record { count = k; values = l }) (omega arith) (rw add-one)
+    ∙ more-one ms n ns
 
 -- a line's numbers written and read
 pub numbers-digits : (ns : List ℕ) → length ns ≤ mostNumbers → Short ns → numbersOf (map digits ns) ≡ numbered ns

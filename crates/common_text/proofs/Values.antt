@@ -11,7 +11,7 @@ use lib.Dec.{leb, eqb, lit<}
 use lib.ListN.{length, getD, take, drop, drop-of-length-le}
 use lib.Seq.{drop-cons}
 use borrow.Author.Tests.{lt-ltb, le-leb, lt-leb, eq-eqb, ne-eqb}
-use Rattle.common_text.specs.Fields.{comma, split, isDigit, scan, shaped, numberOf}
+use Rattle.common_text.specs.Fields.{comma, split, isDigit, scan, zeroDigit, shaped, numberOf}
 use Rattle.common_text.specs.Fields.{numberRefusal, numberValue, mostNumbers, noNumbers, withNumber, collect, numbersOf}
 use Rattle.common_text.specs.Code.Scanning.{Cut}
 use Rattle.common_text.specs.declared.Number.the-variants.{Malformed, Value}
@@ -70,26 +70,26 @@ module _ (f : List ℕ) where
 
   pub number-one : length f ≡ 1 → numberOf f ≡ scan 0 f
   unfolding numberOf shaped
-  number-one h = rw h (go (eqb (getD f 0 0) 48))
+  number-one h = rw h (go (eqb (getD f 0 0) zeroDigit))
     where
       go : (t : Bool) → cond (not (t && false)) (scan 0 f) Malformed ≡ scan 0 f
       go true = refl
       go false = refl
 
-  pub number-zero : 1 < length f → getD f 0 0 ≡ 48 → numberOf f ≡ Malformed
+  pub number-zero : 1 < length f → getD f 0 0 ≡ zeroDigit → numberOf f ≡ Malformed
   unfolding numberOf shaped
-  number-zero h e = rw (eq-eqb (getD f 0 0) 48 e, lt-ltb 1 (length f) h) (go (leb 1 (length f)) (leb (length f) 10))
+  number-zero h e = rw (eq-eqb (getD f 0 0) zeroDigit e, lt-ltb 1 (length f) h) (go (leb 1 (length f)) (leb (length f) 10))
     where
       go : (t u : Bool) → cond (t && (u && false)) (scan 0 f) Malformed ≡ Malformed
       go true true = refl
       go true false = refl
       go false u = refl
 
-  pub number-more : 1 < length f → length f ≤ 10 → (getD f 0 0 ≡ 48 → ⊥) → numberOf f ≡ scan 0 f
+  pub number-more : 1 < length f → length f ≤ 10 → (getD f 0 0 ≡ zeroDigit → ⊥) → numberOf f ≡ scan 0 f
   unfolding numberOf shaped
   number-more h g e =
       let l : 1 ≤ length f = omega arith in
-      rw (ne-eqb (getD f 0 0) 48 e, le-leb 1 (length f) l, le-leb (length f) 10 g)
+      rw (ne-eqb (getD f 0 0) zeroDigit e, le-leb 1 (length f) l, le-leb (length f) 10 g)
 
 -- one field more
 module _ (ns : Numbers) (f : List ℕ) (fs : List (List ℕ)) where

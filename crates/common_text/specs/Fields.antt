@@ -36,9 +36,13 @@ unfoldable pub scan : ℕ → List ℕ → Number
 scan n [] = Value n
 scan n (c ∷ cs) = cond (isDigit c) (scan (n * 10 + (c - 48)) cs) Malformed
 
+-- rule 1.5: the byte of the digit 0, which is the first of a number only where it is the only one
+abbrev pub zeroDigit : ℕ
+zeroDigit = 48
+
 -- rule 1.5: the count of digits, and no 0 in front of other digits. Of an empty field `getD` gives 0, which is no digit's byte.
 unfoldable pub shaped : List ℕ → Bool
-shaped field = leb 1 (length field) && (leb (length field) 10 && not (eqb (getD field 0 0) 48 && ltb 1 (length field)))
+shaped field = leb 1 (length field) && (leb (length field) 10 && not (eqb (getD field 0 0) zeroDigit && ltb 1 (length field)))
 
 -- rule 1.5: the number that a field spells
 unfoldable pub numberOf : List ℕ → Number

@@ -6,7 +6,7 @@ use Prim.Native.Nat.{ℕ, zero, suc, _+_, _*_, _/_, _%_, _≤_, _<_}
 use native.Mathlib.Nat.{mul-suc}
 use native.Mathlib.Omega.{arith}
 use lib.ListN.{length, getD, length-append}
-use borrow.Author.Tests.{lt-ltb, le-ltb, eq-eqb, ne-eqb}
+use borrow.Author.Tests.{lt-ltb, le-ltb, ne-eqb}
 use Rattle.common_laws.specs.Lists.{gather, table}
 use Rattle.common_laws.proofs.TableLaws.{below-suc}
 use Rattle.common_text.specs.Code.Scanning.{Put}
@@ -16,6 +16,7 @@ use Rattle.description_board.specs.declared.Item.{Item}
 use Rattle.description_board.specs.declared.Item.the-variants.{Malformed, MasterLine, SlaveLine, ShareLine}
 use Rattle.description_board.specs.Items.{masterItem, slaveItem, shareItem, items, boardRefusal}
 use Rattle.description_board.proofs.Accepted.{accepted-legal}
+use Rattle.description_board.proofs.ItemLaws.{line-none, line-some}
 use Rattle.description_check.specs.Code.Entries.{entryCount, lineAt, present, linesTo}
 use Rattle.description_check.proofs.EntryLaws.{lines-all, lines-next}
 use Rattle.description_lines.specs.Writer.{itemText, itemsText}
@@ -56,13 +57,12 @@ module _ (f : ℕ → Item) where
 -- a pair's line, where there is one
 module _ (shares : List ℕ) (i : ℕ) where
   pub pair-none : getD shares i 0 ≡ 0 → itemsText (shareItem shares i) ≡ []
-  unfolding shareItem itemsText
-  pair-none h = rw (eq-eqb _ _ h)
+  unfolding itemsText
+  pair-none h = rw (line-none shares i h)
 
   pub pair-some : (getD shares i 0 ≡ 0 → ⊥) → itemsText (shareItem shares i) ≡ itemText
       (ShareLine (i / 16) (i % 16) (getD shares i 0))
-  unfolding shareItem
-  pair-some h = rw (ne-eqb _ _ h) (text-one (ShareLine (i / 16) (i % 16) (getD shares i 0)))
+  pair-some h = rw (line-some shares i h) (text-one (ShareLine (i / 16) (i % 16) (getD shares i 0)))
 
 -- the text of an entry: an entry with no line has no bytes
 text-present : (x : Item) → itemsText (present x) ≡ itemText x

@@ -3,4 +3,5 @@ pub mod BlameLaws
 pub mod Charged
 pub mod BoardText
 pub mod LineTrip
+pub mod LineText
 pub mod Trip

@@ -1,14 +1,13 @@
 -- Lines written and read again, and how many bytes the lines of a legal board take.
 -- Assumes nothing.
-use mathlib.Core.Bool.{Bool, true, false, cond}
+use mathlib.Core.Bool.{false}
 use mathlib.Core.List.{List, [], _∷_, _++_, map}
 use mathlib.Core.Logic.{_≢_}
 use mathlib.Core.Path.{_≡_, refl, ap, _∙_}
 use Prim.Native.Nat.{ℕ, zero, suc, _+_, _/_, _%_, _≤_, _<_}
+use native.Mathlib.Decide.{ℕ-discrete}
 use native.Mathlib.Omega.{arith}
-use lib.Dec.{eqb}
 use lib.ListN.{length, getD, length-append}
-use borrow.Author.Tests.{eqb-true, eqb-false}
 use Rattle.common_laws.specs.Bytes.{bytesOf}
 use Rattle.common_laws.specs.Lists.{member, same, gather, table}
 use Rattle.common_text.specs.Digits.{digits, fieldsText, lineText}
@@ -22,6 +21,7 @@ use Rattle.description_board.specs.Records.{masterAt, slaveAt}
 use Rattle.description_board.specs.Items.{masterItem, slaveNumbers, slaveItem, shareItem, items}
 use Rattle.description_board.specs.Legal.{Legal}
 use Rattle.description_board.proofs.RuleLaws.{width-bound, burst-bound, span-bound}
+use Rattle.description_board.proofs.ItemLaws.{line-none, line-some}
 use Rattle.description_lines.specs.Reader.{masterWord, slaveWord, shareWord, masterLine, slaveLine, shareLine}
 use Rattle.description_lines.specs.Reader.{itemOf, itemOfFields, itemsOf, itemsOfPieces, unended}
 use Rattle.description_lines.specs.Writer.{slaveFields, itemText, itemsText}
@@ -164,20 +164,18 @@ module _ (b : Board) (k : Legal b) where
       }
 
   pair-writable : (i : ℕ) → i < 128 → AllWritable (shareItem (b .shares) i)
-  unfolding shareItem
-  pair-writable i l = go (eqb (getD (b .shares) i 0) 0) refl
+  pair-writable i l = go (ℕ-discrete (getD (b .shares) i 0) 0)
     where
-      go : (t : Bool) → eqb (getD (b .shares) i 0) 0 ≡ t
-          → AllWritable (cond t [] (ShareLine (i / 16) (i % 16) (getD (b .shares) i 0) ∷ []))
-      go true e = tt
-      go false e = (share-line i l (eqb-false _ _ e) .writable, tt)
+      go : Dec (getD (b .shares) i 0 ≡ 0) → AllWritable (shareItem (b .shares) i)
+      go (yes e) = rw (line-none (b .shares) i e) tt
+      go (no e) = rw (line-some (b .shares) i e) (share-line i l e .writable, tt)
 
   pair-short : (i : ℕ) → i < 128 → length (itemsText (shareItem (b .shares) i)) ≤ 15
-  pair-short i l = go (eqb (getD (b .shares) i 0) 0) refl
+  pair-short i l = go (ℕ-discrete (getD (b .shares) i 0) 0)
     where
-      go : (t : Bool) → eqb (getD (b .shares) i 0) 0 ≡ t → length (itemsText (shareItem (b .shares) i)) ≤ 15
-      go true e = rw (pair-none (b .shares) i (eqb-true _ _ e)) (omega arith)
-      go false e = rw (pair-some (b .shares) i (eqb-false _ _ e)) (share-line i l (eqb-false _ _ e) .short)
+      go : Dec (getD (b .shares) i 0 ≡ 0) → length (itemsText (shareItem (b .shares) i)) ≤ 15
+      go (yes e) = rw (pair-none (b .shares) i e) (omega arith)
+      go (no e) = rw (pair-some (b .shares) i e) (share-line i l e .short)
 
   pub items-writable : AllWritable (items b)
   unfolding items

@@ -1,9 +1,9 @@
--- The round trip: a board written and read, a text read, written and read again, and how long a board's text can be.
+-- The round trip: a board written and read, a text read and written, which is the same text, and how long a board's text can be.
 -- A board is accepted where `boardRefusal` is 0, a text where `readText` answers 0.
 -- Assumes nothing.
 use mathlib.Core.Bool.{Bool, true, false, cond, not}
 use mathlib.Core.List.{List}
-use mathlib.Core.Path.{_≡_, refl, ap, ap₂, sym, _∙_}
+use mathlib.Core.Path.{_≡_, refl, ap, sym, _∙_}
 use Prim.Native.Nat.{ℕ, _≤_}
 use native.Mathlib.Omega.{arith}
 use lib.Dec.{ltb, eqb}
@@ -16,6 +16,8 @@ use Rattle.description_board.specs.Items.{items, boardRefusal}
 use Rattle.description_board.specs.Legal.{Legal}
 use Rattle.description_board.specs.Rebuilt.{trimmed}
 use Rattle.description_board.proofs.Accepted.{accepted-legal}
+use Rattle.description_board.proofs.AcceptedLines.{lines-own}
+use Rattle.description_board.proofs.OwnLines.{allRead}
 use Rattle.description_board.proofs.Rebuilt.{rebuilt, items-trimmed, described-accepted, described-trimmed}
 use Rattle.description_lines.specs.Reader.{itemsOf}
 use Rattle.description_lines.specs.Writer.{itemsText}
@@ -23,8 +25,10 @@ use Rattle.description.specs.declared.Parsed.{Parsed}
 use Rattle.description.specs.Reader.{mostBytes, reading, readText}
 use Rattle.description.specs.Writer.{writeText, writeRefusal}
 use Rattle.description.specs.Longest.{longest}
+use Rattle.description.specs.OneText.{Taken, OneText}
 use Rattle.description.proofs.TextLengths.{reading-short}
 use Rattle.description.proofs.LineTrip.{items-read, items-writable, items-short}
+use Rattle.description.proofs.LineText.{items-text}
 
 -- a text may have 8,192 bytes (rule 1.2): no accepted board's text is near that
 pub longest-fits : longest ≤ mostBytes
@@ -44,7 +48,7 @@ module _ (b : Board) (accepted : boardRefusal b ≡ 0) where
 
   -- its text is read to it, with zeros behind its counts
   pub read-written : readText (writeText b) ≡ record { number = 0; board = trimmed b }
-  unfolding writeText
+  unfolding writeText allRead
   read-written =
       let short : length (writeText b) ≤ mostBytes = omega (arith, text-short, longest-fits) in
       lines-answer (writeText b) _
@@ -77,7 +81,7 @@ same-boards b c p q e =
     ap (λ (r : Parsed). r .board) (sym (read-written b p) ∙ ap readText e ∙ read-written c q)
 
 -- An accepted text.
-module _ (t : List ℕ) (accepted : readText t .number ≡ 0) where
+module _ (t : List ℕ) (accepted : Taken t) where
   reading-lines : reading t ≡ described (itemsOf t)
   unfolding readText reading refused
   reading-lines = go (ltb mostBytes (length t)) accepted
@@ -103,17 +107,31 @@ module _ (t : List ℕ) (accepted : readText t .number ≡ 0) where
   pub read-trimmed : trimmed (readText t .board) ≡ readText t .board
   read-trimmed = rw read-board (described-trimmed (itemsOf t) lines-accepted)
 
-  -- and is written and read again to that same board
-  pub read-again : readText (writeText (readText t .board)) ≡ readText t
-  read-again =
-      read-written (readText t .board) read-accepted
-      ∙ ap₂ (λ (n : ℕ) (b : Board). record { number = n; board = b }) (sym accepted) read-trimmed
+  -- its lines are the writer's lines of that board
+  board-lines : items (readText t .board) ≡ itemsOf t
+  board-lines = rw read-board (lines-own (itemsOf t) lines-accepted)
 
--- two accepted texts with the same writer's lines are read to the same board
-pub same-texts :
-    (s t : List ℕ) → readText s .number ≡ 0 → readText t .number ≡ 0
-    → writeText (readText s .board) ≡ writeText (readText t .board) → readText s ≡ readText t
-same-texts s t p q e = sym (read-again s p) ∙ ap readText e ∙ read-again t q
+  -- and it is, byte for byte, the text that the writer puts for that board
+  accepted-text : writeText (readText t .board) ≡ t
+  unfolding writeText
+  accepted-text =
+      ap itemsText board-lines
+      ∙ items-text t (rw board-lines at (items-writable (readText t .board) (accepted-legal (readText t .board) read-accepted)))
+
+  -- so it is written and read again to that same board
+  pub read-again : readText (writeText (readText t .board)) ≡ readText t
+  read-again = ap readText accepted-text
+
+-- so two accepted texts for which the writer puts the same lines are equal
+same-texts : (s t : List ℕ) → Taken s → Taken t → writeText (readText s .board) ≡ writeText (readText t .board) → s ≡ t
+same-texts s t p q e = sym (accepted-text s p) ∙ e ∙ accepted-text t q
+
+pub one-text : OneText
+one-text = record {
+  written = accepted-text;
+  board = λ s t p q e. same-texts s t p q (ap writeText e);
+  lines = same-texts;
+}
 
 -- a board that was read is legal
 pub read-legal : (text : List ℕ) {n : ℕ} {b : Board} → n ≡ readText text .number → n ≡ 0 → b ≡ readText text .board → Legal b
