@@ -36,7 +36,7 @@ extern "C" {
 #endif
 
 /* The version of this header and of the library. */
-#define FABRIC_VERSION "1.3"
+#define FABRIC_VERSION "1.4"
 
 /* The most masters and slaves of a board (rule 1.1), and the most bytes of its description (rule 1.2). */
 #define FABRIC_MASTERS 8
@@ -60,7 +60,7 @@ extern "C" {
 #define FABRIC_LINES_NUMBERS 96
 
 /*
- * What the calls answer. Whoever writes the description causes 1 to 7, 19 and 20, whoever embeds the library 8 to 10, whoever
+ * What the calls answer. Whoever writes the description causes 1 to 7 and 19 to 21, whoever embeds the library 8 to 10, whoever
  * posts or asks for a wait 11 to 18. The comments are reminders: rule 7.k has refusal k whole.
  */
 #define FABRIC_TAKEN 0
@@ -84,6 +84,7 @@ extern "C" {
 #define FABRIC_BAD_WORDS 18     /* words of another length than beats * width; any words of a read */
 #define FABRIC_TOO_NARROW 19    /* shares of a master that is narrower than its native slave */
 #define FABRIC_NO_SHARE 20      /* a master without shares at any slave */
+#define FABRIC_SHARE_ORDER 21   /* a share line that is not in order, by master, then slave; of a text alone */
 
 /* The phases of a slave's line (rule 4.13). */
 #define FABRIC_IDLE 0
@@ -161,7 +162,8 @@ typedef char fabric_lines_fits[sizeof(struct fabric_lines) == FABRIC_LINES_NUMBE
  *   text, text_length   the description, FABRIC_TEXT_BYTES at the most
  *   board               where the board goes: all its numbers, those behind the counts are 0
  *
- * Refused with 1 to 7 and 19, by the first line to blame, and with 2 and 20 for what is missing at the end (rule 8.2).
+ * Refused with 1 to 7, 19 and 21, by the first line to blame, and with 2 and 20 for what is missing at the end (rule 8.2). Two texts
+ * that are read to the same board are the same, byte for byte.
  */
 uint32_t fabric_read(const uint8_t *text, size_t text_length, struct fabric_board *board);
 
@@ -248,7 +250,7 @@ uint32_t fabric_run(const struct fabric_board *board, struct fabric_state *state
  *   master, slave       their numbers, counted from 0 in the order of the description's lines
  *   out, out_length     where the figures go, in the first FABRIC_WAIT_BYTES (rule 5.8); no byte behind these is changed
  *
- * Refused with 1 to 7, 19 and 20 (the description), 10 (out_length), 11 (the master) and 16 (the slave).
+ * Refused with 1 to 7 and 19 to 21 (the description), 10 (out_length), 11 (the master) and 16 (the slave).
  */
 uint32_t fabric_wait(const uint8_t *text, size_t text_length, uint32_t master, uint32_t slave,
                      uint8_t *out, size_t out_length);

@@ -17,6 +17,7 @@ use common_numbers::NO_SHARE;
 use common_numbers::NOT_CONNECTED;
 use common_numbers::OVERLAP;
 use common_numbers::PAST_END;
+use common_numbers::SHARE_ORDER;
 use common_numbers::SHORT_OUTPUT;
 use common_numbers::SLAVE_FIELDS;
 use common_numbers::SPAN_TOTAL;
@@ -43,7 +44,7 @@ fn say_of_text(fd: i32, number: u32) -> bool {
     }
 }
 
-// Refusals 1 to 7 and 19 where a line is to blame.
+// Refusals 1 to 7, 19 and 21 where a line is to blame.
 fn say_of_line(fd: i32, number: u32) -> bool {
     match number {
         BAD_TEXT => program_streams::write_all(
@@ -56,6 +57,10 @@ fn say_of_line(fd: i32, number: u32) -> bool {
         OVERLAP => program_streams::write_all(fd, b"slave overlaps an earlier one"),
         SPAN_TOTAL => program_streams::write_all(fd, b"spans total over 65536"),
         TOO_NARROW => program_streams::write_all(fd, b"master narrower than native slave"),
+        SHARE_ORDER => program_streams::write_all(
+            fd,
+            b"share line out of order: by master, then slave",
+        ),
         _ => program_streams::write_all(
             fd,
             b"share line names no master or slave, or a pair twice",
@@ -87,12 +92,13 @@ fn say_of_call(fd: i32, number: u32) -> bool {
     }
 }
 
-// A number by itself: of 1 and 2 both kinds of cause. 19 and 20 came behind the numbers of the calls: 19 is a line's, 20 the text's.
+// A number by itself: of 1 and 2 both kinds of cause. 19 to 21 came behind the numbers of the calls: 20 is the text's, 19 and 21 a
+// line's.
 fn say_number(fd: i32, number: u32) -> bool {
     if number == NO_SHARE {
         return say_of_text(fd, number);
     }
-    if (BAD_SHARE < number) & (number != TOO_NARROW) {
+    if (BAD_SHARE < number) & ((number != TOO_NARROW) & (number != SHARE_ORDER)) {
         return say_of_call(fd, number);
     }
     if number <= BAD_ORDER {
@@ -245,7 +251,10 @@ pub fn list(fd: i32, last: u32) -> bool {
 
 // The same for the numbers that a description is refused with.
 pub fn list_of_text(fd: i32) -> bool {
-    list(fd, BAD_SHARE) && say_entry(fd, TOO_NARROW) && say_entry(fd, NO_SHARE)
+    list(fd, BAD_SHARE)
+        && say_entry(fd, TOO_NARROW)
+        && say_entry(fd, NO_SHARE)
+        && say_entry(fd, SHARE_ORDER)
 }
 
 // What a program prints of a description that is refused.
