@@ -102,11 +102,12 @@ fn parse_line(line: &[u8]) -> Option<Line> {
 #[derive(Default)]
 struct Draft {
     board: Board,
-    share_lines: usize,
+    /// Master and slave of the last share line, where there is one.
+    last_pair: Option<(usize, usize)>,
 }
 
 impl Draft {
-    /// Refusals 2 to 7 and 19 of one line, lowest first; a good line is taken.
+    /// Refusals 2 to 7, 19 and 21 of one line, lowest first; a good line is taken.
     fn take(&mut self, line: &Line) -> Result<(), u8> {
         match *line {
             Line::Master { width, burst } => self.take_master(width, burst),
@@ -129,7 +130,7 @@ impl Draft {
 
     fn take_master(&mut self, width: u64, burst: u64) -> Result<(), u8> {
         let count = self.board.master_count as usize;
-        if self.board.slave_count > 0 || self.share_lines > 0 || count == MASTER_LIMIT {
+        if self.board.slave_count > 0 || self.last_pair.is_some() || count == MASTER_LIMIT {
             return Err(2);
         }
         if !WIDTHS.contains(&width) || !BURSTS.contains(&burst) {
@@ -146,7 +147,7 @@ impl Draft {
     fn take_slave(&mut self, values: [u64; 7]) -> Result<(), u8> {
         let [base, span, width, burst, read_wait, write_wait, native] = values;
         let count = self.board.slave_count as usize;
-        if self.board.master_count == 0 || self.share_lines > 0 || count == SLAVE_LIMIT {
+        if self.board.master_count == 0 || self.last_pair.is_some() || count == SLAVE_LIMIT {
             return Err(2);
         }
         if !slave_values_in_range(values) {
@@ -201,8 +202,13 @@ impl Draft {
         if self.board.too_narrow(master, slave) {
             return Err(19);
         }
+        // a pair compares by its master, then by its slave
+        let pair = (master, slave);
+        if self.last_pair.is_some_and(|above| pair < above) {
+            return Err(21);
+        }
         self.board.shares[master][slave] = shares as u8;
-        self.share_lines += 1;
+        self.last_pair = Some(pair);
         Ok(())
     }
 
@@ -309,7 +315,7 @@ fn each_line(board: &Board, mut each: impl FnMut(Line) -> Result<(), u8>) -> Res
 }
 
 /// Refusals 2 to 7, 19 and 20 of a board that did not come through the reader: those of the lines that the writer would put,
-/// then those of the end.
+/// then those of the end. The writer's share lines are in order, so that 21 is never among them.
 pub fn check_board(board: &Board) -> Result<(), u8> {
     let mut draft = Draft::default();
     each_line(board, |line| draft.take(&line))?;
@@ -347,6 +353,7 @@ pub fn write_lines(board: &Board) -> Vec<String> {
     lines
 }
 
+/// For a board that came from a text this is that text again, byte for byte.
 pub fn write(board: &Board) -> String {
     write_lines(board)
         .into_iter()

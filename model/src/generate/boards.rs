@@ -311,17 +311,12 @@ pub fn any_size(random: &mut Random) -> Size {
     }
 }
 
-/// The lines of a board, the share lines sometimes in another order.
-pub fn lines(random: &mut Random, board: &Board) -> Vec<Vec<u8>> {
-    let mut lines: Vec<Vec<u8>> = write_lines(board)
+/// The lines of a board, as a text of it has them.
+pub fn lines(board: &Board) -> Vec<Vec<u8>> {
+    write_lines(board)
         .into_iter()
         .map(String::into_bytes)
-        .collect();
-    if random.chance(1, 2) {
-        let first = board.master_count as usize + board.slave_count as usize;
-        random.shuffle(&mut lines[first..]);
-    }
-    lines
+        .collect()
 }
 
 /// The lines, each with its line feed.
@@ -340,11 +335,11 @@ fn taken_text(random: &mut Random) -> Vec<u8> {
         true => longest_board(random),
         false => board(random, size),
     };
-    joined(&lines(random, &board))
+    joined(&lines(&board))
 }
 
-/// Boards for the simulator and the table, a file each: nearly nine in ten are taken by the reader, one in a hundred is about as
-/// long as a text may be or longer.
+/// Boards for the simulator and the table, a file each: more than four in five are taken by the reader, one in a hundred is about
+/// as long as a text may be or longer.
 pub fn write_boards(seed: u64, count: usize, directory: &Path) -> io::Result<()> {
     fs::create_dir_all(directory)?;
     let mut random = Random::new(seed);
@@ -361,6 +356,10 @@ pub fn write_boards(seed: u64, count: usize, directory: &Path) -> io::Result<()>
             }
             14 => {
                 let plan = texts::long_plan(&mut random);
+                texts::text(&mut random, plan)
+            }
+            15..=17 => {
+                let plan = texts::unordered_plan(&mut random);
                 texts::text(&mut random, plan)
             }
             _ => taken_text(&mut random),

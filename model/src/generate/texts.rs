@@ -7,6 +7,7 @@ mod meaning;
 mod native;
 mod parts;
 mod unconnected;
+mod unordered;
 
 use std::io::{self, Write};
 
@@ -20,6 +21,7 @@ use meaning::{meaning_text, MEANINGS};
 use native::{native_text, NATIVES};
 use parts::{damage_board, fields_of, Kind, KINDS};
 use unconnected::{unconnected_text, ONLY_UNCONNECTED, UNCONNECTED};
+use unordered::{unordered_text, FAULTS, ORDERS};
 
 /// What one text is to be.
 #[derive(Clone, Copy)]
@@ -38,6 +40,8 @@ pub enum Plan {
     Native(usize),
     /// The numbered text in which a master has no share line.
     Unconnected(usize),
+    /// Share lines in the numbered order, beside the numbered fault; fault 0 is none.
+    Unordered(usize, usize),
     /// A text of this length whose first fault is the numbered one.
     Long(usize, usize),
     TwoFields(Kind),
@@ -48,7 +52,7 @@ pub enum Plan {
 fn plans_of_fields() -> Vec<Plan> {
     let mut random = Random::new(0);
     let board = damage_board(&mut random);
-    let lines = lines(&mut random, &board);
+    let lines = lines(&board);
     let plans_of_kind = |kind: Kind| {
         let fields = fields_of(&lines[kind.range(&board, lines.len()).start]);
         let values = |field| field_values(&board, kind, &fields, field).len();
@@ -73,6 +77,13 @@ fn plans_of_lengths() -> Vec<Plan> {
     plans
 }
 
+/// Each order of share lines alone, and each fault beside some of them.
+fn plans_of_orders() -> Vec<Plan> {
+    let alone = (0..12 * ORDERS).map(|case| Plan::Unordered(case % ORDERS, 0));
+    let beside = (0..5 * FAULTS).map(|case| Plan::Unordered(case % ORDERS, case % FAULTS));
+    alone.chain(beside).collect()
+}
+
 /// Every plan that damages something, once; some leave a good text.
 pub fn damaging_plans() -> Vec<Plan> {
     let mut plans = plans_of_fields();
@@ -83,10 +94,11 @@ pub fn damaging_plans() -> Vec<Plan> {
     }
     plans.extend((0..WHOLE_DAMAGES).map(Plan::Whole));
     plans.extend((0..2 * MEANINGS).map(|case| Plan::Meaning(case % MEANINGS)));
-    plans.extend((0..6 * NATIVES).map(|case| Plan::Native(case % NATIVES)));
+    plans.extend((0..5 * NATIVES).map(|case| Plan::Native(case % NATIVES)));
     plans.extend((0..2 * UNCONNECTED).map(|case| Plan::Unconnected(case % UNCONNECTED)));
     plans.extend((0..60).map(|case| Plan::Unconnected(case % ONLY_UNCONNECTED)));
     plans.extend((0..100).map(|_| Plan::TwoLines));
+    plans.extend(plans_of_orders());
     plans.extend(plans_of_lengths());
     plans
 }
@@ -95,6 +107,16 @@ pub fn damaging_plans() -> Vec<Plan> {
 pub fn unconnected_plan(random: &mut Random) -> Plan {
     let limit = random.pick(&[ONLY_UNCONNECTED, ONLY_UNCONNECTED, UNCONNECTED]);
     Plan::Unconnected(random.below(limit))
+}
+
+/// Share lines in another order; in two of three cases nothing else is wrong.
+pub fn unordered_plan(random: &mut Random) -> Plan {
+    let order = random.below(ORDERS);
+    let fault = match random.chance(2, 3) {
+        true => 0,
+        false => random.below(FAULTS),
+    };
+    Plan::Unordered(order, fault)
 }
 
 /// A text of a length near the limit, or far above it.
@@ -106,8 +128,8 @@ fn all_plans() -> Vec<Plan> {
     let mut plans = damaging_plans();
     for (count, size) in [
         (30, Size::Tiny),
-        (80, Size::Small),
-        (80, Size::Any),
+        (60, Size::Small),
+        (60, Size::Any),
         (8, Size::Largest),
     ] {
         plans.extend((0..count).map(|_| Plan::Good(size)));
@@ -120,11 +142,11 @@ pub fn text(random: &mut Random, plan: Plan) -> Vec<u8> {
     match plan {
         Plan::Good(size) => {
             let board = board(random, size);
-            joined(&lines(random, &board))
+            joined(&lines(&board))
         }
         Plan::Longest => {
             let board = longest_board(random);
-            joined(&lines(random, &board))
+            joined(&lines(&board))
         }
         Plan::Field(kind, field, value) => field_text(random, kind, field, value),
         Plan::Line(kind, damage) => line_text(random, kind, damage),
@@ -132,6 +154,7 @@ pub fn text(random: &mut Random, plan: Plan) -> Vec<u8> {
         Plan::Meaning(case) => meaning_text(random, case),
         Plan::Native(case) => native_text(random, case),
         Plan::Unconnected(case) => unconnected_text(random, case),
+        Plan::Unordered(order, fault) => unordered_text(random, order, fault),
         Plan::Long(length, fault) => long_text(random, length, fault),
         Plan::TwoFields(kind) => two_fields_text(random, kind),
         Plan::TwoLines => two_lines_text(random),

@@ -106,16 +106,30 @@ fn the_longest_board_is_taken() {
     assert_eq!(read(write(&board).as_bytes()), Ok(board));
 }
 
+/// What is answered to 2,000 generated texts.
+fn answers_to_texts(seed: u64) -> String {
+    let (mut records, mut answers) = (Vec::new(), Vec::new());
+    texts::write_texts(seed, 2000, &mut records).expect("memory takes all");
+    print_boards(&records, &mut answers).expect("the records are whole");
+    String::from_utf8(answers).expect("the answers are ASCII")
+}
+
 #[test]
 fn generated_texts_reach_every_refusal_of_the_reader() {
-    let (mut records, mut answers) = (Vec::new(), Vec::new());
-    texts::write_texts(1, 2000, &mut records).expect("memory takes all");
-    print_boards(&records, &mut answers).expect("the records are whole");
-    let answers = String::from_utf8(answers).expect("the answers are ASCII");
-    for number in [0, 1, 2, 3, 4, 5, 6, 7, 19, 20] {
+    let answers = answers_to_texts(1);
+    for number in [0, 1, 2, 3, 4, 5, 6, 7, 19, 20, 21] {
         let line = format!("read,{number}");
         assert!(answers.lines().any(|answer| answer == line), "no {line}");
     }
+}
+
+#[test]
+fn generated_texts_often_have_share_lines_out_of_order() {
+    let answers = answers_to_texts(2);
+    let refused = answers.lines().filter(|&line| line == "read,21").count();
+    assert!(refused > 80, "only {refused} of 2000");
+    let taken = answers.lines().filter(|&line| line == "read,0").count();
+    assert!(taken > 250, "only {taken} of 2000");
 }
 
 /// What is printed for generated scripts on generated boards.
@@ -138,6 +152,14 @@ fn generated_scripts_reach_every_refusal_of_a_post() {
     for number in (0..=20).filter(|number| ![1, 10].contains(number)) {
         let line = format!("post,{number}");
         assert!(printed.lines().any(|answer| answer == line), "no {line}");
+    }
+}
+
+#[test]
+fn generated_scripts_are_never_refused_for_an_order() {
+    let printed = printed_by_scripts(300..340);
+    for line in ["reset,21", "post,21", "clock,21,0"] {
+        assert!(!printed.lines().any(|answer| answer == line), "{line}");
     }
 }
 

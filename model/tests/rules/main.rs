@@ -9,6 +9,7 @@ mod generators;
 mod histories;
 mod lanes;
 mod native;
+mod order;
 mod posts;
 mod programs;
 mod unconnected;

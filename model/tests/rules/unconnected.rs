@@ -28,7 +28,6 @@ fn each_master_has_a_share_line() {
     let [first, middle, last] = ["share,0,0,1\n", "share,1,1,2\n", "share,2,0,100\n"];
     let number = |shares: &[&str]| number_of(&three_masters(shares));
     assert_eq!(number(&[first, middle, last]), 0);
-    assert_eq!(number(&[last, first, middle]), 0);
     assert_eq!(number(&[middle, last]), 20);
     assert_eq!(number(&[first, last]), 20);
     assert_eq!(number(&[first, middle]), 20);

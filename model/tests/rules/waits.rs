@@ -105,17 +105,17 @@ fn each_slave_has_waits_of_its_own() {
 #[test]
 fn masters_that_are_not_connected_count_nothing() {
     // an access of 4 clocks: the turns are 4, 3 × 4 + 8 and 9 × 4 + 4
-    let text = |middle: &str, other: &str| {
+    let text = |middle: &str| {
         format!(
             "master,1,1\nmaster,1,2\nmaster,1,1\n\
              slave,0,8,1,1,3,1,0\nslave,8,8,1,1,0,0,0\n\
-             share,0,0,1\n{middle}share,2,0,10\n{other}"
+             share,0,0,1\n{middle}share,2,0,10\n"
         )
     };
     let all = "master,slave,wait,serve\n0,0,60,4\n1,0,44,8\n2,0,24,4\n";
-    assert_eq!(table(text("share,1,0,4\n", "").as_bytes()), all);
+    assert_eq!(table(text("share,1,0,4\n").as_bytes()), all);
     let without_1 = "master,slave,wait,serve\n0,0,40,4\n1,1,0,2\n2,0,4,4\n";
-    assert_eq!(table(text("", "share,1,1,4\n").as_bytes()), without_1);
+    assert_eq!(table(text("share,1,1,4\n").as_bytes()), without_1);
 }
 
 #[test]

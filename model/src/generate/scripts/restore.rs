@@ -2,7 +2,7 @@
 
 use super::lines::{master_line, slave_line, slot_line, transfer_line};
 use super::Author;
-use crate::board::Board;
+use crate::board::{Board, MASTER_LIMIT, SLAVE_LIMIT};
 use crate::fabric::{State, BUFFER_LENGTH};
 use crate::script::LEND_OVER;
 
@@ -39,13 +39,15 @@ impl Author {
         }
     }
 
+    /// A script's share lines overwrite numbers and are no text: no order of them is refused.
     fn put_shares(&mut self, now: &Board, wanted: &Board) {
-        for (master, row) in wanted.shares.iter().enumerate() {
-            for (slave, &shares) in row.iter().enumerate() {
-                if now.shares[master][slave] != shares {
-                    self.put(&format!("share,{master},{slave},{shares}"));
-                }
-            }
+        let mut pairs: Vec<(usize, usize)> = (0..MASTER_LIMIT)
+            .flat_map(|master| (0..SLAVE_LIMIT).map(move |slave| (master, slave)))
+            .filter(|&(master, slave)| now.shares[master][slave] != wanted.shares[master][slave])
+            .collect();
+        self.random.shuffle(&mut pairs);
+        for (master, slave) in pairs {
+            self.put_share(master, slave, wanted.shares[master][slave]);
         }
     }
 

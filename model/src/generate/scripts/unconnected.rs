@@ -12,7 +12,7 @@ impl Author {
         self.random.pick(&[0, masters - 1, any])
     }
 
-    fn put_share(&mut self, master: usize, slave: usize, shares: u8) {
+    pub fn put_share(&mut self, master: usize, slave: usize, shares: u8) {
         self.put(&format!("share,{master},{slave},{shares}"));
     }
 

@@ -95,7 +95,7 @@ fn replaced(line: &[u8], from: &[u8], to: &[u8]) -> Vec<u8> {
 /// One line of this kind damaged, or the lines around it.
 pub fn line_text(random: &mut Random, kind: Kind, damage: usize) -> Vec<u8> {
     let board = damage_board(random);
-    let mut lines = lines(random, &board);
+    let mut lines = lines(&board);
     let index = pick_line(random, &board, lines.len(), kind);
     damage_line(random, &mut lines, index, damage);
     joined(&lines)
@@ -164,7 +164,7 @@ fn foreign_text(random: &mut Random, damage: usize) -> Vec<u8> {
 /// A text damaged without a look at its lines.
 pub fn whole_text(random: &mut Random, damage: usize) -> Vec<u8> {
     let board = damage_board(random);
-    let mut lines = lines(random, &board);
+    let mut lines = lines(&board);
     let mut text = joined(&lines);
     let place = random.below(text.len());
     match damage {

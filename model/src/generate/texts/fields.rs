@@ -233,7 +233,7 @@ fn with_field(board: &Board, line: &[u8], kind: Kind, field: usize, value: usize
 
 pub fn field_text(random: &mut Random, kind: Kind, field: usize, value: usize) -> Vec<u8> {
     let board = damage_board(random);
-    let mut lines = lines(random, &board);
+    let mut lines = lines(&board);
     let index = pick_line(random, &board, lines.len(), kind);
     lines[index] = with_field(&board, &lines[index], kind, field, value);
     joined(&lines)
@@ -241,7 +241,7 @@ pub fn field_text(random: &mut Random, kind: Kind, field: usize, value: usize) -
 
 pub fn two_fields_text(random: &mut Random, kind: Kind) -> Vec<u8> {
     let board = damage_board(random);
-    let mut lines = lines(random, &board);
+    let mut lines = lines(&board);
     let index = pick_line(random, &board, lines.len(), kind);
     let first = random.between(0, kind.field_count() - 1);
     let second = random.between(1, kind.field_count() - 1);
@@ -272,7 +272,7 @@ fn damage_one(random: &mut Random, board: &Board, lines: &mut [Vec<u8>], index: 
 
 pub fn two_lines_text(random: &mut Random) -> Vec<u8> {
     let board = damage_board(random);
-    let mut lines = lines(random, &board);
+    let mut lines = lines(&board);
     let first = random.below(lines.len());
     let second = random.below(lines.len());
     damage_one(random, &board, &mut lines, first);

@@ -18,7 +18,7 @@ fn fault_line(fault: usize) -> &'static str {
 /// A good board, then lines of one fault, then one long line up to the length.
 pub fn long_text(random: &mut Random, length: usize, fault: usize) -> Vec<u8> {
     let board = board(random, Size::Small);
-    let mut text = joined(&lines(random, &board));
+    let mut text = joined(&lines(&board));
     if (4..=6).contains(&fault) {
         text = joined(&slave_fault(random, fault));
     }

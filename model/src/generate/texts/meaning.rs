@@ -1,6 +1,6 @@
 //! Texts in which each line can be right and what they say together is not.
 
-use super::parts::{damage_board, fields_of, pick_line, value_of, Kind};
+use super::parts::{damage_board, fields_of, pick_line, place_for, value_of, Kind};
 use crate::board::{Slave, MEMORY_LIMIT};
 use crate::generate::boards::{connect_rest, free_base, joined, lines, spans_to_the_limit};
 use crate::generate::random::Random;
@@ -52,7 +52,7 @@ fn slave_meaning(random: &mut Random, case: usize) -> Vec<Vec<u8>> {
         row[board.slave_count as usize..].fill(0);
     }
     connect_rest(random, &mut board, 3);
-    let mut lines = lines(random, &board);
+    let mut lines = lines(&board);
     let slaves = &board.slaves[..board.slave_count as usize];
     let other = random.pick(slaves);
     let free = free_base(random, slaves, MEMORY_LIMIT);
@@ -110,14 +110,13 @@ fn over_count(case: usize) -> Vec<Vec<u8>> {
 /// Share lines for pairs that have one, or that there are not.
 fn share_meaning(random: &mut Random, case: usize) -> Vec<Vec<u8>> {
     let board = damage_board(random);
-    let mut lines = lines(random, &board);
+    let mut lines = lines(&board);
     let masters = board.master_count as usize;
     let slaves = board.slave_count as usize;
-    let first = masters + slaves;
-    let place = random.between(first, lines.len());
     let old = fields_of(&lines[pick_line(random, &board, lines.len(), Kind::Share)]);
     let master = value_of(&old[1]);
     let slave = value_of(&old[2]);
+    let place = place_for(random, &lines, masters + slaves, (master, slave));
     let added = match case {
         0 => format!("share,{master},{slave},{}", value_of(&old[3])),
         1 => format!("share,{master},{slave},1"),
@@ -138,7 +137,7 @@ fn share_meaning(random: &mut Random, case: usize) -> Vec<Vec<u8>> {
 /// Lines out of order, or none of a kind.
 fn order_meaning(random: &mut Random, case: usize) -> Vec<Vec<u8>> {
     let board = damage_board(random);
-    let lines = lines(random, &board);
+    let lines = lines(&board);
     let masters = lines[Kind::Master.range(&board, lines.len())].to_vec();
     let slaves = lines[Kind::Slave.range(&board, lines.len())].to_vec();
     let shares = lines[Kind::Share.range(&board, lines.len())].to_vec();

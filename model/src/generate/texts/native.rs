@@ -1,6 +1,6 @@
 //! Texts with a native slave and a master narrower than it, and texts of another count of numbers in their slave lines.
 
-use super::parts::{damage_board, Kind};
+use super::parts::{damage_board, place_for, Kind};
 use crate::board::Board;
 use crate::generate::boards::{connect_rest, disconnect_narrow, joined, lines, uneven_widths};
 use crate::generate::random::Random;
@@ -110,11 +110,12 @@ fn joined_pair(random: &mut Random, case: usize) -> Vec<Vec<u8>> {
     widen(&mut board, pair, case);
     disconnect_narrow(&mut board);
     board.shares[pair.master][pair.slave] = 0;
-    let mut lines = lines(random, &board);
+    let mut lines = lines(&board);
     let card = board.master_count as usize + pair.slave;
     damage_card(&mut lines[card], case);
     let first = board.master_count as usize + board.slave_count as usize;
-    let place = random.between(first, lines.len());
+    let numbers = (pair.master as u64, pair.slave as u64);
+    let place = place_for(random, &lines, first, numbers);
     lines.insert(place, share_line(pair, case));
     damage_shares(&mut lines, first, place, case);
     lines
@@ -123,7 +124,7 @@ fn joined_pair(random: &mut Random, case: usize) -> Vec<Vec<u8>> {
 /// Every slave line with another count of numbers.
 fn recounted(random: &mut Random, recount: fn(&[u8]) -> Vec<u8>) -> Vec<Vec<u8>> {
     let board = damage_board(random);
-    let mut lines = lines(random, &board);
+    let mut lines = lines(&board);
     let range = Kind::Slave.range(&board, lines.len());
     for line in &mut lines[range] {
         *line = recount(line);

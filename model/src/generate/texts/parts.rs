@@ -74,3 +74,18 @@ pub fn joined_fields(fields: &[Vec<u8>]) -> Vec<u8> {
 pub fn value_of(field: &[u8]) -> u64 {
     String::from_utf8_lossy(field).parse().unwrap_or(0)
 }
+
+/// Master and slave of a share line.
+pub fn pair_of(line: &[u8]) -> (u64, u64) {
+    let fields = fields_of(line);
+    let number = |field: usize| fields.get(field).map_or(0, |field| value_of(field));
+    (number(1), number(2))
+}
+
+/// Where a share line of the pair is put among those from `first` on: in two of three cases in its order, else anywhere.
+pub fn place_for(random: &mut Random, lines: &[Vec<u8>], first: usize, pair: (u64, u64)) -> usize {
+    match random.chance(2, 3) {
+        true => first + lines[first..].partition_point(|line| pair_of(line) < pair),
+        false => random.between(first, lines.len()),
+    }
+}

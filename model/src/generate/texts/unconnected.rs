@@ -1,6 +1,6 @@
 //! Texts in which a master has no share line, with nothing else wrong and beside another fault.
 
-use super::parts::Kind;
+use super::parts::{place_for, Kind};
 use crate::board::{Board, SLAVE_LIMIT};
 use crate::generate::boards::{
     board, connect_rest, disconnect_narrow, joined, lines, uneven_widths, Size,
@@ -110,11 +110,12 @@ pub fn unconnected_text(random: &mut Random, case: usize) -> Vec<u8> {
     if fault == 10 {
         make_narrow(random, &mut board, master, slave);
     }
-    let mut lines = lines(random, &board);
+    let mut lines = lines(&board);
     damage(random, &board, &mut lines, fault);
     if (3..=10).contains(&fault) {
         let shares = Kind::Share.range(&board, lines.len());
-        let place = random.between(shares.start, shares.end);
+        let pair = (master as u64, slave as u64);
+        let place = place_for(random, &lines, shares.start, pair);
         lines.insert(place, own_line(&board, master, slave, fault));
     }
     let mut text = joined(&lines);
