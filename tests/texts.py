@@ -15,7 +15,7 @@ answers are never the program's own, or it would be compared with itself:
     tests/texts.py --check
 
 The numbers of the list are one more opinion beside the program's and the model's: a record that is refused for another cause than
-it was written for shows there.
+it was written for shows there. So does a text that is taken and is written otherwise than it was read: a board has one text.
 """
 
 import sys
@@ -61,6 +61,17 @@ def narrow(*shares, native=1):
     return text("master,2,8", MASTER, "master,8,8", f"slave,4096,4096,4,8,1,0,{native}", *shares)
 
 
+def narrow_last(*shares):
+    """The same masters at the native slave, the narrow one last."""
+    return text(MASTER, "master,8,8", "master,2,8", NATIVE, *shares)
+
+
+def grid(masters, slaves, *pairs):
+    """So many masters, all alike, and so many slaves, with a share line for each of these pairs, of 1, 2, .. shares."""
+    lines = [f"share,{master},{slave},{index + 1}" for index, (master, slave) in enumerate(pairs)]
+    return text(*[MASTER] * masters, *(f"slave,{base},{span},2,8,1,0,0" for base, span in row(slaves)), *lines)
+
+
 def row(count):
     """Bases and spans of slaves of 8 bytes, each where the one before it ends."""
     return [(8 * index, 8) for index in range(count)]
@@ -71,11 +82,16 @@ def stored(name):
     return (ROOT / "boards" / name).read_bytes().decode("latin-1")
 
 
-def backwards(board):
-    """A board's text with its share lines in the opposite order."""
+def reordered(board, order):
+    """A board's text with its share lines in the order that a function of their list gives."""
     lines = board.splitlines()
     shares = [line for line in lines if line.startswith("share")]
-    return text(*(line for line in lines if line not in shares), *reversed(shares))
+    return text(*(line for line in lines if line not in shares), *order(shares))
+
+
+def by_slave(shares):
+    """Share lines by slave, then master."""
+    return sorted(shares, key=lambda line: [int(number) for number in line.split(",")[2:0:-1]])
 
 
 def without(board, *masters):
@@ -89,7 +105,7 @@ def longest():
     spans = [16384] * 3 + [1024] * 13
     lines = ["master,8,64"] * 8
     lines += [f"slave,{4294967296 - 16384 * (index + 1)},{span},8,64,255,255,1" for index, span in enumerate(spans)]
-    lines += [f"share,{master},{slave},100" for slave in range(16) for master in range(8)]
+    lines += [f"share,{master},{slave},100" for master in range(8) for slave in range(16)]
     return text(*lines)
 
 
@@ -125,8 +141,7 @@ LIST = [
         (0, "the board of docs/RULES.md, section 9", stored("document01.txt")),
         (0, "a board of a usual size, some of its pairs not connected", stored("crane.txt")),
         (0, "the largest board: 8 masters, 16 slaves, every pair connected, shares at their most", stored("largest.txt")),
-        (0, "the same with its share lines backwards: the writer puts them in order", backwards(stored("largest.txt"))),
-        (0, "the longest text that a board can have, its share lines by slave, then master", longest()),
+        (0, "the longest text that a board can have", longest()),
         (0, "every value of the lists, and spans that total exactly 65,536", every_value()),
         (0, "the widest span, the whole total by itself, at the highest base it can have", slaves((4294901760, 65536))),
         (0, "the highest base of all and the lowest: what ends at 2^32 does not reach round to 0", slaves(
@@ -134,17 +149,25 @@ LIST = [
         (0, "slaves that touch below and above have no byte in common; the writer leaves them in the order of their lines", slaves(
             (4096, 4096), (0, 4096), (8192, 8))),
         (0, "the most masters, all alike, at one slave", text(*[MASTER] * 8, SLAVE, *shares(8))),
-        (0, "the most masters, their share lines backwards, each at its own slave", text(
-            *[MASTER] * 8, *(f"slave,{8 * index},8,2,8,1,0,0" for index in range(8)),
-            *(f"share,{index},{index},1" for index in reversed(range(8))))),
-        (0, "one master at the most slaves: the writer orders by number, 2 before 10", unshared(*row(16)) + text(
-            "share,0,15,3", "share,0,10,4", "share,0,9,5", "share,0,2,6", "share,0,1,7")),
-        (0, "share lines in any order; a master at two slaves, or two masters at one, is no pair twice", text(
+        (0, "the most masters, each at its own slave", grid(8, 8, *((index, index) for index in range(8)))),
+        (0, "a master at two slaves, or two masters at one, is no pair twice", text(
             MASTER, "master,2,1", SLAVE, "slave,0,8,1,1,0,0,0",
-            "share,1,1,4", "share,0,1,2", "share,1,0,3", "share,0,0,1")),
+            "share,0,0,1", "share,0,1,2", "share,1,0,3", "share,1,1,4")),
         (0, "no share line for the slaves below and above the one that all masters are connected with", text(
-            MASTER, "master,2,1", SLAVE, "slave,0,8,1,1,0,0,0", "slave,8,8,1,1,0,0,0", "share,1,1,5", "share,0,1,4")),
+            MASTER, "master,2,1", SLAVE, "slave,0,8,1,1,0,0,0", "slave,8,8,1,1,0,0,0", "share,0,1,4", "share,1,1,5")),
         (0, "one master, connected with the last of the most slaves alone", unshared(*row(16)) + text("share,0,15,1")),
+    ]),
+    ("0: share lines by master, then slave", [
+        (0, "the slave falls where the master rises", grid(2, 2, (0, 1), (1, 0))),
+        (0, "the slave falls from the last to the first, at every master", grid(
+            8, 16, *((master, slave) for master in range(8) for slave in (0, 15)))),
+        (0, "the slave falls at every master, and by one", grid(8, 8, *((index, 7 - index) for index in range(8)))),
+        (0, "slaves by number, 2 before 10: as text they would fall", grid(1, 16, (0, 1), (0, 2), (0, 9), (0, 10), (0, 15))),
+        (0, "slaves that fall in their last digit, and in their last three bits", grid(1, 16, (0, 7), (0, 8), (0, 9), (0, 10))),
+        (0, "shares that fall from line to line", text(
+            MASTER, MASTER, SLAVE, "slave,0,8,2,8,1,0,0", "share,0,0,100", "share,0,1,50", "share,1,0,2", "share,1,1,1")),
+        (0, "the last pair of the most masters and slaves behind the first pairs", grid(
+            8, 16, *((master, 0) for master in range(8)), (7, 15))),
     ]),
     ("0: native cards", [
         (0, "a board of a usual kind: a native card with a wider master and with one of its own width", stored("encoder.txt")),
@@ -154,11 +177,11 @@ LIST = [
         (0, "a master twice as wide", small(slave="slave,4096,4096,2,8,1,0,1")),
         (0, "the widest master at the narrowest card", small("master,8,64", "slave,4096,4096,1,8,1,0,1")),
         (0, "a narrower master on the board that is connected with another slave, not with the card", text(
-            "master,2,8", MASTER, "master,8,8", NATIVE, "slave,0,8,4,8,1,0,0", "share,2,0,2", "share,1,0,3", "share,0,1,1")),
+            "master,2,8", MASTER, "master,8,8", NATIVE, "slave,0,8,4,8,1,0,0", "share,0,1,1", "share,1,0,3", "share,2,0,2")),
         (0, "a narrower master at a slave with bus sizing", narrow("share,0,0,1", "share,1,0,2", "share,2,0,3", native=0)),
         (0, "a narrower master at the slave with bus sizing of two, and a wider one at both", text(
             "master,1,1", "master,8,8", "slave,0,8,2,1,0,0,1", "slave,8,8,2,1,0,0,0",
-            "share,1,1,4", "share,1,0,3", "share,0,1,2")),
+            "share,0,1,2", "share,1,0,3", "share,1,1,4")),
         (0, "by turns native and not: each line keeps its own number", text(
             MASTER, *(f"slave,{8 * index},8,2,8,1,0,{index % 2}" for index in range(16)), SHARE)),
     ]),
@@ -289,16 +312,17 @@ LIST = [
         (7, "a slave one above the last", small() + text("share,0,1,2")),
         (7, "a ninth master, where there are eight", text(*[MASTER] * 8, SLAVE, *shares(9))),
         (7, "a seventeenth slave, where there are sixteen: with all shares in one row it would be the first of master 1",
-         text(MASTER) + unshared(*row(16)) + text(SHARE, "share,1,1,2", "share,0,16,2")),
+         text(MASTER) + unshared(*row(16)) + text(SHARE, "share,0,16,2", "share,1,1,2")),
         (7, "a master that is 0 when it is cut to a byte or to 32 bits: a name has no range", small(share="share,4294967296,0,2")),
         (7, "a pair twice, with the same shares", small() + text(SHARE)),
-        (7, "a pair twice, with other shares and another pair between", text(
-            MASTER, MASTER, SLAVE, SHARE, "share,1,0,3", "share,0,0,5")),
+        (7, "a pair twice, with other shares", small() + text("share,0,0,5")),
+        (7, "a pair twice, the last of the most masters and slaves", grid(
+            8, 16, *((master, 0) for master in range(7)), (7, 15), (7, 15))),
     ]),
     ("19: a share line that joins a master to a native slave wider than it", [
         (19, "half as wide", small("master,2,8", NATIVE)),
         (19, "the narrowest master at the widest slave", small("master,1,1", "slave,0,8,8,1,0,0,1")),
-        (19, "behind share lines of wider masters", narrow("share,1,0,1", "share,2,0,1", "share,0,0,1")),
+        (19, "behind share lines of wider masters", narrow_last("share,0,0,1", "share,1,0,1", "share,2,0,1")),
         (19, "before share lines of wider masters", narrow("share,0,0,1", "share,1,0,1", "share,2,0,1")),
         (19, "the first slave has bus sizing and takes the master, the second does not", text(
             "master,2,8", "slave,0,8,4,8,1,0,0", NATIVE, "share,0,0,2", "share,0,1,2")),
@@ -329,6 +353,52 @@ LIST = [
             *(f"share,1,{slave},2" for slave in range(16)))),
         (20, "one that no slave takes: the only slave is native and wider", narrow("share,1,0,1", "share,2,0,1")),
     ]),
+    # Without the rule each of them is a board: every master has a share line.
+    ("21: share lines that do not come by master, then slave", [
+        (21, "the least: one master, its two slaves the other way round", grid(1, 2, (0, 1), (0, 0))),
+        (21, "two masters at one slave, the other way round", grid(2, 1, (1, 0), (0, 0))),
+        (21, "the master falls and the slave rises", grid(2, 2, (1, 0), (0, 1))),
+        (21, "master and slave fall", grid(2, 2, (1, 1), (0, 0))),
+        (21, "by slave, then master", grid(2, 2, (0, 0), (1, 0), (0, 1), (1, 1))),
+        (21, "the slaves in order, the masters not", grid(3, 3, (1, 0), (0, 1), (2, 2))),
+        (21, "the masters in order, the slaves of the first not", grid(2, 2, (0, 1), (0, 0), (1, 0), (1, 1))),
+        (21, "the masters in order, the slaves of the last not", grid(2, 2, (0, 0), (0, 1), (1, 1), (1, 0))),
+        (21, "the slaves of each master in order, the masters not", grid(2, 2, (1, 0), (1, 1), (0, 0), (0, 1))),
+        (21, "behind the first share line, but before the second", grid(2, 2, (0, 0), (1, 1), (0, 1))),
+        (21, "two neighbours of one master swapped, the lines round them in order", grid(
+            1, 5, (0, 0), (0, 2), (0, 1), (0, 3), (0, 4))),
+        (21, "slave 10 above slave 9: as text they are in order", grid(1, 16, (0, 10), (0, 9))),
+        (21, "slave 10 above slave 2, 1 above both: as text they are in order", grid(1, 16, (0, 1), (0, 10), (0, 2))),
+        (21, "slave 12 above slave 11", grid(1, 16, (0, 12), (0, 11))),
+        (21, "slave 8 above slave 0, alike in their last three bits", grid(1, 16, (0, 8), (0, 0))),
+        (21, "the last slave of master 1 above the first of master 0", grid(2, 16, (1, 15), (0, 0))),
+        (21, "the first slave of master 1 above the last of master 0, where the two numbers add up to more", grid(
+            2, 16, (1, 0), (0, 15))),
+        (21, "master 7 at the first slave above master 6 at the last", grid(
+            8, 16, *((master, 0) for master in range(6)), (7, 0), (6, 15))),
+        (21, "the shares rise all the same", text(
+            MASTER, MASTER, SLAVE, "slave,0,8,2,8,1,0,0", "share,0,0,1", "share,1,0,2", "share,0,1,3")),
+        (21, "the shares fall too", text(MASTER, MASTER, SLAVE, "share,1,0,100", "share,0,0,1")),
+        (21, "the most masters, backwards, each at its own slave", grid(8, 8, *((index, index) for index in reversed(range(8))))),
+        (21, "one master, backwards at the most slaves", grid(1, 16, *((0, slave) for slave in reversed(range(16))))),
+        (21, "the largest board backwards", reordered(stored("largest.txt"), lambda shares: shares[::-1])),
+        (21, "the largest board by slave, then master", reordered(stored("largest.txt"), by_slave)),
+        (21, "the longest text by slave, then master", reordered(longest(), by_slave)),
+        (21, "the largest board as text, slave 10 before slave 2", reordered(stored("largest.txt"), sorted)),
+        (21, "the first two share lines of the largest board the other way round", reordered(
+            stored("largest.txt"), lambda shares: [shares[1], shares[0], *shares[2:]])),
+        (21, "the last two share lines of the largest board the other way round", reordered(
+            stored("largest.txt"), lambda shares: [*shares[:-2], shares[-1], shares[-2]])),
+        (21, "the first share line of the largest board at the end", reordered(
+            stored("largest.txt"), lambda shares: [*shares[1:], shares[0]])),
+        (21, "the last share line of the largest board in front", reordered(
+            stored("largest.txt"), lambda shares: [shares[-1], *shares[:-1]])),
+        (21, "a board of a usual size, with a pair that a planner added at the end", stored("crane.txt") + text("share,2,0,1")),
+        (21, "a board of a usual size, with a pair of its last master added at the end", stored("crane.txt") + text("share,4,0,1")),
+        (21, "a native card, its masters wide enough", text(MASTER, "master,8,8", NATIVE, "share,1,0,1", "share,0,0,1")),
+        (21, "a narrow master at the slave with bus sizing, behind a wide one at the native card", text(
+            "master,2,8", MASTER, NATIVE, "slave,0,8,4,8,1,0,0", "share,1,0,1", "share,0,1,1")),
+    ]),
     ("Several faults in one line: the lowest number", [
         (1, "1 before 2: a slave before any master, with a bad number", text("slave,4096,4096,2,8,1,0,x", MASTER)),
         (1, "1 before 3: a bad number behind a value outside its list", small(master="master,3,x")),
@@ -339,6 +409,11 @@ LIST = [
         (1, "1 before 3: six numbers, a width of 3", small(slave="slave,4096,4096,3,8,1,0")),
         (1, "1 before 19: shares with a leading zero", narrow("share,0,0,02")),
         (1, "1 before 19: no line feed", narrow("share,0,0,2")[:-1]),
+        (1, "1 before 21: 0 twice, in a master's number", grid(2, 1, (1, 0)) + text("share,00,0,1")),
+        (1, "1 before 21: 0 twice, in a slave's number", grid(1, 2, (0, 1)) + text("share,0,00,1")),
+        (1, "1 before 21: shares with a leading zero", grid(2, 1, (1, 0)) + text("share,0,0,01")),
+        (1, "1 before 21: a field too few", grid(2, 1, (1, 0)) + text("share,0,0")),
+        (1, "1 before 21: no line feed", grid(2, 1, (1, 0), (0, 0))[:-1]),
         (2, "2 before 3: a ninth master, with a width of 0", text(*[MASTER] * 8, "master,0,8", SLAVE)),
         (2, "2 before 3: a seventeenth slave, with a native field of 2", unshared(*row(16)) + text("slave,4096,8,2,8,1,0,2")),
         (2, "2 before 4 to 6: a seventeenth slave, with each of them", slaves(*row(16), (4, 65536))),
@@ -350,12 +425,25 @@ LIST = [
         (3, "3 before 7: shares of 0 for no master", small(share="share,1,0,0")),
         (3, "3 before 19: shares of 0", narrow("share,0,0,0")),
         (3, "3 before 19: shares of one too many", narrow("share,0,0,101")),
+        (3, "3 before 21: shares of 0", grid(2, 1, (1, 0)) + text("share,0,0,0")),
+        (3, "3 before 21: shares of one too many, of one master", grid(1, 2, (0, 1)) + text("share,0,0,101")),
         (4, "4 before 5: half of it is the earlier slave's", slaves((4096, 4096), (6144, 4096))),
         (4, "4 before 6: the total passed, no byte in common", slaves((0, 65536), (98304, 65536))),
         (5, "5 before 6: the total passed, a byte in common", slaves((0, 65536), (0, 8))),
         (7, "7 before 19: a master that is the narrow one when it is cut to 32 bits", narrow("share,4294967296,0,2")),
         (7, "7 before 19: a narrow master at a slave that is the native one when it is cut", narrow("share,0,4294967296,2")),
         (7, "7 before 19: a narrow master, and a slave one above the native one", narrow("share,0,1,2")),
+        (7, "7 before 21: a pair twice, with another slave between", grid(1, 2, (0, 0), (0, 1), (0, 0))),
+        (7, "7 before 21: a pair twice, with other shares and another master between", grid(2, 1, (0, 0), (1, 0), (0, 0))),
+        (7, "7 before 21: a pair twice, the first of the largest board at its end", stored("largest.txt") + text("share,0,0,1")),
+        (7, "7 before 21: no slave of that number, and a lower master", grid(2, 2, (0, 0), (1, 1)) + text("share,0,2,1")),
+        (7, "7 before 21: a slave that is 0 when it is cut to 32 bits, and a lower master", grid(
+            2, 1, (1, 0)) + text("share,0,4294967296,1")),
+        (7, "7 and not 21: a master that is 0 when it is cut to 32 bits, no lower one", grid(
+            2, 1, (1, 0)) + text("share,4294967296,0,1")),
+        (19, "19 before 21: a narrow master behind wider ones", narrow("share,1,0,1", "share,2,0,1", "share,0,0,1")),
+        (19, "19 before 21: a narrow master's native slave behind its other slave", text(
+            "master,2,8", NATIVE, "slave,0,8,4,8,1,0,0", "share,0,1,1", "share,0,0,1")),
     ]),
     ("Several lines with a fault: the first of them", [
         (3, "a width of 3, then another word", text("master,3,8", "bus,4,8")),
@@ -364,10 +452,23 @@ LIST = [
         (7, "a pair twice, then a line without its line feed", small() + text(SHARE) + "share,0"),
         (3, "a native field of 2, then a share line of a narrower master", narrow("share,0,0,2", native=2)),
         (7, "a pair twice, then a master narrower than the native slave", narrow("share,1,0,1", "share,1,0,1", "share,0,0,1")),
-        (19, "a master narrower than the native slave, then a pair twice", narrow("share,1,0,1", "share,0,0,1", "share,1,0,1")),
+        (19, "a master narrower than the native slave, then a pair twice", narrow("share,0,0,1", "share,1,0,1", "share,1,0,1")),
         (19, "a master narrower than the native slave, and the same line again", narrow("share,0,0,1", "share,0,0,1")),
         (19, "a master narrower than the native slave, then shares of 0", narrow("share,0,0,1", "share,1,0,0")),
         (19, "a master narrower than the native slave, then a line without its line feed", narrow("share,0,0,1") + "share,1"),
+        (21, "a share line out of order, then an empty line", grid(2, 1, (1, 0), (0, 0)) + "\n"),
+        (21, "a share line out of order, then a line without its line feed", grid(2, 2, (1, 0), (0, 0)) + "share,1,1,1"),
+        (21, "a share line out of order, then a master behind shares", grid(2, 1, (1, 0), (0, 0)) + text(MASTER)),
+        (21, "a share line out of order, then shares of 0", grid(2, 2, (1, 0), (0, 0)) + text("share,1,1,0")),
+        (21, "a share line out of order, and the same line again", grid(2, 1, (1, 0), (0, 0), (0, 0))),
+        (21, "a share line out of order, then the pair above it again", grid(2, 1, (1, 0), (0, 0), (1, 0))),
+        (21, "a share line out of order, then a master narrower than the native slave", narrow(
+            "share,2,0,1", "share,1,0,1", "share,0,0,1")),
+        (1, "an empty line, then a share line out of order", grid(2, 1, (1, 0)) + text("", "share,0,0,1")),
+        (3, "shares of 0, then a share line that is before them", grid(1, 2) + text("share,0,1,0", "share,0,0,1")),
+        (7, "a pair twice, then a share line out of order", grid(2, 1, (1, 0), (1, 0), (0, 0))),
+        (19, "a master narrower than the native slave, then a share line out of order", narrow(
+            "share,0,0,1", "share,2,0,1", "share,1,0,1")),
         (3, "a width of 3, then the end without a slave", text("master,3,8")),
         (1, "a line without its line feed, then the end without a slave", MASTER),
     ]),
@@ -390,9 +491,13 @@ LIST = [
         (7, "its only line names no slave", text(MASTER, MASTER, SLAVE, SHARE, "share,1,1,2")),
         (7, "its only line has its number when it is cut to 32 bits", text(MASTER, MASTER, SLAVE, SHARE, "share,4294967297,0,2")),
         (7, "a line of the other master instead, which has one for the pair", text(MASTER, MASTER, SLAVE, SHARE, SHARE)),
-        (19, "its only line joins it to a native slave wider than it", narrow("share,1,0,1", "share,2,0,1", "share,0,0,1")),
+        (19, "its only line joins it to a native slave wider than it", narrow_last("share,0,0,1", "share,1,0,1", "share,2,0,1")),
         (19, "a line of a master narrower than the native slave, and none of the last master", narrow(
-            "share,1,0,1", "share,0,0,1")),
+            "share,0,0,1", "share,1,0,1")),
+        (21, "share lines of two others, the other way round", grid(3, 1, (1, 0), (0, 0))),
+        (21, "share lines of another, the other way round", grid(2, 2, (0, 1), (0, 0))),
+        (21, "the first of the most, and the second at two slaves the other way round", grid(
+            8, 2, (1, 1), (1, 0), *((master, 0) for master in range(2, 8)))),
     ]),
 ]
 
@@ -408,6 +513,11 @@ def written(records):
     return b"".join(b"%d\n" % len(description) + description for description in texts)
 
 
+def answer(number, description):
+    """What is answered to a record: its number and, where it is taken, the writer's text, which is its own."""
+    return b"read,%d\n" % number + (description.encode("latin-1") if number == 0 else b"")
+
+
 def answered():
     """The numbers of the stored answers, each of which begins with a line read,N."""
     lines = ANSWERS.read_bytes().splitlines()
@@ -421,9 +531,11 @@ def complaints(records):
     numbers = answered()
     if len(numbers) != len(records):
         yield f"{len(numbers)} stored answers to {len(records)} records"
-    for (number, reason, _), answer in zip(records, numbers):
-        if answer != number:
-            yield f"the stored answer is {answer}, the list's {number}, for {reason}"
+    for (number, reason, _), found in zip(records, numbers):
+        if found != number:
+            yield f"the stored answer is {found}, the list's {number}, for {reason}"
+    if ANSWERS.read_bytes() != b"".join(answer(number, description) for number, _, description in records):
+        yield "the stored answers are not the list's numbers, with its own text behind each 0"
 
 
 def main(arguments):
