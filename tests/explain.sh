@@ -95,11 +95,11 @@ unshared "master,4,8\n$slave\n" 0
 unshared "$masters$slave\n" 0
 unshared "$masters$slave\nshare,1,0,1\nshare,2,0,1\nshare,3,0,1\n" 0
 unshared "$masters$slave\nshare,0,0,1\nshare,2,0,1\nshare,3,0,1\n" 1
-unshared "$masters$slave\nshare,3,0,1\nshare,0,0,1\nshare,1,0,1\n" 2
+unshared "$masters$slave\nshare,0,0,1\nshare,1,0,1\nshare,3,0,1\n" 2
 unshared "$masters$slave\nshare,0,0,1\nshare,1,0,1\nshare,2,0,100\n" 3
-unshared "$masters$slave\nshare,3,0,1\nshare,0,0,1\n" 1
-unshared "$masters$slave\nshare,2,0,1\nshare,1,0,1\n" 0
-unshared "$masters$slave\nshare,1,0,1\nshare,0,0,1\n" 2
+unshared "$masters$slave\nshare,0,0,1\nshare,3,0,1\n" 1
+unshared "$masters$slave\nshare,1,0,1\nshare,2,0,1\n" 0
+unshared "$masters$slave\nshare,0,0,1\nshare,1,0,1\n" 2
 unshared "$masters$slave\nslave,8,8,1,1,0,0,0\nshare,0,0,1\nshare,0,1,1\nshare,1,1,1\nshare,3,1,1\n" 2
 unshared "master,4,8\n$masters$slave\nshare,0,0,1\nshare,1,0,1\nshare,2,0,1\nshare,3,0,1\n" 4
 
@@ -127,21 +127,166 @@ refused "$masters$slave\nshare,0,0,1" 1 "line 6: refusal 1: $line"
 refused "master,4,8\n$slave\n$(printf '%08161d' 0)\n" 1 'refusal 1: text over 8192 bytes'
 refused "master,4,8\n$slave\n$(printf '%08160d' 0)\n" 1 "line 3: refusal 1: $line"
 
+# The first share line out of order is charged (rule 7.21): the board, a format of printf, and the line.
+order='share line out of order: by master, then slave'
+disordered() {
+    refused "$1" 21 "line $2: refusal 21: $order"
+}
+
+# The words as they are printed, and no line of a script carried out: on this board card 1 stands before card 0.
+printf 'master,4,8\nmaster,2,1\n%s\nslave,8,8,1,1,0,0,0\nshare,0,1,1\nshare,0,0,1\nshare,1,0,1\n' "$slave" > order.txt
+try table order.txt 'refused,21' 'table: line 6: refusal 21: share line out of order: by master, then slave'
+try table order.txt 'refused,21' 'table: line 6: refusal 21: share line out of order: by master, then slave' --
+try table script.txt 'file,order.txt
+refused,21' 'table: order.txt: line 6: refusal 21: share line out of order: by master, then slave' order.txt
+printf 'reset\nwait,0,0\n' > reset.txt
+try simulate reset.txt 'refused,21' 'simulate: order.txt: line 6: refusal 21: share line out of order: by master, then slave' \
+    order.txt
+
+# By master: of neighbours, of masters further apart, behind lines in order, before lines in order, whatever the shares.
+disordered "$masters$slave\nshare,1,0,1\nshare,0,0,1\nshare,2,0,1\nshare,3,0,1\n" 7
+disordered "$masters$slave\nshare,3,0,1\nshare,2,0,1\nshare,1,0,1\nshare,0,0,1\n" 7
+disordered "$masters$slave\nshare,3,0,1\nshare,0,0,1\nshare,1,0,1\nshare,2,0,1\n" 7
+disordered "$masters$slave\nshare,1,0,1\nshare,2,0,1\nshare,3,0,1\nshare,0,0,1\n" 9
+disordered "$masters$slave\nshare,0,0,1\nshare,2,0,1\nshare,1,0,1\nshare,3,0,1\n" 8
+disordered "$masters$slave\nshare,0,0,1\nshare,1,0,1\nshare,3,0,1\nshare,2,0,1\n" 9
+disordered "$masters$slave\nshare,0,0,1\nshare,1,0,100\nshare,3,0,1\nshare,2,0,100\n" 9
+disordered "$masters$slave\nshare,0,0,100\nshare,1,0,100\nshare,3,0,100\nshare,2,0,1\n" 9
+# By slave, for one master: numbers and not words are compared, so 2 and 9 come before 10, and 7 before 8.
+cards="$(seq 0 8 120 | sed 's/.*/slave,&,8,1,1,0,0,0/')\n"
+disordered "master,4,8\n${cards}share,0,1,1\nshare,0,0,1\n" 19
+disordered "master,4,8\n${cards}share,0,10,1\nshare,0,2,1\n" 19
+disordered "master,4,8\n${cards}share,0,10,1\nshare,0,9,1\n" 19
+disordered "master,4,8\n${cards}share,0,8,1\nshare,0,7,1\n" 19
+disordered "master,4,8\n${cards}share,0,15,1\nshare,0,0,1\n" 19
+disordered "master,4,8\n${cards}share,0,15,1\nshare,0,1,1\n" 19
+disordered "master,4,8\n${cards}share,0,1,1\nshare,0,2,1\nshare,0,11,1\nshare,0,3,1\n" 21
+# The master counts first: a lower master is charged whichever its slave is. For the last master too its slaves count.
+two="master,4,8\nmaster,2,1\n$cards"
+disordered "${two}share,0,0,1\nshare,1,0,1\nshare,0,1,1\n" 21
+disordered "${two}share,0,0,1\nshare,1,0,1\nshare,0,15,1\n" 21
+disordered "${two}share,1,0,1\nshare,0,15,1\n" 20
+disordered "${two}share,1,1,1\nshare,0,1,1\n" 20
+disordered "${two}share,1,1,1\nshare,0,0,1\n" 20
+disordered "${two}share,0,0,1\nshare,1,2,1\nshare,1,1,1\n" 21
+disordered "${two}share,0,3,1\nshare,1,2,1\nshare,1,1,1\n" 21
+disordered "${two}share,0,0,1\nshare,1,15,1\nshare,1,14,1\n" 21
+
+# The largest board has 24 lines before its share lines, 16 of each master: what a command makes of the share lines.
+arranged() {
+    sed 24q "$largest"
+    sed 1,24d "$largest" | "$@"
+}
+# A share line is exchanged with the next one: the second of the two places is charged.
+for number in 1 2 8 9 10 15 16 17 32 64 111 112 113 126 127; do
+    disordered "$(arranged sed "$number{h;d;};$((number + 1))G")\n" $((25 + number))
+done
+# The first line is put last, the last line first; all stand backwards, by slave and then master, and by master and then the
+# slave's word.
+disordered "$(arranged sed '1{h;d;};128G')\n" 152
+disordered "$(sed 24q "$largest" && tail -n 1 "$largest" && sed '1,24d;152d' "$largest")\n" 26
+disordered "$(arranged sort -t , -k 2,2nr -k 3,3nr)\n" 26
+disordered "$(arranged sort -t , -k 3,3n -k 2,2n)\n" 33
+disordered "$(arranged env LC_ALL=C sort -t , -k 2,2 -k 3,3)\n" 33
+
+# In that line 1, 3, 7 and 19 come first (rule 8.2). A pair that has a line already is refused with 7, also where it comes before
+# the pair on the line above. With 2 such a line cannot be refused: where a share line is above it, so is a slave line.
+behind="line 7: refusal"
+refused "$masters$slave\nshare,1,0,1\nshare,0,0,01\n" 1 "$behind 1: $line"
+refused "$masters$slave\nshare,1,0,1\nshare,0,0\n" 1 "$behind 1: $line"
+refused "$masters$slave\nshare,1,0,1\nshare,0,0,1" 1 "$behind 1: $line"
+refused "$masters$slave\nshare,1,0,1\nshare,0,0,0\n" 3 "$behind 3: value outside its list or range"
+refused "$masters$slave\nshare,1,0,1\nshare,0,0,101\n" 3 "$behind 3: value outside its list or range"
+refused "$masters$slave\nshare,1,0,1\nshare,0,1,1\n" 7 "$behind 7: $share"
+refused "$masters$slave\nshare,1,0,1\nshare,0,4294967296,1\n" 7 "$behind 7: $share"
+refused "$masters$slave\nshare,1,0,1\nshare,1,0,1\n" 7 "$behind 7: $share"
+refused "$masters$slave\nshare,1,0,1\nshare,1,0,2\nshare,0,0,1\n" 7 "$behind 7: $share"
+refused "$masters$slave\nshare,0,0,1\nshare,1,0,1\nshare,0,0,1\n" 7 "line 8: refusal 7: $share"
+refused "$masters$slave\nshare,0,0,1\nshare,3,0,1\nshare,0,0,2\n" 7 "line 8: refusal 7: $share"
+refused "master,4,8\n${cards}share,0,2,1\nshare,0,10,1\nshare,0,2,1\n" 7 "line 20: refusal 7: $share"
+refused "master,1,8\nmaster,2,8\n$native\nshare,1,0,1\nshare,0,0,1\n" 19 "line 5: refusal 19: $narrow"
+refused "master,2,8\nmaster,1,8\nmaster,2,8\n$native\nshare,0,0,1\nshare,2,0,1\nshare,1,0,1\n" 19 "line 7: refusal 19: $narrow"
+refused "master,1,8\nslave,8,8,1,1,0,0,0\n$native\nslave,16,8,1,1,0,0,0\nshare,0,2,1\nshare,0,1,1\n" 19 \
+    "line 6: refusal 19: $narrow"
+disordered "master,1,8\nmaster,2,8\n$native\nslave,8,8,1,1,0,0,0\nshare,1,0,1\nshare,0,1,1\nshare,0,0,1\n" 6
+disordered "master,1,8\nmaster,2,8\n$native\nslave,8,8,1,1,0,0,0\nshare,1,1,1\nshare,1,0,1\n" 6
+
+# The first line that is refused answers; what is missing at the end comes behind (rule 8.2). That can be 20 alone: a text with a
+# share line behind another has a master and a slave.
+disordered "$masters$slave\nshare,2,0,1\nshare,1,0,1\n" 7
+disordered "$masters$slave\nshare,1,0,1\nshare,0,0,1\n" 7
+disordered "$masters$slave\nshare,3,0,1\nshare,0,0,1\n" 7
+disordered "$masters$slave\nshare,1,0,1\nshare,0,0,1\nshare,2,0,1\n" 7
+disordered "$(grep -v '^share,7,' "$largest" | sed '26{h;d;};27{G;}')\n" 27
+disordered "$masters$slave\nshare,1,0,1\nshare,0,0,1\nx\n" 7
+disordered "$masters$slave\nshare,1,0,1\nshare,0,0,1\nshare,2,0,1" 7
+disordered "$masters$slave\nshare,1,0,1\nshare,0,0,1\n$slave\n" 7
+disordered "$masters$slave\nshare,1,0,1\nshare,0,0,1\nshare,2,0,0\n" 7
+disordered "$masters$slave\nshare,1,0,1\nshare,0,0,1\nshare,0,0,1\n" 7
+disordered "$masters$slave\nshare,1,0,1\nshare,0,0,1\nshare,4,0,1\n" 7
+disordered "master,2,8\nmaster,2,8\nmaster,1,8\n$native\nshare,1,0,1\nshare,0,0,1\nshare,2,0,1\n" 6
+refused "$masters$slave\nshare,1,0,1\nx\nshare,0,0,1\n" 1 "$behind 1: $line"
+refused "$masters$slave\nshare,1,0,1\n$slave\nshare,0,0,1\n" 2 "$behind 2: line kind out of order or over the count"
+refused "master,4,8\nshare,1,0,1\nshare,0,0,1\n$slave\n" 2 'line 2: refusal 2: line kind out of order or over the count'
+refused "$masters$slave\nshare,1,0,1\nshare,0,0,1\n$(printf '%08193d' 0)\n" 1 'refusal 1: text over 8192 bytes'
+
 # A board that is taken is not explained.
 printf 'master,4,8\n%s\nshare,0,0,1\n' "$slave" > board.txt
 try table board.txt 'master,slave,wait,serve
 0,0,0,8' ''
 try simulate script.txt '' '' board.txt
 
-# So is one with a slave that has no share line (rule 1.8), and a line for each master, the last master's first.
+# So is one with a slave that has no share line (rule 1.8), and a line for each master.
 # shellcheck disable=SC2059
-printf "$masters$slave\nslave,8,8,1,1,0,0,0\nshare,3,1,1\nshare,2,1,1\nshare,1,1,1\nshare,0,1,1\n" > connected.txt
+printf "$masters$slave\nslave,8,8,1,1,0,0,0\nshare,0,1,1\nshare,1,1,1\nshare,2,1,1\nshare,3,1,1\n" > connected.txt
 try table connected.txt 'master,slave,wait,serve
 0,1,14,8
 1,1,20,2
 2,1,14,8
 3,1,18,4' ''
 try simulate script.txt '' '' connected.txt
+
+# Share lines in order (rule 1.4): a lower slave of a higher master comes behind, 10 behind 2, and the shares do not count. Both
+# programs, a board and its pairs, of which no other master requests: MASTER,SLAVE,WAIT,SERVE.
+ordered() {
+    # shellcheck disable=SC2059
+    printf "$1" > ordered.txt
+    try table ordered.txt "master,slave,wait,serve
+$2" ''
+    try table script.txt "file,ordered.txt
+master,slave,wait,serve
+$2" '' ordered.txt
+    try simulate script.txt '' '' ordered.txt
+}
+
+ordered "${two}share,0,1,1\nshare,1,0,1\n" '0,1,0,8
+1,0,0,2'
+ordered "${two}share,0,15,1\nshare,1,0,1\n" '0,15,0,8
+1,0,0,2'
+ordered "${two}share,0,0,100\nshare,0,2,1\nshare,0,10,99\nshare,1,1,50\nshare,1,9,2\nshare,1,11,1\n" '0,0,0,8
+0,2,0,8
+0,10,0,8
+1,1,0,2
+1,9,0,2
+1,11,0,2'
+ordered "master,4,8\n${cards}$(seq 0 15 | sed 's/.*/share,0,&,1\\n/' | tr -d '\n')" "$(seq 0 15 | sed 's/.*/0,&,0,8/')"
+
+# Of several files one is refused with 21, and the others are printed as by themselves.
+figures='master,slave,wait,serve
+0,0,0,8'
+try table script.txt "file,board.txt
+$figures
+file,order.txt
+refused,21
+file,board.txt
+$figures" "table: order.txt: line 6: refusal 21: $order" board.txt order.txt board.txt
+try table script.txt "file,order.txt
+refused,21
+file,./order.txt
+refused,21
+file,board.txt
+$figures" "table: order.txt: line 6: refusal 21: $order
+table: ./order.txt: line 6: refusal 21: $order" order.txt ./order.txt board.txt
 
 # A script, a format of printf, on the board of docs/RULES.md, section 9: what is printed, and what is explained.
 printf 'master,4,8\nmaster,2,1\nslave,4096,4096,2,8,1,0,0\nshare,0,0,2\nshare,1,0,3\n' > fabric.txt
@@ -280,6 +425,30 @@ reset,0' "simulate: script line 2: refusal 7: $share"
 called 'count,1,1\nshare,0,0,0\nshare,1,0,0\nreset\n' reset,20 \
     'simulate: script line 4: refusal 20: master 0 has no share line'
 
+# Lines that overwrite the board are no lines of a description: in whichever order they give shares, they are not refused with 21.
+called 'share,1,0,0\nshare,0,0,0\nshare,1,0,3\nshare,0,0,2\nreset\nclock,1\n' "reset,0
+clock,0,0
+$idle" ''
+called 'reset\nshare,1,0,3\nshare,0,0,2\nclock,1\npost,0,read,4096,15,1,-\npost,1,read,4096,3,1,-\n' "reset,0
+clock,0,0
+$idle
+post,0
+post,0" ''
+called 'slave,1,0,8,2,1,0,0,0\ncount,2,2\nlend,memory,4104\nshare,1,1,1\nshare,1,0,1\nshare,0,1,1\nshare,0,0,1\nreset\nclock,1\n'"\
+share,0,0,0\nshare,1,1,0\nreset\nclock,1\npost,0,read,0,15,1,-\nwait,0,0\n" "reset,0
+clock,0,0
+$idle
+slave,1,0,0,0,0,0,0
+reset,0
+clock,0,0
+$idle
+slave,1,0,0,0,0,0,0
+post,0
+wait,0,6,32" ''
+unshared_calls 'share,1,0,0\nshare,1,0,3\nshare,0,0,0\nreset\n' reset,20 5:0
+called 'share,1,0,1\nshare,0,0,101\nreset\n' reset,3 'simulate: script line 3: refusal 3: value outside its list or range'
+called 'share,1,0,1\nshare,0,1,1\nreset\n' reset,7 "simulate: script line 3: refusal 7: $share"
+
 # What the lines of the board are refused with comes before 20, and 2 too (rule 8.5).
 called 'share,0,0,0\nshare,1,0,0\ncount,2,0\nreset\n' reset,2 \
     'simulate: script line 4: refusal 2: at the end, no master or no slave; line kind out of order or over the count'
@@ -400,7 +569,8 @@ Prints master,slave,wait,serve of every connected pair, or refused, and a number
 Of each BOARD that is named, a line file,NAME comes first. The numbers:
 $meanings
   19 $narrow
-  20 a master has no share line"
+  20 a master has no share line
+  21 $order"
 try table board.txt "$usage" '' --help
 try table board.txt "$usage" '' -h
 try table board.txt "table (Zelgwy) $version" '' --version
@@ -408,8 +578,6 @@ try table board.txt 'master,slave,wait,serve
 0,0,0,8' '' --
 # With names, standard input is another board, and is not read. The first word alone can be an option, and help and version stand
 # by themselves: no file is read behind them.
-figures='master,slave,wait,serve
-0,0,0,8'
 absent='No such file or directory'
 try table fabric.txt "file,board.txt
 $figures" '' board.txt
@@ -472,7 +640,8 @@ $meanings
   17 burst passes the slave's end
   18 data not beats times width bytes
   19 $narrow
-  20 a master has no share line"
+  20 a master has no share line
+  21 $order"
 try simulate script.txt "$help" '' --help
 try simulate script.txt "$help" '' -h
 try simulate script.txt "simulate (Zelgwy) $version" '' --version

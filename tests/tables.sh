@@ -147,10 +147,10 @@ board write.txt "$(sed 's/,1,0,0$/,1,5,0/' document01.txt)\n" "$head
 board single.txt 'master,4,8\nslave,0,8,1,1,0,0,0\nshare,0,0,1\n' "$head
 0,0,0,8"
 # 3 clocks an access, a word of the masters 6 and 7 is two accesses: turns 3, 3 + 192, 2 * 3 + 6, 3 * 3 + 96, 4 * 3 + 12,
-# 5 * 3 + 48, 6 * 6 + 48, 99 * 6 + 6, together 1086. The share lines stand in no order.
+# 5 * 3 + 48, 6 * 6 + 48, 99 * 6 + 6, together 1086.
 board masters.txt "master,1,1\nmaster,1,64\nmaster,2,2\nmaster,2,32\nmaster,4,4\nmaster,4,16\nmaster,8,8\nmaster,8,1\n\
-slave,65536,1024,4,8,0,2,0\nshare,7,0,100\nshare,0,0,1\nshare,6,0,7\nshare,1,0,2\nshare,5,0,6\nshare,2,0,3\nshare,4,0,5\n\
-share,3,0,4\n" "$head
+slave,65536,1024,4,8,0,2,0\nshare,0,0,1\nshare,1,0,2\nshare,2,0,3\nshare,3,0,4\nshare,4,0,5\nshare,5,0,6\nshare,6,0,7\n\
+share,7,0,100\n" "$head
 0,0,1083,3
 1,0,891,192
 2,0,1074,6
@@ -163,7 +163,7 @@ share,3,0,4\n" "$head
 # master 0 is 8, 4, 2 or 1 accesses by the card's width: turns of 17 words and of 3 * v.
 board cards.txt "master,8,16\nmaster,1,1\n$(awk 'BEGIN {
     for (k = 0; k < 16; k++) printf "slave,%d,4096,%d,16,%d,%d,0\\n", 4096 * k, 2 ^ (k % 4), k, 15 - k
-    for (k = 0; k < 16; k++) printf "share,0,%d,2\\nshare,1,%d,3\\n", k, k
+    for (k = 0; k < 32; k++) printf "share,%d,%d,%d\\n", k / 16, k % 16, k < 16 ? 2 : 3
 }')" "$head
 0,0,48,2048
 0,1,45,960
@@ -198,8 +198,8 @@ board cards.txt "master,8,16\nmaster,1,1\n$(awk 'BEGIN {
 1,14,510,15
 1,15,272,16"
 # A native card: each word is one access of 3 clocks, turns 3 + 12, 6 and 3 * 3 + 3. Card 0 has no share line.
-board native.txt "master,8,4\nmaster,4,2\nmaster,2,1\nslave,64,64,8,8,9,9,0\nslave,0,64,2,4,1,2,1\nshare,2,1,4\nshare,1,1,1\n\
-share,0,1,2\n" "$head
+board native.txt "master,8,4\nmaster,4,2\nmaster,2,1\nslave,64,64,8,8,9,9,0\nslave,0,64,2,4,1,2,1\nshare,0,1,2\nshare,1,1,1\n\
+share,2,1,4\n" "$head
 0,1,18,12
 1,1,27,6
 2,1,21,3"
@@ -225,8 +225,17 @@ board share.txt "$(sed 's/^share,1,0,3/share,0,0,3/' document01.txt)\n" refused,
 board narrow.txt "$(sed 's/^master,2,1/master,1,1/' encoder.txt)\n" refused,19 \
     'line 8: refusal 19: master narrower than native slave'
 board unshared.txt "$(grep -v '^share,4,' crane.txt)\n" refused,20 'refusal 20: master 4 has no share line'
+# Share lines by slave, then master: behind 2 masters and 16 cards the third is the first out of order. By master, then the slave's
+# word: 0, 1, 10, .. 15, 2. Backwards, and a master has none: what is missing at the end comes behind.
+unordered='share line out of order: by master, then slave'
+board byslave.txt "$(grep -v '^share,' cards.txt && grep '^share,' cards.txt | sort -t , -k 3,3n -k 2,2n)\n" refused,21 \
+    "line 21: refusal 21: $unordered"
+board byword.txt "$(grep -v '^share,' cards.txt && grep '^share,' cards.txt | sort -t , -k 2,2 -k 3,3)\n" refused,21 \
+    "line 27: refusal 21: $unordered"
+board backwards.txt "$(sed '/^share,/d' unshared.txt && sed '/^share,/!d' unshared.txt | sort -r)\n" refused,21 \
+    "line 13: refusal 21: $unordered"
 refused='text.txt old.txt unended.txt full.txt long.txt order.txt empty.txt value.txt base.txt overlap.txt spans.txt share.txt
-narrow.txt unshared.txt'
+narrow.txt unshared.txt byslave.txt byword.txt backwards.txt'
 boards="$taken $refused"
 holds 'full.txt has 8,192 bytes' "$(wc -c < full.txt)" -eq 8192
 holds 'long.txt has 8,193 bytes' "$(wc -c < long.txt)" -eq 8193
@@ -301,6 +310,33 @@ for waits in 255,0 0,255 254,255 255,254; do
     sed "s/,255,255,/,$waits,/" largest.txt > "$waits/largest.txt"
 done
 try 255,0/largest.txt 0,255/largest.txt 254,255/largest.txt 255,254/largest.txt largest.txt
+
+# Each share line exchanged with the next one, of every board that is taken: the lower line is charged, and the tables of the
+# boards among them are printed.
+for name in $taken; do
+    awk -v name="$name" -v said="$unordered" '
+        { line[NR] = $0 }
+        /^share,/ && !first { first = NR }
+        END {
+            for (k = first + 1; k <= NR; k++) {
+                file = k "," name
+                for (i = 1; i <= NR; i++) print line[i == k ? k - 1 : i == k - 1 ? k : i] > file
+                print "refused,21" > ("../pages/" file)
+                print "line " k ": refusal 21: " said > ("../said/" file)
+                close(file)
+                close("../pages/" file)
+                close("../said/" file)
+            }
+        }
+    ' "$name"
+done
+holds 'two lines are exchanged' "$(sed -n 4,5p 5,document01.txt | tr '\n' ' ')" = 'share,1,0,3 share,0,0,2 '
+holds 'there are 185 such files' "$(printf '%s\n' *,*.txt | wc -l)" -eq 185
+# shellcheck disable=SC2086
+try document01.txt ./*,*.txt $taken
+for name in *,document01.txt *,crane.txt *,native.txt; do
+    try encoder.txt "$name" document01.txt
+done
 
 # Variants of a board, each with its table: where an access takes v clocks, the turns are 2 * v + 16 * v and 3 * v.
 awk '
@@ -504,12 +540,18 @@ master,slave,wait,serve
 file,unshared.txt
 refused,20
 table: unshared.txt: refusal 20: master 4 has no share line
+file,byslave.txt
+refused,21
+table: byslave.txt: line 21: refusal 21: share line out of order: by master, then slave
+file,single.txt
+master,slave,wait,serve
+0,0,0,8
 END
 : > ../error.expected
 : > ../error
 status=0
-"$table" base.txt document01.txt absent.txt folder read.txt unshared.txt > ../output 2>&1 || status=$?
-same base.txt document01.txt absent.txt folder read.txt unshared.txt '2>&1'
+"$table" base.txt document01.txt absent.txt folder read.txt unshared.txt byslave.txt single.txt > ../output 2>&1 || status=$?
+same base.txt document01.txt absent.txt folder read.txt unshared.txt byslave.txt single.txt '2>&1'
 
 # The line of a file is written before the file is read: where standard output goes to the file, it finds that line there.
 printf 'file,own.txt\nrefused,1\n' > ../output.expected
