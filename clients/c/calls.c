@@ -15,8 +15,8 @@ static const char description[] =
     "slave,4096,4096,2,8,1,0,0\n"
     "slave,0,64,4,1,0,3,0\n"
     "share,0,0,2\n"
-    "share,1,0,3\n"
-    "share,0,1,1\n";
+    "share,0,1,1\n"
+    "share,1,0,3\n";
 
 #define MEMORY_BYTES (4096 + 64)
 
@@ -247,14 +247,23 @@ static void readings(void)
 #define MASTERS "master,4,8\nmaster,2,1\nmaster,8,4\n"
 #define SLAVE "slave,0,64,2,1,0,0,0\n"
 
+/* A text, what it is refused with, and the line that is charged. */
+struct judged_text {
+    const char *text;
+    uint32_t due;
+    size_t line;
+};
+
+static void refuses_texts(const char *name, const struct judged_text *texts, size_t count)
+{
+    for (size_t i = 0; i < count; i++)
+        refuses_text(name, texts[i].text, strlen(texts[i].text), texts[i].due, texts[i].line);
+}
+
 /* Masters without a share line; what refuses a line of the text, or 2 at its end, comes first (rule 8.2). */
 static void unshared_texts(void)
 {
-    static const struct {
-        const char *text;
-        uint32_t due;
-        size_t line;
-    } earlier[] = {
+    static const struct judged_text earlier[] = {
         {MASTERS, FABRIC_BAD_ORDER, 0},
         {MASTERS SLAVE "share,0,0,1", FABRIC_BAD_TEXT, 5},
         {MASTERS SLAVE "share,0,0,1\n\n", FABRIC_BAD_TEXT, 6},
@@ -270,15 +279,45 @@ static void unshared_texts(void)
 
     names_master("no share line", MASTERS SLAVE, 0);
     names_master("a share line of the last master alone", MASTERS SLAVE "share,2,0,1\n", 0);
-    names_master("none of the first", MASTERS SLAVE "share,2,0,1\nshare,1,0,1\n", 0);
-    names_master("none of the second", MASTERS SLAVE "share,2,0,1\nshare,0,0,1\n", 1);
+    names_master("none of the first", MASTERS SLAVE "share,1,0,1\nshare,2,0,1\n", 0);
+    names_master("none of the second", MASTERS SLAVE "share,0,0,1\nshare,2,0,1\n", 1);
     names_master("a share line of the first master alone", MASTERS SLAVE "share,0,0,1\n", 1);
     names_master("none of the last", MASTERS SLAVE "share,0,0,1\nshare,1,0,100\n", 2);
     names_master("three share lines of two masters",
                  MASTERS SLAVE "slave,64,64,2,1,0,0,1\nshare,0,0,1\nshare,0,1,1\nshare,2,1,1\n", 1);
-    for (size_t i = 0; i < sizeof earlier / sizeof earlier[0]; i++)
-        refuses_text("what comes before a missing share line", earlier[i].text, strlen(earlier[i].text), earlier[i].due,
-                     earlier[i].line);
+    refuses_texts("what comes before a missing share line", earlier, sizeof earlier / sizeof earlier[0]);
+}
+
+#define TWO_SLAVES "slave,0,64,2,1,0,0,0\nslave,64,64,4,1,0,0,1\n"
+
+/*
+ * Share lines by master, then slave (rule 1.4). In a line that is out of order 1, 3, 7 and 19 come first, and 21 comes before what
+ * is wrong behind that line (rule 8.2). Master 1 is narrower than slave 1, which is native.
+ */
+static void unordered_texts(void)
+{
+    static const struct judged_text texts[] = {
+        {MASTERS TWO_SLAVES "share,0,1,1\nshare,1,0,1\nshare,2,0,1\n", FABRIC_TAKEN, 0},
+        {MASTERS TWO_SLAVES "share,0,0,1\nshare,0,1,9\nshare,1,0,1\nshare,2,0,1\nshare,2,1,1\n", FABRIC_TAKEN, 0},
+        {MASTERS TWO_SLAVES "share,0,1,1\nshare,0,0,1\nshare,1,0,1\nshare,2,0,1\n", FABRIC_SHARE_ORDER, 7},
+        {MASTERS TWO_SLAVES "share,0,0,1\nshare,1,0,1\nshare,0,1,1\nshare,2,0,1\n", FABRIC_SHARE_ORDER, 8},
+        {MASTERS TWO_SLAVES "share,0,0,1\nshare,2,0,1\nshare,1,0,1\n", FABRIC_SHARE_ORDER, 8},
+        {MASTERS TWO_SLAVES "share,1,0,1\nshare,0,1,1\nshare,2,0,1\n", FABRIC_SHARE_ORDER, 7},
+        {MASTERS TWO_SLAVES "share,2,1,1\nshare,2,0,1\nshare,1,0,1\nshare,0,0,1\n", FABRIC_SHARE_ORDER, 7},
+        {MASTERS TWO_SLAVES "share,1,0,1\nshare,0,0,1\n", FABRIC_SHARE_ORDER, 7},
+        {MASTERS TWO_SLAVES "share,1,0,1\nshare,0,0,1\nshare,0,0,1\n", FABRIC_SHARE_ORDER, 7},
+        {MASTERS TWO_SLAVES "share,1,0,1\nshare,0,0,1\nshare", FABRIC_SHARE_ORDER, 7},
+        {MASTERS TWO_SLAVES "share,1,0,1\nshare,0,0,1\n" SLAVE, FABRIC_SHARE_ORDER, 7},
+        {MASTERS TWO_SLAVES "share,1,0,1\nshare,0,0,1", FABRIC_BAD_TEXT, 7},
+        {MASTERS TWO_SLAVES "share,1,0,1\nshare,0,0\n", FABRIC_BAD_TEXT, 7},
+        {MASTERS TWO_SLAVES "share,1,0,1\nshare,0,0,0\n", FABRIC_BAD_VALUE, 7},
+        {MASTERS TWO_SLAVES "share,1,0,1\nshare,0,2,1\n", FABRIC_BAD_SHARE, 7},
+        {MASTERS TWO_SLAVES "share,1,0,1\nshare,1,0,1\n", FABRIC_BAD_SHARE, 7},
+        {MASTERS TWO_SLAVES "share,0,0,1\nshare,1,0,1\nshare,0,0,1\n", FABRIC_BAD_SHARE, 8},
+        {MASTERS TWO_SLAVES "share,2,0,1\nshare,1,1,1\n", FABRIC_TOO_NARROW, 7},
+    };
+
+    refuses_texts("the order of share lines", texts, sizeof texts / sizeof texts[0]);
 }
 
 /* The lowest master of so many that a set, bit m for master m, does not have; their count where it has all. */
@@ -291,21 +330,21 @@ static uint32_t lowest_without(uint32_t set, uint32_t count)
     return m;
 }
 
-/* A description of so many masters and two slaves, with a share line for each master of the set, in either order. */
-static void shared_text(char *text, uint32_t count, uint32_t set)
+/* A description of so many masters and two slaves, with a share line for each master of the set, in order or backwards. */
+static void shared_text(char *text, uint32_t count, uint32_t set, int backwards)
 {
     for (uint32_t m = 0; m < count; m++)
         text += sprintf(text, "master,4,8\n");
     text += sprintf(text, "slave,0,8,4,8,0,0,0\nslave,8,8,4,8,0,0,0\n");
     for (uint32_t i = 0; i < count; i++) {
-        uint32_t m = set % 2 == 0 ? i : count - 1 - i;
+        uint32_t m = backwards ? count - 1 - i : i;
 
         if ((set >> m & 1) != 0)
             text += sprintf(text, "share,%u,%u,1\n", (unsigned)m, (unsigned)((set >> 1 ^ m) & 1));
     }
 }
 
-/* Every set of masters that have a share line, of every count of masters. */
+/* Every set of masters that have a share line, of every count of masters. Of several lines backwards the second is charged. */
 static void shared_sets(void)
 {
     char text[512], name[64];
@@ -314,12 +353,15 @@ static void shared_sets(void)
         for (uint32_t set = 0; set < 1u << count; set++) {
             uint32_t lowest = lowest_without(set, count);
 
-            shared_text(text, count, set);
+            shared_text(text, count, set, 0);
             sprintf(name, "share lines of the masters %#x, of %u masters", (unsigned)set, (unsigned)count);
             if (lowest == count)
                 refuses_text(name, text, strlen(text), FABRIC_TAKEN, 0);
             else
                 names_master(name, text, lowest);
+            shared_text(text, count, set, 1);
+            if ((set & (set - 1)) != 0)
+                refuses_text(name, text, strlen(text), FABRIC_SHARE_ORDER, count + 4);
         }
     }
 }
@@ -475,6 +517,27 @@ static void unshared_boards(void)
     tried.board.shares[0][0] = 2;
     tried.board.master_count = 1;
     check_number("the second master is none of the board's", reset(&tried), FABRIC_TAKEN);
+}
+
+/*
+ * A board of numbers has no lines that could stand out of order: it is taken whichever pair got its shares first, and also where
+ * a lower master has the higher slave.
+ */
+static void unordered_boards(void)
+{
+    static const uint32_t masters[4] = {1, 1, 0, 0}, slaves[4] = {1, 0, 1, 0};
+
+    tried = fresh;
+    memset(tried.board.shares, 0, sizeof tried.board.shares);
+    for (size_t i = 0; i < 4; i++) {
+        tried.board.shares[masters[i]][slaves[i]] = 1;
+        check_number("shares set from the last pair on", reset(&tried), i < 2 ? FABRIC_NO_SHARE : FABRIC_TAKEN);
+    }
+    tried.board.shares[0][0] = tried.board.shares[1][1] = 0;
+    check_number("the lower master at the higher slave", reset(&tried), FABRIC_TAKEN);
+    check_number("a post there", post(&tried, 0, 0, 0, 15, 1, 0), FABRIC_TAKEN);
+    check_number("a clock there", clock_once(&tried), FABRIC_TAKEN);
+    check_number("a run of clocks there", run(&tried, 1), FABRIC_TAKEN);
 }
 
 /* More masters than have shares: the count alone decides whether a master without them is one of the board. */
@@ -743,11 +806,13 @@ int main(void)
 {
     readings();
     unshared_texts();
+    unordered_texts();
     shared_sets();
     board_read();
     boards();
     native_boards();
     unshared_boards();
+    unordered_boards();
     unshared_counts();
     states();
     posts();

@@ -76,6 +76,28 @@ static void unshared(void)
            NULL, 0);
 }
 
+/* A share line out of order: 3, 7 and 19 of that line come first, all else behind (rules 8.2, 8.4). */
+static void unordered(void)
+{
+    static const char lines[] = "master,4,8\nmaster,2,1\nslave,4096,4096,2,8,1,0,0\nshare,1,0,3\nshare,0,0,2\n";
+    static const char slaves[] = "master,4,8\nslave,0,8,4,1,0,0,0\nslave,8,8,4,1,0,0,0\nshare,0,1,1\nshare,0,0,1\n";
+    static const char third[] = "master,4,8\nmaster,4,8\nmaster,4,8\nslave,0,8,4,1,0,0,0\nshare,1,0,1\nshare,0,0,1\n";
+
+    expect("masters out of order", lines, 0, 0, 16, 21, NULL, 0);
+    expect("the other master of that board", lines, 1, 0, ROOM, 21, NULL, 0);
+    expect("slaves out of order", slaves, 0, 1, 16, 21, NULL, 0);
+    expect("order before output", lines, 0, 0, 0, 21, NULL, 0);
+    expect("order before master", lines, 2, 0, 16, 21, NULL, 0);
+    expect("order before slave", slaves, 0, 2, 16, 21, NULL, 0);
+    expect("order before no share line", third, 0, 0, 16, 21, NULL, 0);
+    expect("a share line's value before order", "master,4,8\nmaster,4,8\nslave,0,8,4,1,0,0,0\nshare,1,0,1\nshare,0,0,0\n", 0, 0,
+           16, 3, NULL, 0);
+    expect("no such pair before order", "master,4,8\nmaster,4,8\nslave,0,8,4,1,0,0,0\nshare,1,0,1\nshare,0,1,1\n", 0, 0, 16, 7,
+           NULL, 0);
+    expect("narrower master before order", "master,1,8\nmaster,4,8\nslave,0,8,2,1,0,0,1\nshare,1,0,1\nshare,0,0,1\n", 0, 0, 16,
+           19, NULL, 0);
+}
+
 int main(void)
 {
     static const uint8_t first[16] = {6, 0, 0, 0, 0, 0, 0, 0, 32};
@@ -101,6 +123,7 @@ int main(void)
     expect("master before slave", board, 2, 1, 16, 11, NULL, 0);
     expect("empty text", "", 0, 0, 16, 2, NULL, 0);
     unshared();
+    unordered();
     if (!failed)
         printf("slices: ok\n");
     return failed;

@@ -1,7 +1,8 @@
 #!/bin/sh
 # Builds the C clients against target/staticlib/libfabric_c.a (rt staticlib fabric_c) and tries them: the planning tool, also
-# against the model; what the calls do to what they are lent; the clock beside a simulator of its own, and mistakes of that
-# simulator, each against a rule of docs/RULES.md. What is lent is watched by valgrind where the machine has it.
+# against the model; what the calls do to what they are lent; texts with share lines in order and out of order; the clock beside a
+# simulator of its own, and mistakes of that simulator, each against a rule of docs/RULES.md. What is lent is watched by valgrind
+# where the machine has it.
 set -eu
 here=$(cd "$(dirname "$0")" && pwd)
 root=$(cd "$here/../.." && pwd)
@@ -24,6 +25,7 @@ compile() {
     gcc -std=c11 $flags "$@" -o "$work/plan$suffix" "$here/plan.c" "$library"
     gcc -std=c11 $flags "$@" -o "$work/slices$suffix" "$here/slices.c" "$library"
     gcc -std=c11 $flags "$@" -o "$work/calls$suffix" "$here/calls.c" "$library"
+    gcc -std=c11 $flags "$@" -o "$work/order$suffix" "$here/order.c" "$library"
     gcc -std=c11 $flags "$@" -o "$work/lockstep$suffix" "$here/lockstep.c" "$here/simulator.c" "$library"
 }
 compile ''
@@ -32,6 +34,7 @@ compile ''
 compile_cpp() {
     g++ -std=c++11 $flags -o "$work/slices++" -x c++ "$here/slices.c" -x none "$library"
     g++ -std=c++11 $flags -o "$work/calls++" -x c++ "$here/calls.c" -x none "$library"
+    g++ -std=c++11 $flags -o "$work/order++" -x c++ "$here/order.c" -x none "$library"
     g++ -std=c++11 $flags -o "$work/lockstep++" -x c++ "$here/lockstep.c" "$here/simulator.c" -x none "$library"
 }
 cpp=
@@ -91,6 +94,11 @@ expect 1 "refused,20" "$work/unshared" 4 3
 expect 1 "refused,20" "$work/unshared" 5 0
 grep -v '^share,' "$board" >"$work/shareless"
 expect 1 "refused,20" "$work/shareless" 0 0
+# the board with its two share lines exchanged: the second, line 5, comes before the line above
+sed '4{h;d;};5G' "$board" >"$work/unordered"
+expect 1 "refused,21" "$work/unordered" 0 0
+expect 1 "refused,21" "$work/unordered" 1 0
+expect 1 "refused,21" "$work/unordered" 2 0
 : >"$work/empty"
 expect 1 "refused,2" "$work/empty" 0 0
 head -c 8193 /dev/zero >"$work/long"
@@ -203,8 +211,9 @@ says "plan: $work: Is a directory"
 for suffix in '' $cpp; do
     "$work/slices$suffix" || failed=1
     "$work/calls$suffix" || failed=1
+    "$work/order$suffix" "$root"/boards/*.txt "$work/native" || failed=1
 done
-for client in slices calls; do
+for client in slices calls order; do
     $watch "$work/$client$watched" || { echo "$client, its memory watched, ended with status $?"; failed=1; }
 done
 
@@ -270,12 +279,18 @@ cmp "$work/difference" "$work/printed" || failed=1
 
 # words that say nothing, boards that are none, output that is lost
 for words in '' "$board" "$board x" "$board 1 x" "$board 1 1 1" "--mistake none $board 1" "--mistake" "$work/absent 1" \
-    "$work/empty 1" "$work/narrow 1" "$work 1"; do
+    "$work/empty 1" "$work/narrow 1" "$work/unordered 1" "$work 1"; do
     lockstep "$work/lockstep" 2 $words
 done
 lockstep "$work/lockstep" 2 "$work/fourth" 1
 if [ "$(cat "$work/errors")" != "lockstep: $work/fourth: line 2: refusal 4" ]; then
     echo "lockstep does not name the line to blame but says:"
+    cat "$work/errors"
+    failed=1
+fi
+lockstep "$work/lockstep" 2 "$work/unordered" 1
+if [ "$(cat "$work/errors")" != "lockstep: $work/unordered: line 5: refusal 21" ]; then
+    echo "lockstep does not name the line out of order but says:"
     cat "$work/errors"
     failed=1
 fi
