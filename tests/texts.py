@@ -239,7 +239,7 @@ LIST = [
         (1, "the byte above the digit 9", small(share="share,0,0,:")),
         (1, "quotes", small(share='share,0,0,"2"')),
     ]),
-    # A text in which only the master is absent is an empty one: a slave line before any master is refused itself.
+    # A text in which only the master is absent is an empty one: a slave line that no master line precedes is refused itself.
     ("2: where a line stands, how many there are, and what is absent at the end", [
         (2, "an empty text", ""),
         (2, "a master and no slave", text(MASTER)),
