@@ -3,6 +3,7 @@ pub mod BitLaws
 pub mod FillLaws
 pub mod Finite
 pub mod FrontLaws
+pub mod FilteredLaws
 pub mod ListLaws
 pub mod Members
 pub mod TableLaws

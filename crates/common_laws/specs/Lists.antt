@@ -32,6 +32,10 @@ gather f (suc n) = gather f n ++ f n
 unfoldable pub table : {X : Type 0} → (ℕ → X) → ℕ → List X
 table f n = gather (λ i. f i ∷ []) n
 
+-- the numbers below n that pass the test, in rising order
+unfoldable pub filtered : (ℕ → Bool) → ℕ → List ℕ
+filtered test n = gather (λ i. cond (test i) (i ∷ []) []) n
+
 -- f 0 + f 1 + .. + f (n − 1)
 unfoldable pub sum : (ℕ → ℕ) → ℕ → ℕ
 sum f zero = 0

@@ -3,3 +3,4 @@ pub mod PostLaws
 pub mod ClockLaws
 pub mod RunOfClocks
 pub mod PassingLaws
+pub mod LanesShown

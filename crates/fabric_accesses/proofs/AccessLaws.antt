@@ -1,14 +1,15 @@
 -- What the definitions of accesses say together: the bytes of a transfer, and where its accesses lie in the slave's words.
 -- Assumes nothing.
-use mathlib.Core.Path.{_≡_, refl, ap, _∙_}
+use mathlib.Core.Path.{_≡_, ap, _∙_}
 use mathlib.Core.Bool.{Bool, true, false, cond}
 use Prim.Native.Nat.{ℕ, _+_, _-_, _*_, _%_, _≤_, _<_}
-use native.Mathlib.Nat.{mul-assoc, add-mul, one-mul, zero-mul, mul-le-mul, mul-le-mul-right}
+use native.Mathlib.Nat.{mul-assoc, add-mul, one-mul, zero-mul, mul-le-mul-right, le-trans}
 use native.Mathlib.Omega.{arith}
 use lib.Dec.{eqb, eqb→eq}
 use Rattle.common_laws.specs.Lists.{member}
 use Rattle.common_laws.proofs.Arithmetic.{multiple-trans, rounded-room}
 use Rattle.common_laws.proofs.Members.{of-member}
+use Rattle.common_laws.proofs.FilteredLaws.{length-filtered}
 use Rattle.description_board.specs.declared.Master.{Master}
 use Rattle.description_board.specs.declared.Slave.{Slave}
 use Rattle.description_board.specs.Rules.{widths, spans, tooNarrow}
@@ -17,9 +18,10 @@ use Rattle.fabric_accesses.specs.declared.Transfer.{Transfer}
 use Rattle.fabric_lanes.specs.Lanes.{allLanes}
 use Rattle.fabric_accesses.specs.Code.Pairs.{Span}
 use Rattle.fabric_accesses.specs.Alignment.{ratio, laneBytes, accessBytes}
-use Rattle.fabric_accesses.specs.Accesses.{accesses, firstByte, accessOffset, wordOffset, writeLanes, slaveLanes}
+use Rattle.fabric_accesses.specs.Accesses.{firstByte, accessOffset, wordOffset, writeLanes, slaveLanes}
+use Rattle.fabric_accesses.specs.Accesses.{accessed, accessNumbers, accesses}
 use Rattle.fabric_accesses.specs.Code.Pairs.{InWord}
-use Rattle.fabric_accesses.proofs.AlignmentLaws.{ratio-pos, lanes-access, ratio-bytes, lanes-pos, offset-in-word}
+use Rattle.fabric_accesses.proofs.AlignmentLaws.{lanes-access, ratio-bytes, lanes-pos, offset-in-word}
 use Rattle.fabric_accesses.proofs.AlignmentLaws.{lane-offset, lane-below, byte-within}
 use Rattle.fabric_accesses.proofs.DecodeLaws.{span-eight, span-of}
 
@@ -33,20 +35,11 @@ module _ (ma : Master) (sl : Slave) (t : Transfer) (a : ℕ) where
   unfolding slaveLanes
   write-slave-lanes e = ap (λ (b : Bool). cond b (writeLanes ma sl t a) (allLanes (sl .width))) e
 
--- the accesses of a transfer: some, and at most those of its beats; where every lane is enabled exactly those, and its users
--- post full lanes
-pub accesses-pos : (ma : Master) (sl : Slave) (t : Transfer) → 0 < sl .width → 1 ≤ t .beats → 1 ≤ accesses ma sl t
-unfolding accesses
-accesses-pos ma sl t w h = mul-le-mul h (ratio-pos ma sl w)
-
+-- the accesses of a transfer: at most those of its beats
 pub accesses-le : (ma : Master) (sl : Slave) (t : Transfer) (n : ℕ) → t .beats ≤ n → accesses ma sl t ≤ n * ratio ma sl
-unfolding accesses
-accesses-le ma sl t n h = mul-le-mul h (omega arith)
-
-pub accesses-full : (ma : Master) (sl : Slave) (t : Transfer) → t .lanes ≡ allLanes (ma .width)
-    → accesses ma sl t ≡ t .beats * ratio ma sl
-unfolding accesses
-accesses-full ma sl t e = refl
+unfolding accesses accessNumbers
+accesses-le ma sl t n h =
+    le-trans (length-filtered (accessed ma sl t) (t .beats * ratio ma sl)) (mul-le-mul-right (ratio ma sl) h)
 
 -- the first bytes of the accesses, one after another
 module _ (ma : Master) (sl : Slave) where
@@ -57,6 +50,10 @@ module _ (ma : Master) (sl : Slave) where
   pub first-next : (a : ℕ) → firstByte ma sl (a + 1) ≡ firstByte ma sl a + accessBytes ma sl
   unfolding firstByte
   first-next a = rw (add-mul, one-mul)
+
+  pub first-add : (a n : ℕ) → firstByte ma sl (a + n) ≡ firstByte ma sl a + n * accessBytes ma sl
+  unfolding firstByte
+  first-add a n = add-mul a n (accessBytes ma sl)
 
   pub first-le : (a c : ℕ) → a ≤ c → firstByte ma sl a ≤ firstByte ma sl c
   unfolding firstByte
@@ -82,24 +79,19 @@ base-aligned base n w e s h = multiple-trans base n w e (span-aligned n w (span-
 -- a master and a slave of legal widths
 module _ (ma : Master) (sl : Slave) (m : member (ma .width) widths ≡ true) (s : member (sl .width) widths ≡ true) where
   module _ (t : Transfer) where
-    -- the bytes of the transfer fall to its accesses
-    pub accesses-bytes : accesses ma sl t * accessBytes ma sl ≡ t .beats * ma .width
-    unfolding accesses
-    accesses-bytes =
+    -- the bytes of the transfer fall to the accesses of its beats: behind the last lies the end of the transfer
+    pub first-all : firstByte ma sl (t .beats * ratio ma sl) ≡ t .beats * ma .width
+    unfolding firstByte
+    first-all =
         mul-assoc (t .beats) (ratio ma sl) (accessBytes ma sl) ∙ ap (λ (x : ℕ). t .beats * x) (ratio-bytes ma sl m s)
 
-    -- behind the last access lies the end of the transfer
-    pub first-all : firstByte ma sl (accesses ma sl t) ≡ t .beats * ma .width
-    unfolding firstByte
-    first-all = accesses-bytes
-
     -- no access passes it
-    pub first-byte-within : (a : ℕ) → a < accesses ma sl t → firstByte ma sl a + accessBytes ma sl ≤ t .beats * ma .width
+    pub first-byte-within : (a : ℕ) → a < t .beats * ratio ma sl → firstByte ma sl a + accessBytes ma sl ≤ t .beats * ma .width
     first-byte-within a h =
-        omega (arith, first-le ma sl (a + 1) (accesses ma sl t) (omega arith), first-next ma sl a, first-all)
+        omega (arith, first-le ma sl (a + 1) (t .beats * ratio ma sl) (omega arith), first-next ma sl a, first-all)
 
     -- where the transfer ends within the span, so does every access, and the slave word of every access
-    module _ (a : ℕ) (h : a < accesses ma sl t) (wide : tooNarrow ma sl ≡ false)
+    module _ (a : ℕ) (h : a < t .beats * ratio ma sl) (wide : tooNarrow ma sl ≡ false)
         (ends : t .address - sl .base + t .beats * ma .width ≤ sl .span) where
       pub offset-within : accessOffset ma sl t a + laneBytes ma sl ≤ sl .span
       offset-within =

@@ -24,10 +24,10 @@ use Rattle.fabric_accesses.specs.Alignment.{ratio, laneBytes, accessByte
 use Rattle.fabric_accesses.specs.Accesses.{firstByte, accessOffset}
 
 -- a test of two legal widths: computed at each pair
-pairs : (ℕ → ℕ → Bool) → Bool
+unfoldable pub pairs : (ℕ → ℕ → Bool) → Bool
 pairs f = all (λ m. all (f m) widths) widths
 
-of-pair : (f : ℕ → ℕ → Bool) → T (pairs f) → (m s : ℕ) → member m widths ≡ true → member s widths ≡ true → T (f m s)
+pub of-pair : (f : ℕ → ℕ → Bool) → T (pairs f) → (m s : ℕ) → member m widths ≡ true → member s widths ≡ true → T (f m s)
 unfolding pairs
 of-pair f t m s p q = of-member (f m) widths (of-member (λ n. all (f n) widths) widths t m p) s q
 
@@ -153,7 +153,7 @@ module _ (ma : Master) (sl : Slave) (m : member (ma .width) widths ≡ true) (s 
   lanes-pos = omega (arith, width-bound (ma .width) m .0, width-bound (sl .width) s .0)
 
   -- the lanes of an access are a part of the master's word, and of the slave's
-  lanes-divide-master : ma .width % laneBytes ma sl ≡ 0
+  pub lanes-divide-master : ma .width % laneBytes ma sl ≡ 0
   unfolding laneBytes pairs
   lanes-divide-master = eqb→eq _ _ (of-pair (λ x y. eqb (x % min x y) 0) tt (ma .width) (sl .width) m s)
 

@@ -1,4 +1,5 @@
--- Runs, by what the code keeps of them: the limit of a run is a legal burst; an access less its place is where its run starts.
+-- Runs, by what the code keeps of them: the limit of a run is a legal burst; what comes before an access, less its place, comes
+-- before its run.
 -- Assumes nothing.
 use mathlib.Core.Path.{_≡_, refl, sym, ap, ap₂, _∙_, subst}
 use mathlib.Core.Bool.{Bool, true, false, cond}
@@ -30,17 +31,17 @@ module _ (ma : Master) (sl : Slave) (limit : ℕ) (legal : member (sl .burst) bu
   pub limit-pos : 0 < limit
   limit-pos = burst-bound limit limit-legal .0
 
-  pub place-masked : (a : ℕ) → bitAnd a (limit - 1) ≡ placeOf ma sl a
+  pub place-masked : (k : ℕ) → bitAnd k (limit - 1) ≡ placeOf ma sl k
   unfolding placeOf
-  place-masked a = over-burst a limit limit-legal ∙ ap (λ (n : ℕ). a % n) e
+  place-masked k = over-burst k limit limit-legal ∙ ap (λ (n : ℕ). k % n) e
 
-pub place-le : (ma : Master) (sl : Slave) (a place : ℕ) → place ≡ placeOf ma sl a → place ≤ a
+pub place-le : (ma : Master) (sl : Slave) (k place : ℕ) → place ≡ placeOf ma sl k → place ≤ k
 unfolding placeOf
-place-le ma sl a place e = omega (arith, mod-le a (runLimit ma sl))
+place-le ma sl k place e = omega (arith, mod-le k (runLimit ma sl))
 
-pub run-from : (ma : Master) (sl : Slave) (t : Transfer) (a limit place total rest : ℕ)
-    → limit ≡ runLimit ma sl → place ≡ placeOf ma sl a → total ≡ accesses ma sl t → rest ≡ total - (a - place)
-    → min limit rest ≡ runOf ma sl t a
+pub run-from : (ma : Master) (sl : Slave) (t : Transfer) (k limit place total rest : ℕ)
+    → limit ≡ runLimit ma sl → place ≡ placeOf ma sl k → total ≡ accesses ma sl t → rest ≡ total - (k - place)
+    → min limit rest ≡ runOf ma sl t k
 unfolding placeOf runOf
-run-from ma sl t a limit place total rest e p q r =
-    ap₂ min e (r ∙ ap₂ (λ (x y : ℕ). x - y) q (ap (λ (x : ℕ). a - x) p ∙ less-remainder a (runLimit ma sl)))
+run-from ma sl t k limit place total rest e p q r =
+    ap₂ min e (r ∙ ap₂ (λ (x y : ℕ). x - y) q (ap (λ (x : ℕ). k - x) p ∙ less-remainder k (runLimit ma sl)))

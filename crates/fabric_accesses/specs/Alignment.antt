@@ -1,7 +1,7 @@
 -- The one place where bus sizing and native alignment part (rule 4.10): how the bytes of a transfer fall to accesses, and where
 -- each of them lies in the slave. Bytes of a transfer are numbered from 0, beat behind beat.
 -- Assumes nothing.
-use mathlib.Core.Bool.{Bool, true, cond}
+use mathlib.Core.Bool.{Bool, true, cond, not, _&&_}
 use Prim.Native.Nat.{ℕ, _+_, _-_, _*_, _/_, _%_, min}
 use lib.Dec.{ltb}
 use Rattle.description_board.specs.declared.Master.{Master}
@@ -12,6 +12,10 @@ use Rattle.fabric_accesses.specs.declared.Transfer.{Transfer}
 -- rules 4.10, 5.2: r, the accesses of a beat
 unfoldable pub ratio : Master → Slave → ℕ
 ratio ma sl = cond (isNative sl) 1 (cond (ltb (sl .width) (ma .width)) (ma .width / sl .width) 1)
+
+-- rule 4.10: the transfer leaves out those accesses of its beats that have no enabled lane: a write does, with bus sizing
+unfoldable pub leavesOut : Slave → Transfer → Bool
+leavesOut sl t = t .write && not (isNative sl)
 
 -- rule 4.10: the bytes of an access that have a lane in the slave
 unfoldable pub laneBytes : Master → Slave → ℕ

@@ -4,18 +4,18 @@ use description_board::Master;
 use description_board::Slave;
 ghost use mathlib.Core.Path.{_≡_};
 ghost use mathlib.Core.Bool.{true};
-ghost use Prim.Native.Nat.{_*_, _-_, _/_, _%_, _≤_};
+ghost use Prim.Native.Nat.{_*_, _-_, _/_, _%_, _≤_, _<_};
 ghost use Rattle.common_laws.specs.Lists.{member};
 ghost use Rattle.description_board.specs.Rules.{widths, bursts};
 ghost use Rattle.fabric_accesses.specs.Decoding.{agrees};
 ghost use Rattle.fabric_accesses.specs.Code.Pairs.{Span};
 ghost use Rattle.description_board.specs.Records.{isNative};
-ghost use Rattle.fabric_accesses.specs.Alignment.{ratio, laneBytes, accessBytes};
-ghost use Rattle.fabric_accesses.specs.Accesses.{accesses, firstByte, accessOffset, wordOffset};
-ghost use Rattle.fabric_accesses.specs.Accesses.{writeLanes, slaveLanes, waitOf, ownLength};
-ghost use Rattle.fabric_accesses.specs.Code.Pairs.{InWord};
+ghost use Rattle.fabric_accesses.specs.Alignment.{ratio, leavesOut, laneBytes, accessBytes};
+ghost use Rattle.fabric_accesses.specs.Accesses.{firstByte, accessOffset, wordOffset, writeLanes, slaveLanes};
+ghost use Rattle.fabric_accesses.specs.Accesses.{accesses, accessNumber, waitOf, ownLength};
 ghost use Rattle.fabric_accesses.specs.Runs.{runLimit, placeOf, runOf};
-ghost use Rattle.fabric_accesses.specs.Code.Pairs.{Widths, LegalPair};
+ghost use Rattle.fabric_accesses.specs.Code.Pairs.{Widths, InWord};
+ghost use Rattle.fabric_accesses.specs.Code.Numbers.{Posted, firstAccess, beatAccesses};
 
 // What a master posted (rule 3.1). Where `held` is false the master holds nothing and the other fields say nothing; a reset and a
 // finish leave the zero record (rules 4.2, 4.9).
@@ -112,13 +112,57 @@ pub fn ratio(ma: Master, sl: Slave) -> u32
     quotient(ma.width, bytes)
 }
 
+// Whether the transfer leaves out those accesses of its beats that have no enabled lane (rule 4.10).
+fn leaves_out(sl: Slave, t: Transfer) -> bool
+    ensures { λ r. ⌜ r ≡ leavesOut sl t ⌝ }
+{
+    let native = is_native(sl);
+    t.write & !native
+}
+
+// The number of the first access that is carried out (rule 4.10): the one that has the lowest lane. Legal lanes stand side by
+// side, and so do the accesses that have one.
+fn first_access(ma: Master, sl: Slave, t: Transfer) -> u32
+    requires { ⌜ Posted ma sl t ⌝ }
+    ensures { λ r. ⌜ r ≡ firstAccess ma sl t ⌝ }
+{
+    if leaves_out(sl, t) {
+        let bytes = access_bytes(ma, sl);
+        let low = u32::trailing_zeros(t.lanes);
+        return quotient(low, bytes);
+    }
+    0
+}
+
+// The accesses of one beat that are carried out (rule 4.10): those that the enabled lanes fill, or the one that has them all.
+fn beat_accesses(ma: Master, sl: Slave, t: Transfer) -> u32
+    requires { ⌜ Posted ma sl t ⌝ }
+    ensures { λ r. ⌜ r ≡ beatAccesses ma sl t ⌝ }
+{
+    if leaves_out(sl, t) {
+        let bytes = access_bytes(ma, sl);
+        let lanes = u32::count_ones(t.lanes);
+        return quotient(lanes + (bytes - 1), bytes);
+    }
+    ratio(ma, sl)
+}
+
 // The accesses of a transfer (rule 4.10).
 pub fn accesses(ma: Master, sl: Slave, t: Transfer) -> u64
-    requires { ⌜ Widths ma sl ⌝ }
+    requires { ⌜ Posted ma sl t ⌝ }
     ensures { λ r. ⌜ r ≡ accesses ma sl t ⌝ }
 {
-    let each = ratio(ma, sl);
+    let each = beat_accesses(ma, sl, t);
     (t.beats as u64) * (each as u64)
+}
+
+// The number, among the accesses of all beats, of the one that is carried out behind k others (rule 4.10).
+pub fn access_number(ma: Master, sl: Slave, t: Transfer, k: u32) -> u32
+    requires { ⌜ (Posted ma sl t) × (k < accesses ma sl t) × (accesses ma sl t ≤ 512) ⌝ }
+    ensures { λ r. ⌜ r ≡ accessNumber ma sl t k ⌝ }
+{
+    let first = first_access(ma, sl, t);
+    first + k
 }
 
 // Where the bytes of access a begin among those of the transfer (rule 4.10).
@@ -185,9 +229,9 @@ pub fn wait_of(sl: Slave, t: Transfer) -> u32
     if t.write { sl.write_wait } else { sl.read_wait }
 }
 
-// The clocks that a transfer takes once it has its first cycle (rule 5.4): every access has the wait.
+// The clocks that a transfer takes once it has its first cycle (rule 5.4): every access that is carried out has the wait.
 pub fn own_length(ma: Master, sl: Slave, t: Transfer) -> u64
-    requires { ⌜ (Widths ma sl) × (waitOf sl t ≤ 255) ⌝ }
+    requires { ⌜ (Posted ma sl t) × (waitOf sl t ≤ 255) ⌝ }
     ensures { λ r. ⌜ r ≡ ownLength ma sl t ⌝ }
 {
     let count = accesses(ma, sl, t);
@@ -202,23 +246,23 @@ pub fn run_limit(ma: Master, sl: Slave) -> u32
     if ma.width < sl.width { 1 } else { sl.burst }
 }
 
-// The place of access a in its run (rule 4.13).
-pub fn place_of(ma: Master, sl: Slave, a: u32) -> u32
+// The place in its run of the access that is carried out behind k others (rule 4.13).
+pub fn place_of(ma: Master, sl: Slave, k: u32) -> u32
     requires { ⌜ member (sl .burst) bursts ≡ true ⌝ }
-    ensures { λ r. ⌜ r ≡ placeOf ma sl a ⌝ }
+    ensures { λ r. ⌜ r ≡ placeOf ma sl k ⌝ }
 {
     let limit = run_limit(ma, sl);
-    a & (limit - 1)
+    k & (limit - 1)
 }
 
-// The length of the run that access a is in (rules 4.12, 4.13): the last one has what is left.
-pub fn run_of(ma: Master, sl: Slave, t: Transfer, a: u32) -> u32
-    requires { ⌜ LegalPair ma sl ⌝ }
-    ensures { λ r. ⌜ r ≡ runOf ma sl t a ⌝ }
+// The length of the run that it is in (rules 4.12, 4.13): the last one has what is left.
+pub fn run_of(ma: Master, sl: Slave, t: Transfer, k: u32) -> u32
+    requires { ⌜ (Posted ma sl t) × (member (sl .burst) bursts ≡ true) ⌝ }
+    ensures { λ r. ⌜ r ≡ runOf ma sl t k ⌝ }
 {
     let limit = run_limit(ma, sl);
-    let place = place_of(ma, sl, a);
-    let start = a - place;
+    let place = place_of(ma, sl, k);
+    let start = k - place;
     let total = accesses(ma, sl, t);
     let rest = difference(total, start as u64);
     if (limit as u64) <= rest {

@@ -2,22 +2,26 @@
 -- Assumes nothing.
 use mathlib.Core.Path.{_≡_, ap, _∙_}
 use mathlib.Core.Bool.{true, false, and-true, and-false}
+use mathlib.Core.List.{List}
 use Prim.Native.Nat.{ℕ, _+_, _*_, _%_, _^_, _≤_, _<_}
 use native.Mathlib.Nat.{pow-zero, mul-one, div-one, mul-div-cancel, mul-mod-left, mul-add-mod-self-right, mod-eq-of-lt}
 use native.Mathlib.Omega.{arith}
+use lib.ListN.{length, getD}
 use borrow.Author.Tests.{le-ltb}
-use Rattle.common_laws.specs.Lists.{member}
+use Rattle.common_laws.specs.Lists.{member, table}
+use Rattle.common_laws.proofs.TableLaws.{length-table, getD-table}
 use Rattle.description_board.specs.declared.Master.{Master}
 use Rattle.description_board.specs.declared.Slave.{Slave}
 use Rattle.description_board.specs.Records.{isNative}
 use Rattle.description_board.specs.Rules.{widths, tooNarrow}
 use Rattle.description_board.proofs.PairLaws.{wide-enough}
 use Rattle.fabric_accesses.specs.declared.Transfer.{Transfer}
-use Rattle.fabric_accesses.specs.Alignment.{laneBytes, hasLane}
-use Rattle.fabric_accesses.specs.Accesses.{accesses, firstByte, wordOffset, writeLanes}
+use Rattle.fabric_accesses.specs.Alignment.{ratio, laneBytes, hasLane}
+use Rattle.fabric_accesses.specs.Accesses.{firstByte, wordOffset, writeLanes, accessNumbers, accesses, accessNumber}
 use Rattle.fabric_accesses.specs.Runs.{runLimit}
 use Rattle.fabric_accesses.proofs.AlignmentLaws.{native-ratio, sized-ratio, native-bytes, sized-lane, sized-byte, lanes-narrow}
 use Rattle.fabric_accesses.proofs.AlignmentLaws.{native-offset, lane-offset, lane-below, lane-above}
+use Rattle.fabric_accesses.proofs.CarriedOut.{carried-out}
 use Rattle.fabric_accesses.proofs.AccessLaws.{width-pos, read-slave-lanes, write-slave-lanes}
 use Rattle.fabric_bytes.specs.Bytes.{memoryIndex, stores, byteRead}
 use Rattle.fabric_bytes.specs.Cards.{firstWord, NativeCard, SizedCard}
@@ -52,10 +56,14 @@ module _ (ma : Master) (sl : Slave) (m : member (ma .width) widths ≡ true) (s 
     shown k =
         rw (first k, mul-mod-left k (ma .width), native-offset ma sl m s t k e, mul-mod-left, lanes, pow-zero, div-one, mul-one)
 
+    numbers : accessNumbers ma sl t ≡ table (λ a. a) (t .beats)
+    numbers = carried-out ma sl t .native e ∙ rw (native-ratio ma sl e, mul-one)
+
   pub native-card : NativeCard ma sl
-  unfolding accesses wordOffset runLimit byteRead stores
+  unfolding accesses accessNumber wordOffset runLimit byteRead stores
   native-card = record {
-    beat = λ t. rw (native-ratio ma sl e, mul-one);
+    beat = λ t. ap length (numbers t) ∙ length-table (λ a. a) (t .beats);
+    number = λ t k h. ap (λ (l : List ℕ). getD l k 0) (numbers t) ∙ getD-table (λ a. a) (t .beats) 0 k h;
     offset = λ t k. rw (native-offset ma sl m s t k e, mul-div-cancel _ (width-pos (sl .width) s));
     readLanes = λ t k d. read-slave-lanes ma sl t k d;
     writeLanes = λ t k d. write-slave-lanes ma sl t k d ∙ shown t k;
@@ -72,7 +80,8 @@ module _ (ma : Master) (sl : Slave) (e : isNative sl ≡ false) where
   pub sized-card : SizedCard ma sl
   unfolding accesses memoryIndex byteRead stores
   sized-card = record {
-    beat = λ t. rw (sized-ratio ma sl e);
+    beat = λ t d.
+        ap length (carried-out ma sl t .read d) ∙ length-table (λ a. a) (t .beats * ratio ma sl) ∙ rw (sized-ratio ma sl e);
     index = λ t start i. rw (sized-byte ma sl t i e);
     read = λ t start memory i. rw (sized-lane ma sl i e, sized-byte ma sl t i e);
     stored = λ t i. rw (sized-lane ma sl i e, and-true);

@@ -12,7 +12,7 @@ use Rattle.description_board.specs.declared.Master.{Master}
 use Rattle.description_board.specs.declared.Slave.{Slave}
 use Rattle.fabric_lanes.specs.Lanes.{allLanes}
 use Rattle.fabric_accesses.specs.declared.Transfer.{Transfer}
-use Rattle.fabric_accesses.specs.Accesses.{accesses, wordOffset, slaveLanes}
+use Rattle.fabric_accesses.specs.Accesses.{wordOffset, slaveLanes, accesses, accessNumber}
 use Rattle.fabric_accesses.specs.Runs.{runLimit}
 use Rattle.fabric_bytes.specs.Bytes.{memoryIndex, stores, byteRead}
 
@@ -22,8 +22,9 @@ firstWord ma sl t = (t .address - sl .base) / ma .width
 
 -- a slave with native alignment, and a master that is not narrower
 pub record NativeCard (ma : Master) (sl : Slave) : Type 0 where
-  -- a beat is one access, at the offset of its word in slave words
+  -- a beat is one access, whatever its lanes, at the offset of its word in slave words
   pub beat : (t : Transfer) → accesses ma sl t ≡ t .beats
+  pub number : (t : Transfer) (k : ℕ) → k < t .beats → accessNumber ma sl t k ≡ k
   pub offset : (t : Transfer) (k : ℕ) → wordOffset ma sl t k ≡ (firstWord ma sl t + k) * sl .width
   -- a read shows all lanes of the slave, a write the master's lanes below the slave's width
   pub readLanes : (t : Transfer) (k : ℕ) → t .write ≡ false → slaveLanes ma sl t k ≡ allLanes (sl .width)
@@ -41,9 +42,11 @@ pub record NativeCard (ma : Master) (sl : Slave) : Type 0 where
       → byteRead ma sl t start memory (k * ma .width + j) ≡ 0
   pub nowhere : (t : Transfer) (k j : ℕ) → sl .width ≤ j → j < ma .width → stores ma sl t (k * ma .width + j) ≡ false
 
--- a slave with bus sizing, and any master: byte i of the transfer lies i bytes behind its address
+-- a slave with bus sizing, and any master: the accesses of a read's beat (a write's are in `CarriedOut`); byte i of the transfer
+-- lies i bytes behind its address
 pub record SizedCard (ma : Master) (sl : Slave) : Type 0 where
-  pub beat : (t : Transfer) → accesses ma sl t ≡ t .beats * cond (ltb (sl .width) (ma .width)) (ma .width / sl .width) 1
+  pub beat : (t : Transfer) → t .write ≡ false
+      → accesses ma sl t ≡ t .beats * cond (ltb (sl .width) (ma .width)) (ma .width / sl .width) 1
   pub index : (t : Transfer) (start i : ℕ) → memoryIndex ma sl t start i ≡ start + (t .address - sl .base + i)
   pub read : (t : Transfer) (start : ℕ) (memory : List ℕ) (i : ℕ)
       → byteRead ma sl t start memory i ≡ getD memory (start + (t .address - sl .base + i)) 0

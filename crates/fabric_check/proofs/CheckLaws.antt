@@ -11,6 +11,7 @@ use lib.ListN.{length, getD, set}
 use borrow.Author.Tests.{lt-ltb, le-ltb, eqb-true, eqb-false}
 use Rattle.common_laws.specs.Lists.{member, every}
 use Rattle.common_laws.proofs.TableLaws.{every-at}
+use Rattle.common_laws.proofs.Tests.{both}
 use Rattle.common_laws.proofs.FillLaws.{filled, filled-next, filled-all}
 use Rattle.description_board.specs.declared.Master.{Master}
 use Rattle.description_board.specs.declared.Slave.{Slave}
@@ -22,13 +23,14 @@ use Rattle.description_board.proofs.Accepted.{accepted-legal}
 use Rattle.fabric_accesses.specs.declared.Transfer.{Transfer}
 use Rattle.fabric_accesses.specs.Accesses.{accesses, waitOf}
 use Rattle.fabric_accesses.specs.Decoding.{targetOf}
-use Rattle.fabric_accesses.specs.Code.Pairs.{Widths}
+use Rattle.fabric_accesses.specs.Code.Numbers.{Posted}
 use Rattle.fabric_state.specs.declared.Slot.{Slot}
 use Rattle.fabric_state.specs.declared.State.{State}
 use Rattle.fabric_state.specs.Records.{transferAt, slotAt}
 use Rattle.fabric_state.specs.Posting.{transferRefusal}
-use Rattle.fabric_state.specs.Soundness.{soundTransfer, soundOwner, soundRemaining}
+use Rattle.fabric_state.specs.Soundness.{requests, soundTransfer, soundOwner, soundRemaining}
 use Rattle.fabric_state.specs.Soundness.{soundService, soundRest, soundSlotBy, soundSlot}
+use Rattle.fabric_state.proofs.RequestLaws.{requests-held, requests-selects, accepted-at, accepted-posted}
 use Rattle.fabric_check.specs.Code.Targets.{heldTarget, targetIn, targetsIn}
 use Rattle.fabric_check.specs.Code.Checks.{soundHeld, Held, Decoded}
 use Rattle.fabric_check.proofs.TargetLaws.{target-requests}
@@ -127,10 +129,15 @@ grants remaining share = go (eqb share 0) refl (eqb remaining 0) refl
 
 module _ (slot : Slot) (share : ℕ) (here : Bool) (ma : Master) (sl : Slave) (t : Transfer) where
   pub slot-serving : (eqb (slot .remaining) 0 || ltb (slot .remaining) share) ≡ true → slot .serving ≡ true
-      → soundSlotBy share here ma sl t slot
-      ≡ (here && (ltb (slot .done) (accesses ma sl t) && leb (slot .waited) (waitOf sl t)))
+      → here ≡ true
+      → soundSlotBy share here ma sl t slot ≡ (ltb (slot .done) (accesses ma sl t) && leb (slot .waited) (waitOf sl t))
   unfolding soundSlotBy soundRemaining soundService
-  slot-serving e on = rw (← grants (slot .remaining) share, e, on)
+  slot-serving e on h = rw (← grants (slot .remaining) share, e, on, h)
+
+  pub slot-elsewhere : (eqb (slot .remaining) 0 || ltb (slot .remaining) share) ≡ true → slot .serving ≡ true
+      → here ≡ false → soundSlotBy share here ma sl t slot ≡ false
+  unfolding soundSlotBy soundRemaining soundService
+  slot-elsewhere e on h = rw (← grants (slot .remaining) share, e, on, h)
 
   pub slot-resting : (eqb (slot .remaining) 0 || ltb (slot .remaining) share) ≡ true → slot .serving ≡ false
       → soundSlotBy share here ma sl t slot ≡ (eqb (slot .done) 0 && eqb (slot .waited) 0)
@@ -170,12 +177,22 @@ module _ (b : Board) (st : State) (s : ℕ) {slot : Slot} {masters : ℕ} (eslot
             target-requests b (decoded .board) st full s here (slotAt st s .owner) small,
           )
 
--- the width of a master of an accepted board, and that of a slave
+-- the width of a master of an accepted board
 pub legal-width : (b : Board) → boardRefusal b ≡ 0 → (m : ℕ) {masters : ℕ} → masters ≡ b .«master_count» → m < masters
     → {ma : Master} → ma ≡ masterAt b m → member (ma .width) widths ≡ true
 legal-width b ok m e h f = rw f (accepted-legal b ok .master m (rw (← e) h) .width)
 
-pub legal-widths : (b : Board) → boardRefusal b ≡ 0 → (m s : ℕ) → m < b .«master_count» → s < b .«slave_count»
-    → {ma : Master} {sl : Slave} → ma ≡ masterAt b m → sl ≡ slaveAt b s → Widths ma sl
-legal-widths b ok m s h k e f =
-    record { master = legal-width b ok m refl h e; slave = rw f (accepted-legal b ok .slave s k .width) }
+-- where the transfer of a slot's owner is for its slave, it has lanes that a post may have
+pub slot-posted : (b : Board) (st : State) (targets : List ℕ) → Decoded b st targets → length (st .transfers) ≡ 8
+    → (s m : ℕ) → s < b .«slave_count» → m < b .«master_count» → eqb (getD targets m 0) s ≡ true
+    → {ma : Master} {sl : Slave} {t : Transfer} → ma ≡ masterAt b m → sl ≡ slaveAt b s → t ≡ transferAt st m → Posted ma sl t
+unfolding soundTransfer
+slot-posted b st targets decoded full s m h known q e f g =
+    let legal = accepted-legal b (decoded .board) in
+    let small : m < 8 = omega (arith, legal .fewMasters) in
+    let asks : requests b st s m ≡ true
+    = sym (target-requests b (decoded .board) st full s h m small) ∙ rw (← decoded .targets) q in
+    let held = every-at (soundTransfer b st) 8 (decoded .transfers) m small in
+    let sound = both (ltb m (b .«master_count»)) _ (rw (requests-held b st s m asks) at held) in
+    let ok = accepted-at b legal m (transferAt st m) (eqb-true _ 0 (sound .1)) s (requests-selects b st s m asks) in
+    rw (e, f, g) (accepted-posted b legal m s (transferAt st m) known ok)

@@ -10,10 +10,11 @@ use description_board::Slave;
 use fabric_accesses::Transfer;
 use fabric_state::Slot;
 ghost use mathlib.Core.Path.{_≡_};
+ghost use mathlib.Core.Bool.{true};
 ghost use Prim.Native.Nat.{_<_};
 ghost use Rattle.common_laws.specs.Lists.{every};
 ghost use Rattle.description_board.specs.Items.{boardRefusal};
-ghost use Rattle.fabric_accesses.specs.Code.Pairs.{Widths};
+ghost use Rattle.fabric_accesses.specs.Code.Numbers.{Posted};
 ghost use Rattle.fabric_state.specs.Soundness.{soundTransfer, soundSlotBy, soundSlot, sound};
 ghost use Rattle.description_layout.specs.Layout.{boardIn};
 ghost use Rattle.fabric_layout.specs.Layout.{stateIn};
@@ -75,13 +76,16 @@ fn sound_transfers(
 // Whether a slot whose owner is a master of the board breaks no rule (rule 7.9): of its owner's shares, whether its owner's
 // transfer is for this slave, and the two and that transfer.
 fn sound_slot_by(slot: Slot, share: u32, here: bool, ma: Master, sl: Slave, t: Transfer) -> bool
-    requires { ⌜ Widths ma sl ⌝ }
+    requires { ⌜ (here ≡ true → Posted ma sl t) ⌝ }
     ensures { λ r. ⌜ r ≡ soundSlotBy share here ma sl t slot ⌝ }
 {
     if (slot.remaining == 0) | (slot.remaining < share) {
         if slot.serving {
-            let left = (slot.done as u64) < fabric_accesses::accesses(ma, sl, t);
-            return here & (left & (slot.waited <= fabric_accesses::wait_of(sl, t)));
+            if here {
+                let left = (slot.done as u64) < fabric_accesses::accesses(ma, sl, t);
+                return left & (slot.waited <= fabric_accesses::wait_of(sl, t));
+            }
+            return false;
         }
         return (slot.done == 0) & (slot.waited == 0);
     }

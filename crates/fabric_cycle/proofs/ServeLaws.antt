@@ -10,8 +10,10 @@ use Rattle.description_board.specs.declared.Slave.{Slave}
 use Rattle.description_board.specs.declared.Board.{Board}
 use Rattle.description_board.specs.Records.{masterAt, slaveAt, startOf}
 use Rattle.fabric_accesses.specs.declared.Transfer.{Transfer}
-use Rattle.fabric_accesses.specs.Accesses.{accesses, waitOf}
+use Rattle.fabric_accesses.specs.Accesses.{wordOffset, slaveLanes, accesses, accessNumber, waitOf}
+use Rattle.fabric_accesses.specs.Runs.{placeOf, runOf}
 use Rattle.fabric_bytes.specs.Bytes.{Store, carriedAccess}
+use Rattle.fabric_bytes.specs.Code.Reaching.{Reached}
 use Rattle.fabric_state.specs.declared.Slot.{Slot}
 use Rattle.fabric_state.specs.declared.State.{State}
 use Rattle.fabric_state.specs.declared.Line.{Line}
@@ -20,7 +22,7 @@ use Rattle.fabric_state.specs.Records.{noLine, transferAt}
 use Rattle.fabric_state.specs.Control.{slotAfterGrant, lineOf, waits}
 use Rattle.fabric_state.specs.Control.{slotWaiting, slotAccessed, slotFinished, served, stepOf}
 use Rattle.fabric_state.specs.Carrying.{carriesOut, carried}
-use Rattle.fabric_cycle.specs.Code.Serving.{stepFrom, carriedFrom}
+use Rattle.fabric_cycle.specs.Code.Serving.{Placed, stepFrom, carriedFrom}
 
 -- a wait is a number of 32 bits, so that waits passed stay one
 pub wait-fits : (sl : Slave) (t : Transfer) (n : ℕ) → sl .«read_wait» < n → sl .«write_wait» < n → waitOf sl t < n
@@ -40,6 +42,25 @@ module _ (sl : Slave) (t : Transfer) (slot : Slot) {waiting : Bool} (e : waiting
   pub waits-no : waiting ≡ false → waitOf sl t ≤ slot .waited
   unfolding waits
   waits-no q = ltb-false (slot .waited) (waitOf sl t) (sym e ∙ q)
+
+-- the access in hand, by its number
+pub placed-at : (ma : Master) (sl : Slave) (t : Transfer) (k : ℕ) {a : ℕ} → a ≡ accessNumber ma sl t k
+    → Placed ma sl t k (accessNumber ma sl t k) → Placed ma sl t k a
+placed-at ma sl t k e p = rw e p
+
+pub reached-at : (ma : Master) (sl : Slave) (t : Transfer) (k m start : ℕ) (d : Store) {a : ℕ} → a ≡ accessNumber ma sl t k
+    → Reached ma sl t m start (accessNumber ma sl t k) d → Reached ma sl t m start a d
+reached-at ma sl t k m start d e p = rw e p
+
+-- its line, from what the code finds of it
+pub line-found : (ma : Master) (sl : Slave) (t : Transfer) (slot : Slot) (phase : ℕ) {a offset lanes run place : ℕ}
+    → a ≡ accessNumber ma sl t (slot .done) → offset ≡ wordOffset ma sl t a → lanes ≡ slaveLanes ma sl t a
+    → run ≡ runOf ma sl t (slot .done) → place ≡ placeOf ma sl (slot .done)
+    → _≡_ {A = Line}
+    (record { phase = phase; owner = slot .owner; offset = offset; lanes = lanes; run = run; place = place })
+    (lineOf ma sl t slot phase)
+unfolding lineOf
+line-found ma sl t slot phase e o l r p = rw (o, l, r, p, e)
 
 module _ (ma : Master) (sl : Slave) (t : Transfer) (slot : Slot) {line : Line} where
   pub step-waiting : slot .waited < waitOf sl t → line ≡ lineOf ma sl t slot 1
@@ -79,9 +100,10 @@ module _ (ma : Master) (sl : Slave) (t : Transfer) (slot : Slot) where
   carried-waiting start d on h = rw (on, lt-ltb (slot .waited) (waitOf sl t) h)
 
   pub carried-access : (start : ℕ) (d : Store) → slot .serving ≡ true → waitOf sl t ≤ slot .waited
-      → carriedAccess ma sl t (slot .owner) start (slot .done) d ≡ carriedFrom ma sl t slot start d
+      → {a : ℕ} → a ≡ accessNumber ma sl t (slot .done)
+      → carriedAccess ma sl t (slot .owner) start a d ≡ carriedFrom ma sl t slot start d
   unfolding carriedFrom waits
-  carried-access start d on h = rw (on, le-ltb (slot .waited) (waitOf sl t) h)
+  carried-access start d on h e = rw (on, le-ltb (slot .waited) (waitOf sl t) h, e)
 
 -- ---- on the parts of a board and a state
 

@@ -10,6 +10,7 @@ use fabric_state::Slot;
 use fabric_state::Step;
 ghost use mathlib.Core.Path.{_≡_};
 ghost use mathlib.Core.Bool.{true};
+ghost use Rattle.fabric_accesses.specs.Accesses.{accessNumber};
 ghost use Rattle.fabric_arbiter.specs.Code.Winning.{grantBy};
 ghost use Rattle.fabric_bytes.specs.Code.Reaching.{Reached};
 ghost use Rattle.fabric_state.specs.Records.{arbiterOf};
@@ -60,16 +61,15 @@ pub fn slot_granted(slot: Slot, w: Winner, shares: u32, beats: u32) -> Slot
     slot_by(slot, a, g)
 }
 
-// What the slave shows of the access in hand (rule 4.13).
-fn line_of(ma: Master, sl: Slave, t: Transfer, slot: Slot, phase: u32) -> Line
-    requires { ⌜ Placed ma sl t (slot .done) ⌝ }
+// What the slave shows of the access in hand, access a (rule 4.13).
+fn line_of(ma: Master, sl: Slave, t: Transfer, slot: Slot, a: u32, phase: u32) -> Line
+    requires { ⌜ Placed ma sl t (slot .done) a ⌝ }
     ensures { λ r. ⌜ r ≡ lineOf ma sl t slot phase ⌝ }
 {
-    let a = slot.done;
     let offset = fabric_accesses::word_offset(ma, sl, t, a);
     let lanes = fabric_accesses::slave_lanes(ma, sl, t, a);
-    let run = fabric_accesses::run_of(ma, sl, t, a);
-    let place = fabric_accesses::place_of(ma, sl, a);
+    let run = fabric_accesses::run_of(ma, sl, t, slot.done);
+    let place = fabric_accesses::place_of(ma, sl, slot.done);
     Line {
         phase: phase,
         owner: slot.owner,
@@ -88,23 +88,23 @@ fn waits(sl: Slave, t: Transfer, slot: Slot) -> bool
     waited < fabric_accesses::wait_of(sl, t)
 }
 
-// Rules 2 and 3 (rules 4.8, 4.9) at a slave that serves.
-fn served(ma: Master, sl: Slave, t: Transfer, slot: Slot, waiting: bool) -> Step
-    requires { ⌜ (Placed ma sl t (slot .done)) × (waiting ≡ waits sl t slot) ⌝ }
+// Rules 2 and 3 (rules 4.8, 4.9) at a slave that serves, with access a in hand.
+fn served(ma: Master, sl: Slave, t: Transfer, slot: Slot, a: u32, waiting: bool) -> Step
+    requires { ⌜ (Placed ma sl t (slot .done) a) × (waiting ≡ waits sl t slot) ⌝ }
     ensures { λ r. ⌜ r ≡ served ma sl t slot ⌝ }
 {
     let mut after = slot;
     after.serving = true;
     if waiting {
         after.waited = slot.waited + 1;
-        let shown = line_of(ma, sl, t, slot, 1);
+        let shown = line_of(ma, sl, t, slot, a, 1);
         return Step {
             slot: after,
             line: shown,
             finished: false,
         };
     }
-    let line = line_of(ma, sl, t, slot, 2);
+    let line = line_of(ma, sl, t, slot, a, 2);
     let total = fabric_accesses::accesses(ma, sl, t);
     let done = slot.done + 1;
     after.waited = 0;
@@ -125,19 +125,20 @@ fn served(ma: Master, sl: Slave, t: Transfer, slot: Slot, waiting: bool) -> Step
     }
 }
 
-// The bytes of the access that the slave carries out in this clock (rule 4.8), if it does; its span starts at `start`.
+// The bytes of access a, if the slave carries it out in this clock (rule 4.8); its span starts at `start`.
 fn carry_from(
     ma: Master,
     sl: Slave,
     t: Transfer,
     slot: Slot,
+    a: u32,
     waiting: bool,
     start: usize,
     memory: &mut [u8],
     buffer: &mut [u8],
 )
-    requires { ⌜ (waiting ≡ waits sl t slot) × (slot .serving ≡ true)
-        × Reached ma sl t (slot .owner) start (slot .done) (record { memory = now memory; buffer = now buffer }) ⌝ }
+    requires { ⌜ (waiting ≡ waits sl t slot) × (slot .serving ≡ true) × (a ≡ accessNumber ma sl t (slot .done))
+        × Reached ma sl t (slot .owner) start a (record { memory = now memory; buffer = now buffer }) ⌝ }
     ensures { λ r. ⌜ record { memory = now (memory .exit); buffer = now (buffer .exit) }
         ≡ carriedFrom ma sl t slot start (record { memory = now (memory .entry); buffer = now (buffer .entry) }) ⌝ }
 {
@@ -145,10 +146,11 @@ fn carry_from(
         return;
     }
     let m = slot.owner as usize;
-    fabric_bytes::carry_access(ma, sl, t, m, start, slot.done, memory, buffer);
+    fabric_bytes::carry_access(ma, sl, t, m, start, a, memory, buffer);
 }
 
-// One clock of a slave that serves (rules 4.8, 4.9). Whether it waits is asked once, for its step and for its bytes.
+// One clock of a slave that serves (rules 4.8, 4.9). Which access is in hand and whether the slave waits are asked once, for its
+// step and for its bytes.
 pub fn serve(
     ma: Master,
     sl: Slave,
@@ -162,7 +164,8 @@ pub fn serve(
     ensures { λ r. ⌜ Served ma sl t slot start (record { memory = now (memory .entry); buffer = now (buffer .entry) })
         (record { memory = now (memory .exit); buffer = now (buffer .exit) }) r ⌝ }
 {
+    let a = fabric_accesses::access_number(ma, sl, t, slot.done);
     let waiting = waits(sl, t, slot);
-    carry_from(ma, sl, t, slot, waiting, start, memory, buffer);
-    served(ma, sl, t, slot, waiting)
+    carry_from(ma, sl, t, slot, a, waiting, start, memory, buffer);
+    served(ma, sl, t, slot, a, waiting)
 }

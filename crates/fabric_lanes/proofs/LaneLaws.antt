@@ -37,12 +37,15 @@ legal-adjacent w l e = eqb-true _ _ (legal-parts w l e .1)
 pub legal-below : (w l : ℕ) → legalLanes w l ≡ true → lowest l + ones l ≤ w
 legal-below w l e = leb-true _ _ (legal-parts w l e .2)
 
--- so that they are bits of a byte
-pub legal-lt : (w l : ℕ) → w ≤ 8 → legalLanes w l ≡ true → l < 256
-legal-lt w l h e =
+-- so that they are bits of a word, and of a byte
+pub legal-word : (w l : ℕ) → legalLanes w l ≡ true → l < 2 ^ w
+legal-word w l e =
     let below : allLanes (ones l) * 2 ^ lowest l < 2 ^ (ones l + lowest l) = shl-lt (ones l) (lowest l) (ones-lt (ones l)) in
-    let room : ones l + lowest l ≤ 8 = omega (arith, legal-below w l e) in
+    let room : ones l + lowest l ≤ w = omega (arith, legal-below w l e) in
     rw (legal-adjacent w l e) (lt-of-lt-of-le below (pow-mono room))
+
+pub legal-lt : (w l : ℕ) → w ≤ 8 → legalLanes w l ≡ true → l < 256
+legal-lt w l h e = lt-of-lt-of-le (legal-word w l e) (pow-mono h)
 
 -- no lane, or one above the eighth
 pub outside : (w l : ℕ) → w ≤ 8 → (eqb l 0 || ltb 255 l) ≡ true → false ≡ legalLanes w l
@@ -108,6 +111,11 @@ module _ (l : ℕ) (e : (eqb l 0 || ltb 255 l) ≡ false) where
   tested w all a =
       rw a (ap₂ (λ (x : Bool) (n : ℕ). x && leb (n + ones l) w) (agreed .0) (agreed .1)
       ∙ regroup (member (ones l) (1 ∷ 2 ∷ 4 ∷ 8 ∷ [])) (adjacent l) (eqb (lowest l % ones l) 0) _)
+
+-- the lowest of legal lanes, found in 32 bits
+pub legal-lowest : (w l : ℕ) → w ≤ 8 → legalLanes w l ≡ true → trailingZeros 32 l ≡ lowest l
+legal-lowest w l h e =
+    agreed l (rw (ne-eqb l 0 (legal-some w l e), le-ltb 255 l (omega (arith, legal-lt w l h e)))) .1
 
 -- all lanes are legal where the width is a power of two: computed at every width that is not 0
 fullTest : ℕ → Bool

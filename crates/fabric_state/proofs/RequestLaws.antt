@@ -15,7 +15,9 @@ use Rattle.fabric_lanes.specs.Lanes.{postLanes}
 use Rattle.fabric_accesses.specs.Decoding.{selects, targetOf}
 use Rattle.fabric_accesses.specs.Accesses.{accesses}
 use Rattle.fabric_accesses.proofs.SelectLaws.{target-first, selects-facts, selects-one, selects-target}
-use Rattle.fabric_accesses.proofs.AccessLaws.{width-pos, accesses-pos}
+use Rattle.fabric_accesses.specs.Code.Numbers.{Posted}
+use Rattle.fabric_accesses.proofs.PowerLaws.{legal-widths}
+use Rattle.fabric_accesses.proofs.NumberLaws.{accesses-pos}
 use Rattle.fabric_state.specs.declared.State.{State}
 use Rattle.fabric_state.specs.Records.{transferAt}
 use Rattle.fabric_state.specs.Posting.{wrongBeats, unaligned, wrongLanes, unmapped}
@@ -60,7 +62,6 @@ pub record Accepted (b : Board) (m : ℕ) (t : Transfer) (s : ℕ) : Type 0 wher
   pub shares : 1 ≤ sharesAt b m s
   pub low : slaveAt b s .base ≤ t .address
   pub end : t .address + t .beats * masterAt b m .width ≤ slaveAt b s .base + slaveAt b s .span
-  pub accesses : 1 ≤ accesses (masterAt b m) (slaveAt b s) t
 
 module _ (b : Board) (legal : Legal b) (m : ℕ) (t : Transfer) (ok : transferRefusal b m t ≡ 0) where
   -- it is for a slave
@@ -91,9 +92,20 @@ module _ (b : Board) (legal : Legal b) (m : ℕ) (t : Transfer) (ok : transferRe
         shares = x .shares;
         low = x .inside .low;
         end = ltb-false (slaveAt b s .base + slaveAt b s .span) (t .address + t .beats * masterAt b m .width) (v .0);
-        accesses = accesses-pos (masterAt b m) (slaveAt b s) t (width-pos _ (legal .slave s within .width)) some;
       }
 
   -- and for each that it selects
   pub accepted-at : (s : ℕ) → selects b m (t .address) s ≡ true → Accepted b m t s
   accepted-at s e = rw (selects-target b legal m (t .address) s e) at accepted
+
+-- so its accesses stand side by side, and there is one
+module _ (b : Board) (legal : Legal b) (m s : ℕ) (t : Transfer) (known : m < b .«master_count») (ok : Accepted b m t s) where
+  pub accepted-posted : Posted (masterAt b m) (slaveAt b s) t
+  accepted-posted = record {
+    wide = legal-widths (masterAt b m) (slaveAt b s) (legal .master m known) (legal .slave s (ok .within));
+    some = ok .some;
+    lanes = ok .lanes;
+  }
+
+  pub accepted-accesses : 1 ≤ accesses (masterAt b m) (slaveAt b s) t
+  accepted-accesses = accesses-pos (masterAt b m) (slaveAt b s) t accepted-posted

@@ -36,7 +36,8 @@ use Rattle.fabric_state.proofs.Sound.{Sound}
 use Rattle.fabric_state.proofs.StateLaws.{transfers-after, slots-after, slot-after, transfer-after, finished-by}
 use Rattle.fabric_state.proofs.StateLaws.{transfer-kept, held-after, transfer-reset, slot-reset}
 use Rattle.fabric_state.proofs.StateLaws.{transfers-with, slots-with, transfer-with, transfer-with-other, slot-with}
-use Rattle.fabric_state.proofs.RequestLaws.{requests-held, requests-one, Accepted, accepted-at, requests-selects}
+use Rattle.fabric_state.proofs.RequestLaws.{requests-held, requests-one, requests-selects}
+use Rattle.fabric_state.proofs.RequestLaws.{Accepted, accepted-at, accepted-accesses}
 use Rattle.fabric_state.proofs.StepLaws.{waitNow, accessesNow, Outcome, rests, waiting, works, ends, outcome}
 use Rattle.fabric_state.proofs.StepLaws.{grant-serving, grant-given, line-owner, finished-serving}
 
@@ -275,10 +276,12 @@ module _ (b : Board) (st : State) (legal : Legal b) (x : Sound b st) where
       given : (g : Grant) → grantAt b st s ≡ g → slotAt st s .serving ≡ false → SlotSound b st s (slotGranted (slotAt st s) g)
       given (Granted j r) e q =
           let f = grant-facts s h j r e in
+          let q = requester s j (f .asks) in
+          let some = accepted-accesses b legal j s (transferAt st j) (q .0) (q .1) in
           record {
             owner = f .within;
             remaining = inr (f .left);
-            serving = λ _. record { asks = f .asks; done = requester s j (f .asks) .1 .accesses; waited = omega arith };
+            serving = λ _. record { asks = f .asks; done = some; waited = omega arith };
             resting = λ p. absurd (true≢false p);
           }
       given Silent e q =

@@ -6,6 +6,7 @@ use Prim.Native.Nat.{ℕ, zero, suc}
 use lib.ListN.{length}
 use Rattle.description_board.specs.declared.Board.{Board}
 use Rattle.description_board.specs.Records.{masterAt, slaveAt, startOf}
+use Rattle.fabric_accesses.specs.Accesses.{accessNumber}
 use Rattle.fabric_bytes.specs.Bytes.{Store, carriedAccess}
 use Rattle.fabric_bytes.proofs.StoreLaws.{length-memory, length-buffer}
 use Rattle.fabric_state.specs.declared.Slot.{Slot}
@@ -29,7 +30,9 @@ carried-one b st s d = go (carriesOut b st s (slotAfterGrant b st s))
     then : Bool → Store
     then c =
         let m = slot .owner in
-        cond c (carriedAccess (masterAt b m) (slaveAt b s) (transferAt st m) m (startOf b s) (slot .done) d) d
+        let ma = masterAt b m in
+        let t = transferAt st m in
+        cond c (carriedAccess ma (slaveAt b s) t m (startOf b s) (accessNumber ma (slaveAt b s) t (slot .done)) d) d
 
     go : (c : Bool) → SameLengths (then c) d
     go true = (length-memory _ _ _ _ _ _ d, length-buffer _ _ _ _ _ _ d)

@@ -4,6 +4,7 @@ use mathlib.Core.Bool.{Bool, cond, not, _&&_}
 use Prim.Native.Nat.{ℕ, zero, suc}
 use Rattle.description_board.specs.declared.Board.{Board}
 use Rattle.description_board.specs.Records.{masterAt, slaveAt, startOf}
+use Rattle.fabric_accesses.specs.Accesses.{accessNumber}
 use Rattle.fabric_bytes.specs.Bytes.{Store, carriedAccess}
 use Rattle.fabric_state.specs.declared.Slot.{Slot}
 use Rattle.fabric_state.specs.declared.State.{State}
@@ -14,13 +15,15 @@ use Rattle.fabric_state.specs.Control.{slotAfterGrant, waits}
 unfoldable pub carriesOut : Board → State → ℕ → Slot → Bool
 carriesOut b st s slot = slot .serving && not (waits (slaveAt b s) (transferAt st (slot .owner)) slot)
 
--- rule 4.8: the lent bytes after the clock of slave s
+-- rules 4.8, 4.10: the lent bytes after the clock of slave s
 unfoldable pub carried : Board → State → ℕ → Store → Store
 carried b st s d =
     let slot = slotAfterGrant b st s in
+    let ma = masterAt b (slot .owner) in
+    let sl = slaveAt b s in
+    let t = transferAt st (slot .owner) in
     cond (carriesOut b st s slot)
-    (carriedAccess (masterAt b (slot .owner)) (slaveAt b s) (transferAt st (slot .owner)) (slot .owner) (startOf b s)
-    (slot .done) d)
+    (carriedAccess ma sl t (slot .owner) (startOf b s) (accessNumber ma sl t (slot .done)) d)
     d
 
 -- rule 4.1: the lent bytes after the clock of the first n slaves, one after another

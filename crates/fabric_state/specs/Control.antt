@@ -10,7 +10,7 @@ use Rattle.description_board.specs.declared.Slave.{Slave}
 use Rattle.description_board.specs.declared.Board.{Board}
 use Rattle.description_board.specs.Records.{masterAt, slaveAt, sharesAt}
 use Rattle.fabric_accesses.specs.declared.Transfer.{Transfer}
-use Rattle.fabric_accesses.specs.Accesses.{noTransfer, accesses, wordOffset, slaveLanes, waitOf}
+use Rattle.fabric_accesses.specs.Accesses.{noTransfer, wordOffset, slaveLanes, accesses, accessNumber, waitOf}
 use Rattle.fabric_accesses.specs.Runs.{runOf, placeOf}
 use Rattle.fabric_arbiter.specs.declared.Arbiter.{Arbiter}
 use Rattle.fabric_arbiter.specs.declared.Grant.{Grant}
@@ -43,16 +43,18 @@ slotGranted slot g = slotBy slot (arbiterAfter (arbiterOf slot) g) g
 unfoldable pub slotAfterGrant : Board → State → ℕ → Slot
 slotAfterGrant b st s = cond (slotAt st s .serving) (slotAt st s) (slotGranted (slotAt st s) (grantAt b st s))
 
--- rule 4.13: a clock's line of the access in hand
+-- rules 4.10, 4.13: a clock's line of the access in hand, which is the one that is carried out behind those done
 unfoldable pub lineOf : Master → Slave → Transfer → Slot → ℕ → Line
-lineOf ma sl t slot phase = record {
-  phase = phase;
-  owner = slot .owner;
-  offset = wordOffset ma sl t (slot .done);
-  lanes = slaveLanes ma sl t (slot .done);
-  run = runOf ma sl t (slot .done);
-  place = placeOf ma sl (slot .done);
-}
+lineOf ma sl t slot phase =
+    let a = accessNumber ma sl t (slot .done) in
+    record {
+      phase = phase;
+      owner = slot .owner;
+      offset = wordOffset ma sl t a;
+      lanes = slaveLanes ma sl t a;
+      run = runOf ma sl t (slot .done);
+      place = placeOf ma sl (slot .done);
+    }
 
 -- rule 2 (rule 4.8): the slave waits
 unfoldable pub waits : Slave → Transfer → Slot → Bool

@@ -29,7 +29,7 @@ mul-result c =
     let start = c .before .before in
     let ma = start .args .ma in
     let sl = start .args .sl in
-    let few : ratio ma sl ≤ 8 = ratio-le ma sl 8 (omega arith) (width-le (ma .width) (start .pre .0 .master)) in
+    let few : ratio ma sl ≤ 8 = ratio-le ma sl 8 (omega arith) (width-le (ma .width) (start .pre .0 .wide .master)) in
     let most : c .before .accesses .result ≤ 4294967295 * 8 =
     omega (arith, c .before .accesses .ensures, accesses-le ma sl (start .args .t) 4294967295 (omega arith)) in
     let short : 1 + c .wait-of .result ≤ 256 = omega (arith, c .wait-of .ensures, start .pre .1) in

@@ -13,13 +13,13 @@ run-limit-requires : tie.Need-run-limit-requires
 run-limit-requires c κs = tt
 
 place-of-requires : tie.Need-place-of-requires
-place-of-requires c κs = c .before .pre .burst
+place-of-requires c κs = c .before .pre .1
 
 sub-start : tie.Need-sub-start
 sub-start c = place-le _ _ _ _ (c .place-of .ensures)
 
 accesses-requires : tie.Need-accesses-requires
-accesses-requires c κs = c .before .before .pre .wide
+accesses-requires c κs = c .before .before .pre .0
 
 cast-difference : tie.Need-cast-difference
 cast-difference c = search needs
@@ -36,7 +36,7 @@ cast-result c = search needs
 gives : (c : tie.After-difference)
     → min (c .before .before .before .run-limit .result) (c .difference .result)
     ≡ runOf (c .before .before .before .before .args .ma) (c .before .before .before .before .args .sl)
-    (c .before .before .before .before .args .t) (c .before .before .before .before .args .a)
+    (c .before .before .before .before .args .t) (c .before .before .before .before .args .k)
 gives c =
     run-from _ _ _ _ _ _ _ _ (c .before .before .before .run-limit .ensures) (c .before .before .place-of .ensures)
     (c .before .accesses .ensures) (c .difference .ensures)

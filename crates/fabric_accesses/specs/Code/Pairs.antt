@@ -6,7 +6,7 @@ use Prim.Native.Nat.{ℕ, _+_, _%_, _^_, _≤_}
 use Rattle.common_laws.specs.Lists.{member}
 use Rattle.description_board.specs.declared.Master.{Master}
 use Rattle.description_board.specs.declared.Slave.{Slave}
-use Rattle.description_board.specs.Rules.{widths, bursts}
+use Rattle.description_board.specs.Rules.{widths}
 use Rattle.fabric_accesses.specs.declared.Transfer.{Transfer}
 use Rattle.fabric_accesses.specs.Alignment.{laneBytes}
 use Rattle.fabric_accesses.specs.Accesses.{accessOffset}
@@ -15,11 +15,6 @@ use Rattle.fabric_accesses.specs.Accesses.{accessOffset}
 pub record Widths (ma : Master) (sl : Slave) : Type 0 where
   pub master : member (ma .width) widths ≡ true
   pub slave : member (sl .width) widths ≡ true
-
--- and the burst that cuts the accesses into runs (rule 4.12)
-pub record LegalPair (ma : Master) (sl : Slave) : Type 0 where
-  pub wide : Widths ma sl
-  pub burst : member (sl .burst) bursts ≡ true
 
 -- a span is one of the powers of two of rule 1.6
 pub record Span (n : ℕ) : Type 0 where

@@ -10,8 +10,15 @@ sound-transfers-requires : tie.Need-sound-transfers-requires
 sound-transfers-requires c κs = c .before .pre
 
 sound-slots-requires : tie.Need-sound-slots-requires
-sound-slots-requires c κs = let passed = c .before .before in
-    record { board = passed .before .before .pre; targets = passed .sound-transfers .ensures .targets (c .before .if1 .taken) }
+sound-slots-requires c κs =
+    let passed = c .before .before in
+    let answered = passed .sound-transfers .ensures in
+    let taken = c .before .if1 .taken in
+    record {
+      board = passed .before .before .pre;
+      transfers = sym (answered .sound) ∙ taken;
+      targets = answered .targets taken;
+    }
 
 returns : tie.Need-returns
 unfolding sound

@@ -14,7 +14,7 @@ use Rattle.fabric_state.specs.Soundness.{soundSlot}
 use Rattle.fabric_state.specs.declared.State.{State}
 use Rattle.fabric_layout.proofs.StatePutLaws.{transfers-length}
 use Rattle.fabric_layout.specs.Layout.{stateIn}
-use Rattle.fabric_check.proofs.CheckLaws.{every-next, every-not, slot-stranger, slot-parts, legal-widths}
+use Rattle.fabric_check.proofs.CheckLaws.{every-next, every-not, slot-stranger, slot-parts, slot-posted}
 use Rattle.fabric_check.proofs.sound_slots.Statement.{statement}
 use Rattle.fabric_check.proofs.sound_slots.Tie as tie
 
@@ -116,8 +116,10 @@ sound-slot-by-requires : tie.Need-sound-slot-by-requires Inv-loop μ-loop
 sound-slot-by-requires c κs =
     let master = c .before .before .before in
     let k = master .before .before in
-    legal-widths _ (starting k .pre .board) _ _ (owner-in k) (slave-in (turn k)) (master .master-at .ensures)
-    (c .before .before .slave-at .ensures)
+    let start = starting k in
+    λ q.
+    slot-posted (board start) (state start) (start .args .targets .now) (start .pre) (transfers-length _) _ _ (slave-in (turn k))
+    (owner-in k) q (master .master-at .ensures) (c .before .before .slave-at .ensures) (c .before .transfer-at .ensures)
 
 returns-2 : tie.Need-returns-2 Inv-loop μ-loop
 returns-2 c =

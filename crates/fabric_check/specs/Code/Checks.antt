@@ -7,6 +7,7 @@ use mathlib.Core.List.{List}
 use Prim.Native.Nat.{ℕ}
 use lib.Dec.{ltb, eqb}
 use lib.ListN.{set}
+use Rattle.common_laws.specs.Lists.{every}
 use Rattle.description_board.specs.declared.Board.{Board}
 use Rattle.description_board.specs.Items.{boardRefusal}
 use Rattle.fabric_accesses.specs.declared.Transfer.{Transfer}
@@ -30,9 +31,10 @@ pub record Answered (b : Board) (st : State) (rule r : Bool) (ts : List ℕ) : T
   pub sound : r ≡ rule
   pub targets : r ≡ true → ts ≡ targetsIn b (st .transfers)
 
--- the board is accepted, and ts are the slaves of the state's transfers
+-- the board is accepted, no transfer of the state breaks a rule, and ts are their slaves
 pub record Decoded (b : Board) (st : State) (ts : List ℕ) : Type 0 where
   pub board : boardRefusal b ≡ 0
+  pub transfers : every (soundness.soundTransfer b st) 8 ≡ true
   pub targets : ts ≡ targetsIn b (st .transfers)
 
 -- what is checked of a board and a state before a call acts: the board's refusal; of an accepted board, whether the state

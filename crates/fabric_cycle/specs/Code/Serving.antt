@@ -4,12 +4,14 @@
 use mathlib.Core.Path.{_≡_}
 use mathlib.Core.Bool.{true, false, cond, not, _&&_}
 use Prim.Native.Nat.{ℕ, _≤_, _<_}
+use Rattle.common_laws.specs.Lists.{member}
 use Rattle.description_board.specs.declared.Master.{Master}
 use Rattle.description_board.specs.declared.Slave.{Slave}
+use Rattle.description_board.specs.Rules.{bursts}
 use Rattle.fabric_accesses.specs.declared.Transfer.{Transfer}
-use Rattle.fabric_accesses.specs.Accesses.{accesses, wordOffset}
+use Rattle.fabric_accesses.specs.Accesses.{wordOffset, accesses, accessNumber}
 use Rattle.fabric_accesses.specs.Code.Pairs.{InWord}
-use Rattle.fabric_accesses.specs.Code.Pairs.{LegalPair}
+use Rattle.fabric_accesses.specs.Code.Numbers.{Posted}
 use Rattle.fabric_bytes.specs.Bytes.{Store, carriedAccess}
 use Rattle.fabric_bytes.specs.Code.Reaching.{Reached}
 use Rattle.fabric_state.specs.declared.Slot.{Slot}
@@ -17,11 +19,14 @@ use Rattle.fabric_state.specs.declared.Step.{Step}
 use Rattle.fabric_state.specs.Records.{noLine}
 use Rattle.fabric_state.specs.Control.{waits, served}
 
--- access a is one of the transfer's, lies within one slave word, and that word's offset is one of a slave
-pub record Placed (ma : Master) (sl : Slave) (t : Transfer) (a : ℕ) : Type 0 where
-  pub pair : LegalPair ma sl
-  pub left : a < accesses ma sl t
+-- access a is the one that the transfer carries out behind k others; it lies within one slave word, and that word's offset is
+-- one of a slave
+pub record Placed (ma : Master) (sl : Slave) (t : Transfer) (k a : ℕ) : Type 0 where
+  pub posted : Posted ma sl t
+  pub burst : member (sl .burst) bursts ≡ true
+  pub left : k < accesses ma sl t
   pub few : accesses ma sl t ≤ 512
+  pub number : a ≡ accessNumber ma sl t k
   pub word : InWord ma sl t a
   pub offset : wordOffset ma sl t a < 65536
 
@@ -33,13 +38,14 @@ stepFrom ma sl t slot =
 -- the bytes of the same slave, whose span starts at `start`
 unfoldable pub carriedFrom : Master → Slave → Transfer → Slot → ℕ → Store → Store
 carriedFrom ma sl t slot start d =
-    cond (slot .serving && not (waits sl t slot)) (carriedAccess ma sl t (slot .owner) start (slot .done) d) d
+    cond (slot .serving && not (waits sl t slot))
+    (carriedAccess ma sl t (slot .owner) start (accessNumber ma sl t (slot .done)) d) d
 
 -- a slave that serves, and whose access in hand is one of the transfer's and of the lent bytes d
 pub record Serves (ma : Master) (sl : Slave) (t : Transfer) (slot : Slot) (start : ℕ) (d : Store) : Type 0 where
   pub serving : slot .serving ≡ true
-  pub placed : Placed ma sl t (slot .done)
-  pub reached : Reached ma sl t (slot .owner) start (slot .done) d
+  pub placed : Placed ma sl t (slot .done) (accessNumber ma sl t (slot .done))
+  pub reached : Reached ma sl t (slot .owner) start (accessNumber ma sl t (slot .done)) d
 
 -- its step r, and the bytes e that it leaves of d
 pub record Served (ma : Master) (sl : Slave) (t : Transfer) (slot : Slot) (start : ℕ) (d e : Store) (r : Step) : Type 0 where

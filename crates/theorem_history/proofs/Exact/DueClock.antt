@@ -113,8 +113,8 @@ module _
           let e = all-due j hj (asks-fit b legal st safe s hs j hj q .0) ∙ ap (transferFor b s j) due in
           let used : longAt b st s j + creditOf b s j (kept (transferAt st j .beats) p) ≡ creditOf b s j (suc p) =
           rw e
-          (spend-all (singleOf b s j) (longestOf b s j) (transferFor b s j p .beats) _ p (last-serve b s j p)
-          (first-single b s j p)) in
+          (spend-all (singleOf b s j) (longestOf b s j) (transferFor b s j p .beats) _ p (last-serve b legal s hs j hj p)
+          (first-single b legal s hs j hj p)) in
           ap (λ (z : ℕ). longAt b st s j + creditOf b s j z) (n .remains) ∙ used
         where
           due : dueAt b s st j ≡ n .left

@@ -23,7 +23,9 @@ use Rattle.fabric_lanes.specs.Lanes.{allLanes, lowest, adjacent, legalLanes, po
 use Rattle.fabric_accesses.specs.Decoding.{selects, targetOf}
 use Rattle.fabric_accesses.specs.Alignment.{ratio}
 use Rattle.fabric_accesses.specs.Accesses.{waitOf, ownLength}
-use Rattle.fabric_accesses.proofs.AccessLaws.{base-aligned, accesses-full}
+use Rattle.fabric_accesses.proofs.PowerLaws.{legal-widths}
+use Rattle.fabric_accesses.proofs.NumberLaws.{accesses-full}
+use Rattle.fabric_accesses.proofs.AccessLaws.{base-aligned}
 use Rattle.fabric_accesses.proofs.SelectLaws.{selects-of, selects-target}
 use Rattle.fabric_state.specs.declared.State.{State}
 use Rattle.fabric_state.specs.Records.{transferAt}
@@ -101,13 +103,15 @@ wait-is sl t e = rw e (go (leb (sl .«read_wait») (sl .«write_wait»)) refl)
     go true q = omega (arith, leb-true (sl .«read_wait») (sl .«write_wait») q)
     go false q = omega (arith, leb-false (sl .«read_wait») (sl .«write_wait») q)
 
-module _ (b : Board) (s j : ℕ) where
+module _ (b : Board) (legal : Legal b) (s : ℕ) (hs : s < b .«slave_count») (j : ℕ) (hj : j < b .«master_count») where
+  -- every lane is enabled, so that no access is left out
   long-is : (a : ℕ) → ownLength (masterAt b j) (slaveAt b s) (transferFor b s j a)
       ≡ beatsFor b s j a * ratio (masterAt b j) (slaveAt b s) * waits.longestAccess (slaveAt b s)
   unfolding ownLength transferFor requestFor
   long-is a =
       ap (λ (x : ℕ). x * (1 + waitOf (slaveAt b s) (transferFor b s j a)))
-      (accesses-full (masterAt b j) (slaveAt b s) (transferFor b s j a) refl)
+      (accesses-full (masterAt b j) (slaveAt b s) (transferFor b s j a)
+      (legal-widths (masterAt b j) (slaveAt b s) (legal .master j hj) (legal .slave s hs)) refl)
       ∙ ap (λ (x : ℕ). beatsFor b s j a * ratio (masterAt b j) (slaveAt b s) * x)
       (wait-is (slaveAt b s) (transferFor b s j a) refl)
 

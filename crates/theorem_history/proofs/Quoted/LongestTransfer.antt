@@ -51,7 +51,7 @@ module _
     unfolding lengthOf serveOf requestFor transferFor
     last-long =
         let same = ap (λ (k : ℕ). ownLength (masterAt b m) (slaveAt b k) (transferFor b s m 0)) last-slave in
-        omega (arith, same, last-serve b s m 0 refl)
+        omega (arith, same, last-serve b legal s hs m hm 0 refl)
 
     quoted-serve : quoteOf b m (slaveFor b last) .serve ≡ serveOf b m s
     quoted-serve =

@@ -17,7 +17,6 @@ use Rattle.description_board.proofs.RuleLaws.{width-bound, burst-bound}
 use Rattle.description_board.proofs.PairLaws.{pair-wide}
 use Rattle.description_board.proofs.StartLaws.{end-inside}
 use Rattle.fabric_accesses.proofs.AlignmentLaws.{byte-within}
-use Rattle.fabric_accesses.proofs.AccessLaws.{first-all}
 use Rattle.fabric_bytes.specs.Bytes.{Store, memoryIndex}
 use Rattle.fabric_bytes.proofs.MoveLaws.{less-or}
 use Rattle.fabric_state.specs.declared.Slot.{Slot}
@@ -26,7 +25,7 @@ use Rattle.fabric_state.specs.declared.Line.{Line}
 use Rattle.fabric_state.specs.Records.{transferAt, slotAt, noLine}
 use Rattle.fabric_state.specs.Control.{slotAfterGrant, lineOf, stepOf, linesOf}
 use Rattle.fabric_state.proofs.Sound.{Sound}
-use Rattle.fabric_state.proofs.RequestLaws.{Accepted, accepted, requests-held, requests-target}
+use Rattle.fabric_state.proofs.RequestLaws.{Accepted, accepted, accepted-posted, requests-held, requests-target}
 use Rattle.fabric_state.proofs.StateLaws.{line-after, line-after-past}
 use Rattle.fabric_state.proofs.StepLaws.{Outcome, rests, waiting, works, ends, outcome}
 use Rattle.fabric_state.proofs.SoundLaws.{grant-sound}
@@ -79,7 +78,7 @@ module _ (b : Board) (legal : Legal b) (st : State) (sound : Sound b st) where
           omega (arith, byte-within ma sl wm ws t wide (omega (arith, a .low, a .end)) i h l),
         );
         inside = end-inside b k (a .within);
-        whole = first-all ma sl wm ws t;
+        posted = accepted-posted b legal m k t (h .0) a;
       }
 
   module _ (k : ℕ) (below : k < b .«slave_count») where

@@ -1,11 +1,12 @@
 -- The accesses of one transfer at one slave, against its step on the byte memory, which is whole (rule 6.7): with the accesses
 -- that are still to come carried out too, the slave's span is that of the byte memory, and a read has brought what its step gave.
 -- Assumes nothing.
-use mathlib.Core.Path.{_≡_, refl, _∙_, sym}
+use mathlib.Core.Path.{_≡_, refl, ap, _∙_, sym}
 use mathlib.Core.Bool.{Bool, true, false, cond}
 use mathlib.Core.List.{List}
 use mathlib.Core.Logic.{⊎-elim, inl, inr, _≢_}
 use Prim.Native.Nat.{ℕ, _+_, _-_, _*_, _≤_, _<_}
+use native.Mathlib.Nat.{zero-add, add-zero}
 use native.Mathlib.Omega.{arith}
 use lib.ListN.{length, getD}
 use borrow.Author.Tests.{eq-eqb}
@@ -14,10 +15,12 @@ use Rattle.common_laws.proofs.FrontLaws.{table-same}
 use Rattle.description_board.specs.declared.Board.{Board}
 use Rattle.description_board.specs.Records.{masterAt, slaveAt, startOf, memoryLength}
 use Rattle.fabric_accesses.specs.declared.Transfer.{Transfer}
-use Rattle.fabric_accesses.specs.Alignment.{accessBytes, hasLane}
-use Rattle.fabric_accesses.specs.Accesses.{accesses, firstByte}
+use Rattle.fabric_accesses.specs.Alignment.{ratio, accessBytes, hasLane}
+use Rattle.fabric_accesses.specs.Accesses.{firstByte, accesses, accessNumber}
 use Rattle.fabric_accesses.specs.Decoding.{targetOf}
-use Rattle.fabric_accesses.proofs.AccessLaws.{first-zero, first-next, first-le}
+use Rattle.fabric_accesses.specs.Code.Numbers.{Posted, firstAccess}
+use Rattle.fabric_accesses.proofs.NumberLaws.{number-is, numbers-fit, front-left-out, end-left-out}
+use Rattle.fabric_accesses.proofs.AccessLaws.{first-zero, first-next, first-add, first-le, first-all}
 use Rattle.fabric_bytes.specs.Moving.{bytesFrom, move}
 use Rattle.fabric_bytes.specs.Bytes.{Store, bufferLength, partOf, memoryIndex, stores, byteRead, written, fetched}
 use Rattle.fabric_bytes.specs.Bytes.{carriedBytes, carriedAccess}
@@ -25,8 +28,9 @@ use Rattle.fabric_bytes.proofs.MoveLaws.{length-move}
 use Rattle.fabric_bytes.proofs.Ranges.{Agree, agree-refl, agree-sym, agree-trans, Apart, Outside, move-apart, move-agree}
 use Rattle.fabric_bytes.proofs.Ranges.{front, front-at, front-same, front-moved}
 use Rattle.fabric_bytes.proofs.StoreLaws.{length-memory, length-buffer, stores-lane, read-same, Alike, carried-write}
-use Rattle.fabric_bytes.proofs.StoreLaws.{carried-read, carried-none, carried-join, carried-memory, carried-buffer}
+use Rattle.fabric_bytes.proofs.StoreLaws.{carried-read, carried-join, carried-memory, carried-buffer}
 use Rattle.fabric_bytes.proofs.StoreLaws.{carried-alike, parts-apart}
+use Rattle.fabric_bytes.proofs.LeftOut.{left-out-all}
 use Rattle.fabric_state.specs.Posting.{transferOf}
 use Rattle.theorem_history.specs.Claim.{Reference, slaveFor, bytesIn, bytesAfter, given, stepped}
 
@@ -41,20 +45,21 @@ indexAt b k m t i = memoryIndex (masterAt b m) (slaveAt b k) t (startOf b k) i
 abbrev pub endOf : Board → ℕ → ℕ
 endOf b k = startOf b k + slaveAt b k .span
 
--- its accesses there, and access a
+-- its accesses there, and the one that is carried out behind n others
 abbrev pub accessesAt : Board → ℕ → ℕ → Transfer → ℕ
 accessesAt b k m t = accesses (masterAt b m) (slaveAt b k) t
 
 abbrev pub accessAt : Board → ℕ → ℕ → Transfer → ℕ → Store → Store
-accessAt b k m t a d = carriedAccess (masterAt b m) (slaveAt b k) t m (startOf b k) a d
+accessAt b k m t n d =
+    carriedAccess (masterAt b m) (slaveAt b k) t m (startOf b k) (accessNumber (masterAt b m) (slaveAt b k) t n) d
 
 -- which keeps the lengths of memory and buffer
-pub access-lengths : (b : Board) (k m : ℕ) (t : Transfer) (a : ℕ) (d : Store)
-    → let e = accessAt b k m t a d in
+pub access-lengths : (b : Board) (k m : ℕ) (t : Transfer) (n : ℕ) (d : Store)
+    → let e = accessAt b k m t n d in
     (length (e .memory) ≡ length (d .memory)) × (length (e .buffer) ≡ length (d .buffer))
-access-lengths b k m t a d = (
-  length-memory (masterAt b m) (slaveAt b k) t m (startOf b k) a d,
-  length-buffer (masterAt b m) (slaveAt b k) t m (startOf b k) a d,
+access-lengths b k m t n d = (
+  length-memory (masterAt b m) (slaveAt b k) t m (startOf b k) _ d,
+  length-buffer (masterAt b m) (slaveAt b k) t m (startOf b k) _ d,
 )
 
 -- the transfer of master m lies in the span of slave k and in the master's part of the buffer
@@ -64,7 +69,7 @@ pub record Lies (b : Board) (m k : ℕ) (t : Transfer) : Type 0 where
   pub placed : (i : ℕ) → i < bytesHeld b m t → hasLane (masterAt b m) (slaveAt b k) i ≡ true
       → (startOf b k ≤ indexAt b k m t i) × (indexAt b k m t i < endOf b k)
   pub inside : endOf b k ≤ memoryLength b
-  pub whole : firstByte (masterAt b m) (slaveAt b k) (accessesAt b k m t) ≡ bytesHeld b m t
+  pub posted : Posted (masterAt b m) (slaveAt b k) t
 
 -- the transfer t is what master m asked for last, and the words of that request are at the front of its part
 pub record Asked (b : Board) (d : Store) (r : Reference) (m : ℕ) (t : Transfer) : Type 0 where
@@ -73,18 +78,18 @@ pub record Asked (b : Board) (d : Store) (r : Reference) (m : ℕ) (t : Transfer
   pub many : length (r .request m .words) ≡ cond (t .write) (bytesHeld b m t) 0
   pub there : front (length (r .request m .words)) (partOf m) (d .buffer) ≡ r .request m .words
 
--- what is left of the transfer behind its first a accesses, carried out
+-- what is left of the transfer behind its first n accesses, carried out: their bytes and those behind them
 unfoldable pub rest : Board → ℕ → ℕ → Transfer → ℕ → Store → Store
-rest b k m t a d =
-    let first = firstByte (masterAt b m) (slaveAt b k) a in
+rest b k m t n d =
+    let first = firstByte (masterAt b m) (slaveAt b k) (firstAccess (masterAt b m) (slaveAt b k) t + n) in
     carriedBytes (masterAt b m) (slaveAt b k) t m (startOf b k) first (bytesHeld b m t - first) d
 
--- slave k has carried out a accesses of the transfer t of master m: with the rest carried out, the slave's span of the
+-- slave k has carried out n accesses of the transfer t of master m: with the rest carried out, the slave's span of the
 -- memory is that of the byte memory, and the front of the master's part is what a read gave
-pub record Served (b : Board) (d : Store) (r : Reference) (k m : ℕ) (t : Transfer) (a : ℕ) : Type 0 where
-  pub done : a ≤ accessesAt b k m t
-  pub range : Agree (startOf b k) (endOf b k) (rest b k m t a d .memory) (r .bytes)
-  pub reads : t .write ≡ false → front (bytesHeld b m t) (partOf m) (rest b k m t a d .buffer) ≡ r .given m
+pub record Served (b : Board) (d : Store) (r : Reference) (k m : ℕ) (t : Transfer) (n : ℕ) : Type 0 where
+  pub done : n ≤ accessesAt b k m t
+  pub range : Agree (startOf b k) (endOf b k) (rest b k m t n d .memory) (r .bytes)
+  pub reads : t .write ≡ false → front (bytesHeld b m t) (partOf m) (rest b k m t n d .buffer) ≡ r .given m
 
 -- and when all are carried out
 pub record Done (b : Board) (d : Store) (r : Reference) (k m : ℕ) (t : Transfer) : Type 0 where
@@ -109,53 +114,94 @@ module _ (b : Board) (k m : ℕ) (t : Transfer) (lies : Lies b m k t) where
   abbrev moved : ℕ → ℕ → Store → Store
   moved from n d = carriedBytes (masterAt b m) (slaveAt b k) t m (startOf b k) from n d
 
-  -- the first byte of access a, and the bytes of an access
+  -- the first byte of the access behind n others, and the bytes of an access
+  abbrev base : ℕ
+  base = firstAccess (masterAt b m) (slaveAt b k) t
+
   abbrev first : ℕ → ℕ
-  first a = firstByte (masterAt b m) (slaveAt b k) a
+  first n = firstByte (masterAt b m) (slaveAt b k) (base + n)
 
   abbrev each : ℕ
   each = accessBytes (masterAt b m) (slaveAt b k)
 
+  -- the accesses of all its beats, those that are left out too
+  abbrev total : ℕ
+  total = t .beats * ratio (masterAt b m) (slaveAt b k)
+
   -- ---- one access more, and the last
 
-  first-few : (a : ℕ) → a ≤ accessesAt b k m t → first a ≤ size
-  first-few a h = rw (← lies .whole) (first-le (masterAt b m) (slaveAt b k) a _ h)
+  whole : firstByte (masterAt b m) (slaveAt b k) total ≡ size
+  whole = first-all (masterAt b m) (slaveAt b k) (lies .posted .wide .master) (lies .posted .wide .slave) t
 
-  access-few : (a : ℕ) → a < accessesAt b k m t → first a + each ≤ size
-  access-few a h = rw first-next at (first-few (a + 1) (omega arith))
+  fit : base + accessesAt b k m t ≤ total
+  fit = numbers-fit (masterAt b m) (slaveAt b k) t (lies .posted)
 
-  rest-next : (a : ℕ) (d : Store) → a < accessesAt b k m t
-      → rest b k m t (a + 1) (accessAt b k m t a d) ≡ rest b k m t a d
-  unfolding rest carriedAccess
-  rest-next a d h =
-      let l = access-few a h in
-      let e : each + (size - (first a + each)) ≡ size - first a = omega arith in
-      rw (first-next (masterAt b m) (slaveAt b k) a)
-      (carried-join (masterAt b m) (slaveAt b k) t m (startOf b k) (first a) each (size - (first a + each)) d ∙ rw e)
+  first-few : (n : ℕ) → n ≤ accessesAt b k m t → first n ≤ size
+  first-few n h = rw (← whole) (first-le (masterAt b m) (slaveAt b k) (base + n) total (omega (arith, fit)))
 
-  rest-none : (a : ℕ) (d : Store) → a ≡ accessesAt b k m t → rest b k m t a d ≡ d
+  next : (n : ℕ) → first (n + 1) ≡ first n + each
+  next n =
+      let e : base + (n + 1) ≡ base + n + 1 = omega arith in
+      rw e (first-next (masterAt b m) (slaveAt b k) (base + n))
+
+  access-few : (n : ℕ) → n < accessesAt b k m t → first n + each ≤ size
+  access-few n h = omega (arith, next n, first-few (n + 1) (omega arith))
+
+  -- its bytes, moved
+  access-is : (n : ℕ) (d : Store) → n < accessesAt b k m t → accessAt b k m t n d ≡ moved (first n) each d
+  unfolding carriedAccess
+  access-is n d h = rw (number-is (masterAt b m) (slaveAt b k) t (lies .posted) n h)
+
+  rest-next : (n : ℕ) (d : Store) → n < accessesAt b k m t
+      → rest b k m t (n + 1) (accessAt b k m t n d) ≡ rest b k m t n d
   unfolding rest
-  rest-none a d e =
-      let z : size - size ≡ 0 = omega arith in
-      rw (e, lies .whole, z) (carried-none (masterAt b m) (slaveAt b k) t m (startOf b k) size d)
+  rest-next n d h =
+      let l = access-few n h in
+      let e : each + (size - (first n + each)) ≡ size - first n = omega arith in
+      rw (access-is n d h, next n)
+      (carried-join (masterAt b m) (slaveAt b k) t m (startOf b k) (first n) each (size - (first n + each)) d ∙ rw e)
+
+  -- behind the last access, and in front of the first, there is nothing to move
+  rest-none : (n : ℕ) (d : Store) → n ≡ accessesAt b k m t → rest b k m t n d ≡ d
+  unfolding rest
+  rest-none n d e =
+      let last = base + accessesAt b k m t in
+      let left = total - last in
+      let all : last + left ≡ total = omega (arith, fit) in
+      let end : firstByte (masterAt b m) (slaveAt b k) (last + left) ≡ size
+      = ap (λ (x : ℕ). firstByte (masterAt b m) (slaveAt b k) x) all ∙ whole in
+      let behind : size - first (accessesAt b k m t) ≡ left * each
+      = omega (arith, first-add (masterAt b m) (slaveAt b k) last left, end) in
+      rw (e, behind)
+      (left-out-all (masterAt b m) (slaveAt b k) t (lies .posted .wide) m (startOf b k) last left
+      (λ i p q. end-left-out (masterAt b m) (slaveAt b k) t (lies .posted) i p (omega arith)) d)
 
   rest-whole : (d : Store) → rest b k m t 0 d ≡ moved 0 size d
   unfolding rest
   rest-whole d =
-      let z : size - 0 ≡ size = omega arith in
-      rw (first-zero, z)
+      let start : first 0 ≡ base * each
+      = rw add-zero (unfold firstByte in refl) in
+      let l = first-few 0 (omega arith) in
+      let e : base * each + (size - base * each) ≡ size = omega arith in
+      let front : moved 0 (base * each) d ≡ d
+      = ap (λ (x : ℕ). moved x (base * each) d) (sym (first-zero (masterAt b m) (slaveAt b k)))
+      ∙ (left-out-all (masterAt b m) (slaveAt b k) t (lies .posted .wide) m (startOf b k) 0 base
+      (λ i p q. front-left-out (masterAt b m) (slaveAt b k) t (lies .posted) i (omega arith)) d) in
+      rw start
+      (rw (zero-add, front, e) at
+      (carried-join (masterAt b m) (slaveAt b k) t m (startOf b k) 0 (base * each) (size - base * each) d))
 
-  pub served-next : (a : ℕ) (d : Store) (r : Reference) → a < accessesAt b k m t → Served b d r k m t a
-      → Served b (accessAt b k m t a d) r k m t (a + 1)
-  served-next a d r h s = record {
+  pub served-next : (n : ℕ) (d : Store) (r : Reference) → n < accessesAt b k m t → Served b d r k m t n
+      → Served b (accessAt b k m t n d) r k m t (n + 1)
+  served-next n d r h s = record {
     done = omega arith;
-    range = rw (rest-next a d h) (s .range);
-    reads = λ e. rw (rest-next a d h) (s .reads e);
+    range = rw (rest-next n d h) (s .range);
+    reads = λ e. rw (rest-next n d h) (s .reads e);
   }
 
-  pub served-ends : (a : ℕ) (d : Store) (r : Reference) → a ≡ accessesAt b k m t → Served b d r k m t a → Done b d r k m t
-  served-ends a d r e s =
-      record { range = rw (rest-none a d e) at (s .range); reads = λ f. rw (rest-none a d e) at (s .reads f) }
+  pub served-ends : (n : ℕ) (d : Store) (r : Reference) → n ≡ accessesAt b k m t → Served b d r k m t n → Done b d r k m t
+  served-ends n d r e s =
+      record { range = rw (rest-none n d e) at (s .range); reads = λ f. rw (rest-none n d e) at (s .reads f) }
 
   -- what lies apart from the slave's span lies apart from the transfer's bytes
   apart-from : (lo hi i : ℕ) → i < size → hasLane (masterAt b m) (slaveAt b k) i ≡ true → Apart (startOf b k) (endOf b k) lo hi
@@ -165,45 +211,45 @@ module _ (b : Board) (k m : ℕ) (t : Transfer) (lies : Lies b m k t) where
       ⊎-elim (λ (u : endOf b k ≤ lo). inl (omega arith)) (λ (u : hi ≤ startOf b k). inr (omega arith)) p
 
   -- an access changes neither another slave's span nor another master's part
-  pub access-memory : (a : ℕ) (d : Store) → a < accessesAt b k m t → (lo hi : ℕ) → Apart (startOf b k) (endOf b k) lo hi
-      → Agree lo hi (accessAt b k m t a d .memory) (d .memory)
-  unfolding carriedAccess
-  access-memory a d h lo hi p =
-      carried-memory (masterAt b m) (slaveAt b k) t m (startOf b k) (first a) each lo hi d
-      (λ i x y l. apart-from lo hi i (omega (arith, access-few a h)) l p)
+  pub access-memory : (n : ℕ) (d : Store) → n < accessesAt b k m t → (lo hi : ℕ) → Apart (startOf b k) (endOf b k) lo hi
+      → Agree lo hi (accessAt b k m t n d .memory) (d .memory)
+  access-memory n d h lo hi p =
+      rw (access-is n d h)
+      (carried-memory (masterAt b m) (slaveAt b k) t m (startOf b k) (first n) each lo hi d
+      (λ i x y l. apart-from lo hi i (omega (arith, access-few n h)) l p))
 
-  pub access-buffer : (a : ℕ) (d : Store) → a < accessesAt b k m t → (j : ℕ) → m ≢ j
-      → Agree (partOf j) (partOf j + 512) (accessAt b k m t a d .buffer) (d .buffer)
-  unfolding carriedAccess
-  access-buffer a d h j q =
-      carried-buffer (masterAt b m) (slaveAt b k) t m (startOf b k) (first a) each (partOf j) (partOf j + 512) d
-      (parts-apart m j (first a) each q (omega (arith, access-few a h, lies .few)))
+  pub access-buffer : (n : ℕ) (d : Store) → n < accessesAt b k m t → (j : ℕ) → m ≢ j
+      → Agree (partOf j) (partOf j + 512) (accessAt b k m t n d .buffer) (d .buffer)
+  access-buffer n d h j q =
+      rw (access-is n d h)
+      (carried-buffer (masterAt b m) (slaveAt b k) t m (startOf b k) (first n) each (partOf j) (partOf j + 512) d
+      (parts-apart m j (first n) each q (omega (arith, access-few n h, lies .few))))
 
   -- nor its own master's words
-  pub asked-accessed : (a : ℕ) (d : Store) (r : Reference) → Asked b d r m t → Asked b (accessAt b k m t a d) r m t
+  pub asked-accessed : (n : ℕ) (d : Store) (r : Reference) → Asked b d r m t → Asked b (accessAt b k m t n d) r m t
   unfolding carriedAccess written
-  asked-accessed a d r h =
+  asked-accessed n d r h =
       record { master = h .master; transfer = h .transfer; many = h .many; there = go (t .write) refl }
     where
       go : (w : Bool) → t .write ≡ w
-          → front (length (r .request m .words)) (partOf m) (accessAt b k m t a d .buffer) ≡ r .request m .words
-      go true e = rw (carried-write (masterAt b m) (slaveAt b k) t m (startOf b k) (first a) each d e) (h .there)
+          → front (length (r .request m .words)) (partOf m) (accessAt b k m t n d .buffer) ≡ r .request m .words
+      go true e = rw (carried-write (masterAt b m) (slaveAt b k) t m (startOf b k) _ each d e) (h .there)
       go false e =
           let z : length (r .request m .words) ≡ 0 = h .many ∙ rw e in
           rw z (rw z at (h .there))
 
   -- ---- what happens elsewhere does not matter
 
-  pub served-kept : (a : ℕ) (d e : Store) (r s : Reference)
+  pub served-kept : (n : ℕ) (d e : Store) (r s : Reference)
       → Alike (startOf b k) (endOf b k) (partOf m) (partOf m + 512) d e
       → Agree (startOf b k) (endOf b k) (r .bytes) (s .bytes) → r .given m ≡ s .given m
-      → Served b d r k m t a → Served b e s k m t a
+      → Served b d r k m t n → Served b e s k m t n
   unfolding rest
-  served-kept a d e r s h y g v =
-      let l = first-few a (v .done) in
+  served-kept n d e r s h y g v =
+      let l = first-few n (v .done) in
       let x = lies .few in
       let z =
-      carried-alike (masterAt b m) (slaveAt b k) t m (startOf b k) (first a) (size - first a) (startOf b k) (endOf b k)
+      carried-alike (masterAt b m) (slaveAt b k) t m (startOf b k) (first n) (size - first n) (startOf b k) (endOf b k)
       (partOf m) (partOf m + 512) (λ i p q. lies .placed i (omega arith)) (omega arith) (omega arith) h in
       record {
         done = v .done;

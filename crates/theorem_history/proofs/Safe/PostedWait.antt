@@ -17,7 +17,7 @@ use Rattle.fabric_state.specs.Records.{transferAt, slotAt}
 use Rattle.fabric_state.specs.Posting.{Request, transferOf, withTransfer}
 use Rattle.fabric.specs.Calls.{World}
 use Rattle.fabric_state.proofs.StateLaws.{transfer-with, slot-with}
-use Rattle.fabric_state.proofs.RequestLaws.{Accepted, accepted, requests-of}
+use Rattle.fabric_state.proofs.RequestLaws.{Accepted, accepted, accepted-accesses, requests-of}
 use Rattle.theorem_bounds.proofs.Potential.{pot-quoted}
 use Rattle.theorem_history.specs.Claim.{slaveFor, waitFor, lengthOf}
 use Rattle.theorem_history.proofs.OneClock.PairFigures.{sharesOf, singleOf, longestOf, wait-quoted}
@@ -40,7 +40,8 @@ module _ (b : Board) (legal : Legal b) where
     lasts =
         let sl = slaveAt b (slaveFor b q) in
         let a : 1 ≤ 1 + waitOf sl (transferOf q) = omega arith in
-        let p : 1 * 1 ≤ ownLength (masterAt b (q .master)) sl (transferOf q) = mul-le-mul (fits .accesses) a in
+        let some = accepted-accesses b legal (q .master) (slaveFor b q) (transferOf q) (taken .master) fits in
+        let p : 1 * 1 ≤ ownLength (masterAt b (q .master)) sl (transferOf q) = mul-le-mul some a in
         p
 
     pub own-length : ownLength (masterAt b (q .master)) (slaveAt b (slaveFor b q)) (transferOf q) ≤ lengthOf b q

@@ -26,7 +26,7 @@ returns-2 : tie.Need-returns-2
 returns-2 c = let a = c .before .before .before .before in
     let e = a .before .before .before .before in
     let o = e .before .before .before in
-    a .carry-access .ensures ∙ carried-access _ _ _ _ _ _ (o .pre .1) (waits-no _ _ _ (o .pre .0) (e .if1 .left))
+    a .carry-access .ensures ∙ carried-access _ _ _ _ _ _ (o .pre .1) (waits-no _ _ _ (o .pre .0) (e .if1 .left)) (o .pre .2)
 
 pub carry-from-spec : {M : Type 1} → statement M
 carry-from-spec =

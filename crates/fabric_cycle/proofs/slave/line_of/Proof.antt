@@ -1,6 +1,6 @@
 -- `fabric_cycle::slave::line_of` meets its contract: the line of the access in hand.
 -- Assumes nothing.
-use Rattle.fabric_state.specs.Control.{lineOf}
+use Rattle.fabric_cycle.proofs.ServeLaws.{line-found}
 use borrow.Author.Needs.{needs}
 use Rattle.fabric_cycle.proofs.slave.line_of.Statement.{statement}
 use Rattle.fabric_cycle.proofs.slave.line_of.Tie as tie
@@ -21,14 +21,10 @@ cast-t11 : tie.Need-cast-t11
 cast-t11 c = search needs
 
 returns : tie.Need-returns
-unfolding lineOf
 returns c =
-    rw (
-      c .before .before .before .word-offset .ensures,
-      c .before .before .slave-lanes .ensures,
-      c .before .run-of .ensures,
-      c .place-of .ensures,
-    )
+    let offset = c .before .before .before in
+    line-found _ _ _ _ _ (offset .before .pre .number) (offset .word-offset .ensures) (c .before .before .slave-lanes .ensures)
+    (c .before .run-of .ensures) (c .place-of .ensures)
 
 pub line-of-spec : {M : Type 1} → statement M
 line-of-spec =

@@ -1,28 +1,37 @@
 -- `fabric_cycle::slave::serve` meets its contract: the bytes, then the step.
 -- Assumes nothing.
 use mathlib.Core.Path.{_∙_}
-use Rattle.fabric_cycle.proofs.ServeLaws.{from-serving}
+use Rattle.fabric_cycle.proofs.ServeLaws.{placed-at, reached-at, from-serving}
 use borrow.Author.Needs.{needs}
 use Rattle.fabric_cycle.proofs.slave.serve.Statement.{statement}
 use Rattle.fabric_cycle.proofs.slave.serve.Tie as tie
 
--- from the test of the wait back to the start, and from behind the bytes back to that test
+-- from the test of the wait back to the access in hand and the start, and from behind the bytes back to that test
+abbrev hand : tie.After-waits → tie.After-access-number
+hand c = c .before
+
 abbrev start : tie.After-waits → tie.Start
-start c = c .before .before .before
+start c = hand c .before .before .before
 
 abbrev tested : tie.After-carry-from → tie.After-waits
 tested c = c .before .before .before
+
+access-number-requires : tie.Need-access-number-requires
+access-number-requires c κs =
+    let placed = c .before .before .pre .placed in
+    (placed .posted, placed .left, placed .few)
 
 waits-requires : tie.Need-waits-requires
 waits-requires c κs = search needs
 
 carry-from-requires : tie.Need-carry-from-requires
 carry-from-requires c κs = let w = c .before .before in
-    (w .waits .ensures, start w .pre .serving, start w .pre .reached)
+    let a = hand w .access-number .ensures in
+    (w .waits .ensures, start w .pre .serving, a, reached-at _ _ _ _ _ _ _ a (start w .pre .reached))
 
 served-requires : tie.Need-served-requires
 served-requires c κs = let w = tested (c .before .before .before .before) in
-    (start w .pre .placed, w .waits .ensures)
+    (placed-at _ _ _ _ (hand w .access-number .ensures) (start w .pre .placed), w .waits .ensures)
 
 same-length : tie.Need-same-length
 same-length c = search needs
@@ -42,6 +51,7 @@ pub serve-spec : {M : Type 1} → statement M
 serve-spec =
     tie.close
     (tie.spec
+    access-number-requires
     waits-requires
     carry-from-requires
     served-requires
