@@ -1,10 +1,11 @@
--- Every example of Rows, Examples, NativeRows, ConnectionRows and VariantRows holds: each side computes to the same.
+-- Every example of Rows, Examples, NativeRows, ConnectionRows, VariantRows, OrderRows and LaneRows holds: each side computes to
+-- the same.
 -- Assumes nothing.
 use mathlib.Core.Path.{refl}
 use lib.Count.{ones, onesIn, trailingZeros}
 use Rattle.common_laws.specs.Bytes.{bytesOf}
 use Rattle.common_laws.specs.Bits.{bit}
-use Rattle.common_laws.specs.Lists.{member, same, gather, table, sum, every, some, firstFrom, first}
+use Rattle.common_laws.specs.Lists.{member, same, gather, table, filtered, sum, every, some, firstFrom, first}
 use Rattle.common_text.specs.Fields.{push, split, isDigit, scan, shaped, numberOf, numberRefusal, numberValue, noNumbers}
 use Rattle.common_text.specs.Fields.{withNumber, collect, numbersOf}
 use Rattle.common_text.specs.Digits.{digitsIn, digits, fieldsText, lineText}
@@ -22,9 +23,9 @@ use Rattle.description.specs.Reader.{mostBytes, reading, readText}
 use Rattle.description.specs.Blame.{firstRefused, chargedLine, masterNamedBy, namedMaster, refusedAt}
 use Rattle.fabric_lanes.specs.Lanes.{lowest, adjacent, legalLanes, postLanes}
 use Rattle.fabric_accesses.specs.Decoding.{agrees, selects, targetOf}
-use Rattle.fabric_accesses.specs.Alignment.{ratio, laneBytes, accessBytes, hasLane, byteOffset}
-use Rattle.fabric_accesses.specs.Accesses.{accesses, firstByte, accessOffset, wordOffset, writeLanes}
-use Rattle.fabric_accesses.specs.Accesses.{slaveLanes, waitOf, ownLength}
+use Rattle.fabric_accesses.specs.Alignment.{ratio, leavesOut, laneBytes, accessBytes, hasLane, byteOffset}
+use Rattle.fabric_accesses.specs.Accesses.{firstByte, accessOffset, wordOffset, writeLanes, slaveLanes}
+use Rattle.fabric_accesses.specs.Accesses.{accessed, accessNumbers, accesses, accessNumber, waitOf, ownLength}
 use Rattle.fabric_accesses.specs.Runs.{runLimit, placeOf, runOf}
 use Rattle.fabric_arbiter.specs.Choosing.{nextMaster, tried, firstRequester}
 use Rattle.fabric_arbiter.specs.Granting.{kept, grantTo, granted, arbiterAfter}
@@ -49,20 +50,21 @@ use Rattle.wait.specs.Answers.{bytes64, pairBytes, pairRefusal, waitRefusal, wa
 use Rattle.wait_table.specs.Tables.{heading, pairLine, pairLines, tableText, tableOf, printRefusal, refusedText, printed}
 use Rattle.wait_table.specs.Tables.{fileLine}
 use Rattle.wait_table.specs.Named.{firstField, someLine, names}
-use Rattle.theorem_rows.specs.RowCalls.{runs, started, lineNow, phases, grants}
+use Rattle.theorem_rows.specs.RowCalls.{runs, started, lineNow, clockedFrom, shownFrom, phases, grants}
 use Rattle.theorem_rows.specs.Examples.{readAnswers, slaveAnswers, Examples}
 use Rattle.theorem_rows.specs.NativeRows.{nativeText, nativeBoard, nativeStart, clockedWith, shownWith, nativeAnswers}
 use Rattle.theorem_rows.specs.NativeRows.{joined, NativeRows}
 use Rattle.theorem_rows.specs.ConnectionRows.{withShares, threeMasters, lent, world, ConnectionRows}
 use Rattle.theorem_rows.specs.VariantRows.{variant, variantText, exchangedText, board, variantTable, VariantRows}
 use Rattle.theorem_rows.specs.OrderRows.{behindSlaves, orderedText, OrderRows}
+use Rattle.theorem_rows.specs.LaneRows.{laneText, laneBoard, lanePosted, servedAnswers, LaneRows}
 use Rattle.theorem_rows.specs.Rows.{boardText, sharesText, tableOutput, Rows}
 
 -- one list of definitions for all tables, crate by crate
-proved : Rows × Examples × NativeRows × ConnectionRows × VariantRows × OrderRows
+proved : Rows × Examples × NativeRows × ConnectionRows × VariantRows × OrderRows × LaneRows
 unfolding
     ones onesIn trailingZeros
-    bytesOf bit member same gather table sum every some firstFrom first
+    bytesOf bit member same gather table filtered sum every some firstFrom first
     push split isDigit scan shaped numberOf numberRefusal numberValue noNumbers withNumber collect numbersOf digitsIn digits
     fieldsText lineText
     isNative noBoard connected totalSpan startOf memoryLength slaveValues meets overlaps masterRefusal slaveRefusal tooNarrow
@@ -74,8 +76,8 @@ unfolding
     masterLine slaveLine shareLine itemOfFields itemOf unended itemsOfPieces itemsOf
     mostBytes reading readText firstRefused chargedLine masterNamedBy namedMaster refusedAt
     lowest adjacent legalLanes postLanes
-    agrees selects targetOf ratio laneBytes accessBytes hasLane byteOffset accesses firstByte accessOffset wordOffset writeLanes
-    slaveLanes waitOf ownLength
+    agrees selects targetOf ratio leavesOut laneBytes accessBytes hasLane byteOffset firstByte accessOffset wordOffset writeLanes
+    slaveLanes accessed accessNumbers accesses accessNumber waitOf ownLength
     runLimit placeOf runOf
     nextMaster tried firstRequester kept grantTo granted arbiterAfter
     move postedWords memoryIndex stores byteRead written fetched carriedBytes carriedAccess
@@ -89,11 +91,12 @@ unfolding
     quoted.quotedWait quoted.serveOf turnAt turnsAt
     quoteRefusal quoteOf bytes64 pairBytes pairRefusal waitRefusal waitOutput
     heading pairLine pairLines tableText tableOf printRefusal refusedText printed fileLine firstField someLine names
-    runs started lineNow phases grants readAnswers slaveAnswers boardText sharesText tableOutput
+    runs started lineNow clockedFrom shownFrom phases grants readAnswers slaveAnswers boardText sharesText tableOutput
     nativeText nativeBoard nativeStart clockedWith shownWith nativeAnswers joined
     withShares threeMasters lent world
     variant variantText exchangedText board variantTable
     behindSlaves orderedText
+    laneText laneBoard lanePosted servedAnswers
 proved = (
   record {
     sixteen = refl;
@@ -204,6 +207,28 @@ proved = (
     table = refl;
     printedLine = refl;
   },
+  record {
+    quarter = refl;
+    quarterEnds = refl;
+    quarterBytes = refl;
+    half = refl;
+    halfBytes = refl;
+    single = refl;
+    all = refl;
+    read = refl;
+    readBytes = refl;
+    numbers = refl;
+    native = refl;
+    cut = refl;
+    length = refl;
+    oneLeft = refl;
+    noneLeft = refl;
+    halfLeft = refl;
+    halfDone = refl;
+    lastRead = refl;
+    readDone = refl;
+    figures = refl;
+  },
 )
 
 pub rows : Rows
@@ -223,3 +248,6 @@ variant-rows = proved .4
 
 pub order-rows : OrderRows
 order-rows = proved .5
+
+pub lane-rows : LaneRows
+lane-rows = proved .6

@@ -5,3 +5,4 @@ pub mod NativeRows
 pub mod ConnectionRows
 pub mod VariantRows
 pub mod OrderRows
+pub mod LaneRows

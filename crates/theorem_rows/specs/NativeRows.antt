@@ -3,7 +3,7 @@
 use mathlib.Core.Path.{_≡_}
 use mathlib.Core.Bool.{true, false}
 use mathlib.Core.List.{List, [], _∷_}
-use Prim.Native.Nat.{ℕ, zero, suc}
+use Prim.Native.Nat.{ℕ, suc}
 use lib.ListN.{take, set, replicate}
 use Rattle.common_laws.specs.Bytes.{bytesOf}
 use Rattle.common_laws.specs.Lists.{table}
@@ -15,9 +15,9 @@ use Rattle.fabric_bytes.specs.Bytes.{bufferLength}
 use Rattle.fabric_state.specs.declared.Line.{Line}
 use Rattle.fabric_state.specs.Records.{noLine}
 use Rattle.fabric_state.specs.Posting.{Request}
-use Rattle.fabric.specs.Calls.{World, reset, post, afterPost, afterClock}
+use Rattle.fabric.specs.Calls.{World, reset, post, afterPost}
 use Rattle.wait_table.specs.Tables.{printed}
-use Rattle.theorem_rows.specs.RowCalls.{lineNow}
+use Rattle.theorem_rows.specs.RowCalls.{clockedFrom, shownFrom, access}
 
 -- the board of rule 9.9: the card has 16 bytes, a burst of 2 and no waits
 unfoldable pub nativeText : List ℕ
@@ -43,18 +43,11 @@ writeOf lanes =
 
 -- the request posted there, and then n clocks
 unfoldable pub clockedWith : Request → ℕ → World
-clockedWith q zero = afterPost nativeBoard nativeStart q
-clockedWith q (suc n) = afterClock nativeBoard (clockedWith q n)
+clockedWith q n = clockedFrom nativeBoard (afterPost nativeBoard nativeStart q) n
 
--- what the card shows in each of n clocks behind the post, the last in front
+-- what the card shows in each of n clocks behind the post
 unfoldable pub shownWith : Request → ℕ → List Line
-shownWith q zero = []
-shownWith q (suc n) = lineNow nativeBoard (clockedWith q n) ∷ shownWith q n
-
--- the line of an access of master 0
-abbrev pub access : ℕ → ℕ → ℕ → ℕ → Line
-access offset lanes run place =
-    record { phase = 2; owner = 0; offset = offset; lanes = lanes; run = run; place = place }
+shownWith q n = shownFrom nativeBoard (afterPost nativeBoard nativeStart q) n
 
 -- what a read answers there
 unfoldable pub nativeAnswers : ℕ → ℕ → ℕ
@@ -75,18 +68,18 @@ joined width native = record {
 
 pub record NativeRows : Type 0 where
   -- rule 9.9: a read of the word at address 4, word 1: one access at offset 2, with both lanes of the card
-  pub word : shownWith (readOf 4 1) 2 ≡ noLine ∷ access 2 0b11 1 0 ∷ []
+  pub word : shownWith (readOf 4 1) 2 ≡ access 2 0b11 1 0 ∷ noLine ∷ []
   -- rule 9.9: the card's two bytes, two zeros; behind them the buffer is as it was
   pub wordBytes : take 6 (clockedWith (readOf 4 1) 1 .store .buffer) ≡ 3 ∷ 4 ∷ 0 ∷ 0 ∷ 9 ∷ 9 ∷ []
   -- rule 9.9: three beats: offsets 2, 4 and 6, in runs of 2 and 1
-  pub burst : shownWith (readOf 4 3) 4 ≡ noLine ∷ access 6 0b11 1 0 ∷ access 4 0b11 2 1 ∷ access 2 0b11 2 0 ∷ []
+  pub burst : shownWith (readOf 4 3) 4 ≡ access 2 0b11 2 0 ∷ access 4 0b11 2 1 ∷ access 6 0b11 1 0 ∷ noLine ∷ []
   pub burstBytes : take 13 (clockedWith (readOf 4 3) 3 .store .buffer)
       ≡ 3 ∷ 4 ∷ 0 ∷ 0 ∷ 5 ∷ 6 ∷ 0 ∷ 0 ∷ 7 ∷ 8 ∷ 0 ∷ 0 ∷ 9 ∷ []
   -- rule 9.10: a write whose lanes lie all above the card's width: one access, no lane, the memory as it was
-  pub noLane : shownWith (writeOf 0b1100) 2 ≡ noLine ∷ access 2 0 1 0 ∷ []
+  pub noLane : shownWith (writeOf 0b1100) 2 ≡ access 2 0 1 0 ∷ noLine ∷ []
   pub noByte : clockedWith (writeOf 0b1100) 1 .store .memory ≡ table suc 16
   -- rule 9.10: of a write with all lanes the card takes the lower two bytes
-  pub twoLanes : shownWith (writeOf 0b1111) 2 ≡ noLine ∷ access 2 0b11 1 0 ∷ []
+  pub twoLanes : shownWith (writeOf 0b1111) 2 ≡ access 2 0b11 1 0 ∷ noLine ∷ []
   pub twoBytes : take 6 (clockedWith (writeOf 0b1111) 1 .store .memory) ≡ 1 ∷ 2 ∷ 161 ∷ 162 ∷ 5 ∷ 6 ∷ []
   -- rule 9.11: the last word by address, and a beat too many there (7.17)
   pub lastWord : nativeAnswers 12 1 ≡ 0

@@ -21,7 +21,7 @@ use Rattle.fabric.specs.Calls.{World, reset, clock, afterPost, afterClock}
 
 -- the lengths of a transfer's runs, each taken at its first access
 unfoldable pub runs : Master → Slave → Transfer → List ℕ
-runs ma sl t = gather (λ a. cond (eqb (placeOf ma sl a) 0) (runOf ma sl t a ∷ []) []) (accesses ma sl t)
+runs ma sl t = gather (λ k. cond (eqb (placeOf ma sl k) 0) (runOf ma sl t k ∷ []) []) (accesses ma sl t)
 
 -- a reset, on a memory and a buffer of zeros
 unfoldable pub started : Board → World
@@ -33,6 +33,25 @@ started b = record {
 -- the line of slave 0 in the next clock
 unfoldable pub lineNow : Board → World → Line
 lineNow b w = getD (clock b (w .state) (w .store) .lines) 0 noLine
+
+-- what stands behind n clocks
+unfoldable pub clockedFrom : Board → World → ℕ → World
+clockedFrom b w zero = w
+clockedFrom b w (suc n) = clockedFrom b (afterClock b w) n
+
+-- the line of slave 0 in each of n clocks
+unfoldable pub shownFrom : Board → World → ℕ → List Line
+shownFrom b w zero = []
+shownFrom b w (suc n) = lineNow b w ∷ shownFrom b (afterClock b w) n
+
+-- a line of master 0 that waits for an access, and one of the access
+abbrev pub waiting : ℕ → ℕ → ℕ → ℕ → Line
+waiting offset lanes run place =
+    record { phase = 1; owner = 0; offset = offset; lanes = lanes; run = run; place = place }
+
+abbrev pub access : ℕ → ℕ → ℕ → ℕ → Line
+access offset lanes run place =
+    record { phase = 2; owner = 0; offset = offset; lanes = lanes; run = run; place = place }
 
 -- phase of slave 0 and mask of masters finished, in each of n clocks
 unfoldable pub phases : Board → ℕ → World → List (ℕ × ℕ)
