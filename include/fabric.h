@@ -36,7 +36,7 @@ extern "C" {
 #endif
 
 /* The version of this header and of the library. */
-#define FABRIC_VERSION "1.4"
+#define FABRIC_VERSION "1.5"
 
 /* The most masters and slaves of a board (rule 1.1), and the most bytes of its description (rule 1.2). */
 #define FABRIC_MASTERS 8
@@ -128,7 +128,7 @@ struct fabric_slot {
     uint32_t owner;     /* the last owner */
     uint32_t remaining; /* the grants that remain to it */
     uint32_t serving;
-    uint32_t done;   /* accesses */
+    uint32_t done;   /* accesses carried out (rule 4.10) */
     uint32_t waited; /* waits passed */
 };
 
