@@ -83,7 +83,8 @@ impl Board {
         self.slaves[slave].is_native() && self.masters[master].width < self.slaves[slave].width
     }
 
-    /// The accesses of one beat: more than 1 only for a master wider than a slave with bus sizing.
+    /// The most accesses of one beat: more than 1 only for a master wider than a slave with bus sizing. A write has fewer where
+    /// it leaves words out.
     pub fn ratio(&self, master: usize, slave: usize) -> u64 {
         let master_width = self.masters[master].width as u64;
         let slave_width = self.slaves[slave].width as u64;

@@ -3,10 +3,13 @@
 mod access;
 mod arbiter;
 mod judge;
+mod words;
 
 use crate::board::{Board, MASTER_LIMIT, SLAVE_LIMIT};
 use crate::description::check_board;
 use judge::{judge_clock, judge_post};
+
+pub use words::total_accesses;
 
 pub const BUFFER_LENGTH: usize = 4_096;
 /// Each master's part of the buffer.
@@ -28,7 +31,7 @@ pub struct Slot {
     pub owner: u8,
     pub remaining: u8,
     pub serving: bool,
-    /// Accesses done.
+    /// Accesses carried out.
     pub done: u16,
     /// Waits passed of the access that is next.
     pub waited: u8,

@@ -1,9 +1,9 @@
 //! A serving slave: its accesses, one after another, until the transfer is finished.
 
-use super::judge::total_accesses;
+use super::words::{accessed_words, total_accesses};
 use super::{master_part, SlaveLine, Slot, State, Transfer};
 use crate::board::Board;
-use crate::lanes::all_lanes;
+use crate::lanes::{all_lanes, word_lanes};
 
 /// One access of the transfer that a slave serves.
 struct Access {
@@ -29,24 +29,24 @@ fn next_access(board: &Board, slave: usize, slot: &Slot, transfer: &Transfer) ->
     }
 }
 
-/// Bus sizing: a beat of a wider master is several accesses, lowest address first; any other beat is one.
+/// Bus sizing: a beat has an access for each word that it goes to; its bytes lie side by side, as in the master's part.
 fn sized_access(board: &Board, slave: usize, slot: &Slot, transfer: &Transfer) -> Access {
     let owner = slot.owner as usize;
     let master_width = board.masters[owner].width as usize;
     let slave_width = board.slaves[slave].width as usize;
-    let ratio = board.ratio(owner, slave) as usize;
+    let words = accessed_words(board, owner, slave, transfer);
     let done = slot.done as usize;
-    let beat = done / ratio;
-    let piece = done % ratio;
-    let from = beat * master_width + piece * slave_width;
-    let length = master_width.min(slave_width);
-    let (run, place) = run_and_place(board, slave, slot, transfer);
+    let beat = done / words.count;
+    let word = words.number(done % words.count);
+    let from = beat * master_width + word * slave_width;
+    let total = transfer.beats as usize * words.count;
+    let (run, place) = run_and_place(board, slave, slot, total);
     Access {
         from,
         offset: (transfer.address - board.slaves[slave].base) as usize + from,
-        length,
+        length: master_width.min(slave_width),
         missing: 0,
-        enabled: (transfer.lanes >> (piece * slave_width)) & all_lanes(length as u8),
+        enabled: word_lanes(transfer.lanes, word as u8, slave_width as u8),
         run,
         place,
     }
@@ -58,7 +58,7 @@ fn native_access(board: &Board, slave: usize, slot: &Slot, transfer: &Transfer) 
     let slave_width = board.slaves[slave].width as usize;
     let beat = slot.done as usize;
     let first_word = (transfer.address - board.slaves[slave].base) as usize / master_width;
-    let (run, place) = run_and_place(board, slave, slot, transfer);
+    let (run, place) = run_and_place(board, slave, slot, transfer.beats as usize);
     Access {
         from: beat * master_width,
         offset: (first_word + beat) * slave_width,
@@ -70,14 +70,13 @@ fn native_access(board: &Board, slave: usize, slot: &Slot, transfer: &Transfer) 
     }
 }
 
-/// The length of the access's run, and its place there. The slave's burst length cuts a transfer into runs, the last one
-/// shorter; of a narrower master each access is a run of its own.
-fn run_and_place(board: &Board, slave: usize, slot: &Slot, transfer: &Transfer) -> (u8, u8) {
+/// The length of the access's run, and its place there. The slave's burst length cuts a transfer's accesses, so many in total,
+/// into runs, the last one shorter; of a narrower master each access is a run of its own.
+fn run_and_place(board: &Board, slave: usize, slot: &Slot, total: usize) -> (u8, u8) {
     let owner = slot.owner as usize;
     if board.masters[owner].width < board.slaves[slave].width {
         return (1, 0);
     }
-    let total = total_accesses(board, owner, slave, transfer) as usize;
     let done = slot.done as usize;
     let burst = board.slaves[slave].burst as usize;
     let place = done % burst;

@@ -1,5 +1,6 @@
 //! What post and clock are refused for.
 
+use super::words::total_accesses;
 use super::{State, Transfer, BUFFER_LENGTH};
 use crate::board::{Board, MASTER_LIMIT};
 use crate::description::check_board;
@@ -7,11 +8,6 @@ use crate::lanes::{all_lanes, lanes_legal};
 
 /// The slave that each master's held transfer is for.
 pub type Targets = [Option<usize>; MASTER_LIMIT];
-
-/// The accesses of a transfer at a slave.
-pub fn total_accesses(board: &Board, master: usize, slave: usize, transfer: &Transfer) -> u64 {
-    transfer.beats as u64 * board.ratio(master, slave)
-}
 
 /// The connected slave in whose span the address lies. A base is a multiple of its span, so that address and base agree in what
 /// counts whole spans.

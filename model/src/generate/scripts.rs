@@ -5,6 +5,7 @@ mod corrupt;
 mod lines;
 mod malformed;
 mod native;
+mod partial;
 mod posts;
 mod restore;
 mod slots;
@@ -77,20 +78,23 @@ impl Author {
         self.simulator.state.transfers[master].held
     }
 
-    /// The native slaves that a master is connected with.
-    fn native_slaves(&self) -> Vec<usize> {
-        let connected =
-            |slave| (0..self.masters()).any(|master| self.board.connected(master, slave));
-        (0..self.slaves())
-            .filter(|&slave| self.board.slaves[slave].is_native() && connected(slave))
-            .collect()
+    /// The slaves that are such for a master that they are connected with.
+    fn slaves_that(&self, are_such: impl Fn(usize, usize) -> bool) -> Vec<usize> {
+        let is_such = |slave: usize| {
+            (0..self.masters())
+                .any(|master| self.board.connected(master, slave) && are_such(master, slave))
+        };
+        (0..self.slaves()).filter(|&slave| is_such(slave)).collect()
     }
 
+    /// Mostly a slave: a native one, one of which a beat covers several words, or any.
     fn hot_slave(&mut self) -> Option<usize> {
-        let native = self.native_slaves();
-        match self.random.below(3) {
+        let native = self.slaves_that(|_, slave| self.board.slaves[slave].is_native());
+        let narrower = self.slaves_that(|master, slave| self.board.ratio(master, slave) > 1);
+        match self.random.below(4) {
             0 => None,
             1 if !native.is_empty() => Some(self.random.pick(&native)),
+            2 if !narrower.is_empty() => Some(self.random.pick(&narrower)),
             _ => Some(self.random.below(self.slaves())),
         }
     }
@@ -149,13 +153,14 @@ impl Author {
 
     /// Some lines that belong together.
     fn stretch(&mut self) {
-        match self.random.below(26) {
+        match self.random.below(28) {
             0..=12 => self.busy(),
             13 | 14 => self.quiet(),
             15..=20 => self.corrupt(),
             21 | 22 => self.lend(),
             23 => self.realign(),
             24 => self.unconnect(),
+            25 | 26 => self.partial_writes(),
             _ => self.fresh(),
         }
     }

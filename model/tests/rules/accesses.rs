@@ -68,8 +68,8 @@ fn a_write_of_a_wider_master_stores_only_its_lanes() {
     let before = fabric.memory.clone();
     assert_eq!(fabric.post(0, write_of(4096, 12, 1), &[1, 2, 3, 4]), 0);
     let lines = fabric.clock_until_finished();
-    let lanes: Vec<u8> = lines.iter().map(|line| line.lanes).collect();
-    assert_eq!(lanes, [0, 3]);
+    let shown: Vec<(u32, u8)> = lines.iter().map(|line| (line.offset, line.lanes)).collect();
+    assert_eq!(shown, [(2, 3)]);
     assert_eq!(fabric.memory[..2], before[..2]);
     assert_eq!(fabric.memory[2..4], [3, 4]);
 }

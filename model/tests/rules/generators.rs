@@ -1,5 +1,6 @@
 //! The generators: boards that are taken, and texts and scripts that reach every refusal.
 
+use crate::tally::{tally, Tally};
 use model::board::Board;
 use model::description::{read, write};
 use model::generate::boards::{any_size, board, longest_board, Size};
@@ -132,15 +133,21 @@ fn generated_texts_often_have_share_lines_out_of_order() {
     assert!(taken > 250, "only {taken} of 2000");
 }
 
+/// A board and a script for it.
+fn board_and_script(seed: u64, calls: usize) -> (String, Vec<u8>) {
+    let mut random = Random::new(seed);
+    let size = any_size(&mut random);
+    let text = write(&board(&mut random, size));
+    let mut script = Vec::new();
+    scripts::write_script(seed, calls, text.as_bytes(), &mut script).expect("memory takes all");
+    (text, script)
+}
+
 /// What is printed for generated scripts on generated boards.
 fn printed_by_scripts(seeds: std::ops::Range<u64>) -> String {
     let mut printed = Vec::new();
     for seed in seeds {
-        let mut random = Random::new(seed);
-        let size = any_size(&mut random);
-        let text = write(&board(&mut random, size));
-        let mut script = Vec::new();
-        scripts::write_script(seed, 200, text.as_bytes(), &mut script).expect("memory takes all");
+        let (text, script) = board_and_script(seed, 200);
         simulate(text.as_bytes(), &mut &script[..], &mut printed).expect("memory takes all");
     }
     String::from_utf8(printed).expect("scripts print ASCII")
@@ -169,4 +176,25 @@ fn generated_scripts_call_with_a_master_that_has_no_share_line() {
     for line in ["reset,20", "post,20", "clock,20,0"] {
         assert!(printed.lines().any(|answer| answer == line), "no {line}");
     }
+}
+
+#[test]
+fn generated_scripts_have_writes_that_leave_words_out() {
+    let tallies: Vec<Tally> = (0..300)
+        .map(|seed| board_and_script(seed, 100))
+        .map(|(text, script)| tally(text.as_bytes(), &script))
+        .collect();
+    let count = |is_such: fn(&Tally) -> bool| tallies.iter().filter(|tally| is_such(tally)).count();
+    let finished = count(|tally| tally.finished);
+    let refused = count(|tally| tally.refused);
+    let entered = count(|tally| tally.entered);
+    assert!(finished > 90, "only {finished} of 300 finish one");
+    assert!(
+        refused > 20,
+        "only {refused} of 300 answer 9 for the accesses of one"
+    );
+    assert!(
+        entered > 10,
+        "only {entered} of 300 go on from the middle of one"
+    );
 }

@@ -1,5 +1,7 @@
 //! What the rules promise of every history, on random ones: what a read gives, and how long a transfer waits and lasts.
 
+use std::ops::Range;
+
 use crate::fabric::{read_of, Fabric};
 use model::board::{Board, MASTER_LIMIT};
 use model::fabric::{SlaveLine, Transfer, PART_LENGTH};
@@ -15,7 +17,8 @@ struct Journey {
     slave: usize,
     /// Clocks since the post.
     clocks: u64,
-    started: bool,
+    /// Clocks from the first cycle on.
+    served: u64,
     /// What a read has to give.
     given: Vec<u8>,
 }
@@ -29,14 +32,22 @@ struct History {
     finished: usize,
     /// Of these, the transfers of masters wider than a native card.
     finished_native: usize,
+    /// And the writes that have no lane in some word of their beat.
+    finished_partial: usize,
+}
+
+/// The places of a card's bytes in the memory.
+fn cells(board: &Board, slave: usize) -> Range<usize> {
+    let spans = board.slaves[..slave].iter();
+    let start: usize = spans.map(|slave| slave.span as usize).sum();
+    start..start + board.slaves[slave].span as usize
 }
 
 /// Where byte number `place` of a transfer lies in the memory. A native card has a word for each word of the master, and no
 /// byte for those of the master's that are above its own width.
 fn place_of(board: &Board, master: usize, journey: &Journey, place: usize) -> Option<usize> {
     let slave = &board.slaves[journey.slave];
-    let spans = board.slaves[..journey.slave].iter();
-    let start: usize = spans.map(|slave| slave.span as usize).sum();
+    let start = cells(board, journey.slave).start;
     let offset = (journey.transfer.address - slave.base) as usize + place;
     if slave.native == 0 {
         return Some(start + offset);
@@ -45,6 +56,22 @@ fn place_of(board: &Board, master: usize, journey: &Journey, place: usize) -> Op
     let (word, byte) = (offset / master_width, offset % master_width);
     let slave_width = slave.width as usize;
     (byte < slave_width).then_some(start + word * slave_width + byte)
+}
+
+/// The accesses of a transfer: a write to a card with bus sizing has them only in the words of its lanes.
+fn accesses_of(board: &Board, master: usize, journey: &Journey) -> u64 {
+    let (width, slave) = (board.masters[master].width, &board.slaves[journey.slave]);
+    if slave.native == 1 || width <= slave.width {
+        return journey.transfer.beats as u64;
+    }
+    let is_accessed =
+        |lane: &u8| !journey.transfer.write || journey.transfer.lanes >> lane & 1 == 1;
+    let mut words: Vec<u8> = (0..width)
+        .filter(is_accessed)
+        .map(|lane| lane / slave.width)
+        .collect();
+    words.dedup();
+    journey.transfer.beats as u64 * words.len() as u64
 }
 
 impl History {
@@ -59,6 +86,7 @@ impl History {
             journeys: Default::default(),
             finished: 0,
             finished_native: 0,
+            finished_partial: 0,
         }
     }
 
@@ -77,9 +105,11 @@ impl History {
         let address = slave.base + (word * width) as u32;
         let mut transfer = read_of(address, all_lanes(master.width), beats as u8);
         transfer.write = self.random.chance(1, 2);
-        let lanes = self.random.byte();
-        if beats == 1 && lanes_legal(lanes, master.width) {
-            transfer.lanes = lanes;
+        if beats == 1 {
+            let legal: Vec<u8> = (1..=255)
+                .filter(|&lanes| lanes_legal(lanes, master.width))
+                .collect();
+            transfer.lanes = self.random.pick(&legal);
         }
         transfer
     }
@@ -103,21 +133,21 @@ impl History {
             data,
             slave,
             clocks: 0,
-            started: false,
+            served: 0,
             given: Vec::new(),
         });
     }
 
-    /// The whole transfer in one step, at its first cycle.
-    fn start(&mut self, master: usize) {
+    /// A cycle of a transfer: all of it is one step, at the first.
+    fn serve(&mut self, master: usize) {
         let board = &self.fabric.board;
         let journey = self.journeys[master]
             .as_mut()
             .expect("a master is served that posted nothing");
-        if journey.started {
+        journey.served += 1;
+        if journey.served > 1 {
             return;
         }
-        journey.started = true;
         let width = board.masters[master].width as usize;
         for place in 0..journey.transfer.beats as usize * width {
             let byte = place_of(board, master, journey, place).map(|at| &mut self.bytes[at]);
@@ -131,43 +161,57 @@ impl History {
         }
     }
 
-    fn start_served(&mut self, lines: &[SlaveLine]) {
+    fn serve_each(&mut self, lines: &[SlaveLine]) {
         for line in lines.iter().filter(|line| line.phase > 0) {
-            self.start(line.owner as usize);
+            self.serve(line.owner as usize);
         }
     }
 
-    /// A read finishes with the words of its one step.
+    /// The clocks that a transfer is served.
+    fn own_length(&self, master: usize, journey: &Journey) -> u64 {
+        let board = &self.fabric.board;
+        let wait = board.slaves[journey.slave].wait(journey.transfer.write) as u64;
+        accesses_of(board, master, journey) * (1 + wait)
+    }
+
+    /// A read finishes with the words of its one step, and any transfer leaves the card's bytes as the steps do.
     fn finish(&mut self, master: usize) {
         let journey = self.journeys[master]
             .take()
             .expect("a master finishes that posted nothing");
         let part = &self.fabric.buffer[PART_LENGTH * master..];
         assert_eq!(part[..journey.given.len()], journey.given);
+        assert_eq!(journey.served, self.own_length(master, &journey));
+        let cells = cells(&self.fabric.board, journey.slave);
+        assert_eq!(self.fabric.memory[cells.clone()], self.bytes[cells]);
+        self.count(master, &journey);
+    }
+
+    fn count(&mut self, master: usize, journey: &Journey) {
+        let board = &self.fabric.board;
+        let slave = &board.slaves[journey.slave];
+        let is_native = slave.is_native() && board.masters[master].width > slave.width;
+        let every_word = journey.transfer.beats as u64 * board.ratio(master, journey.slave);
+        let is_partial = accesses_of(board, master, journey) < every_word;
         self.finished += 1;
-        let slave = &self.fabric.board.slaves[journey.slave];
-        if slave.is_native() && self.fabric.board.masters[master].width > slave.width {
-            self.finished_native += 1;
-        }
+        self.finished_native += usize::from(is_native);
+        self.finished_partial += usize::from(is_partial);
     }
 
     /// The first cycle comes at the latest after the quoted wait, the last one as many clocks later as the transfer takes.
     fn hold_to_bounds(&self, master: usize) {
-        let board = &self.fabric.board;
         let Some(journey) = &self.journeys[master] else {
             return;
         };
-        let access = 1 + board.slaves[journey.slave].wait(journey.transfer.write) as u64;
-        let accesses = journey.transfer.beats as u64 * board.ratio(master, journey.slave);
-        let wait = wait(board, master, journey.slave);
-        assert!(journey.started || journey.clocks <= wait);
-        assert!(journey.clocks < wait + accesses * access);
+        let wait = wait(&self.fabric.board, master, journey.slave);
+        assert!(journey.served > 0 || journey.clocks <= wait);
+        assert!(journey.clocks < wait + self.own_length(master, journey));
     }
 
     fn clock(&mut self) {
         let answer = self.fabric.clock();
         assert_eq!(answer.number, 0);
-        self.start_served(&answer.lines);
+        self.serve_each(&answer.lines);
         for master in 0..MASTER_LIMIT {
             if let Some(journey) = &mut self.journeys[master] {
                 journey.clocks += 1;
@@ -197,24 +241,30 @@ impl History {
     }
 }
 
-/// How many transfers finish in the histories of these seeds, and how many of them are of masters wider than a native card.
-fn finished(seeds: std::ops::Range<u64>) -> (usize, usize) {
-    let (mut finished, mut finished_native) = (0, 0);
+/// How many transfers finish in the histories of these seeds, how many of them are of masters wider than a native card, and how
+/// many are writes that have no lane in some word.
+fn finished(seeds: Range<u64>) -> (usize, usize, usize) {
+    let (mut finished, mut native, mut partial) = (0, 0, 0);
     for seed in seeds {
         // shown only where the test fails
         println!("seed {seed}");
         let mut history = History::new(seed);
         history.run(1000);
         finished += history.finished;
-        finished_native += history.finished_native;
+        native += history.finished_native;
+        partial += history.finished_partial;
     }
-    (finished, finished_native)
+    (finished, native, partial)
 }
 
 #[test]
 fn reads_give_what_was_written_and_nobody_waits_longer_than_quoted() {
     // a test in which hardly anything finishes would hold the model to little
-    let (finished, native) = finished(0..100);
+    let (finished, native, partial) = finished(0..100);
     assert!(finished > 10_000, "only {finished} transfers finished");
     assert!(native > 2_000, "only {native} of them at native cards");
+    assert!(
+        partial > 1_000,
+        "only {partial} of them without a lane in some word"
+    );
 }

@@ -12,8 +12,10 @@ mod native;
 mod order;
 mod posts;
 mod programs;
+mod tally;
 mod unconnected;
 mod waits;
+mod words;
 
 /// A slave with a master twice as wide and one as wide as itself.
 const BOARD: &str = "master,4,8\n\

@@ -48,7 +48,7 @@ impl Author {
         self.put_shuffled(lines);
     }
 
-    fn put_shuffled(&mut self, mut lines: Vec<String>) {
+    pub fn put_shuffled(&mut self, mut lines: Vec<String>) {
         self.random.shuffle(&mut lines);
         for line in lines {
             self.put(&line);

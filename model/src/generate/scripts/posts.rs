@@ -50,7 +50,7 @@ impl Author {
     }
 
     /// An offset at which `length` bytes fit; often near an end of the span.
-    fn offset(&mut self, slave: usize, width: usize, length: usize) -> usize {
+    pub fn offset(&mut self, slave: usize, width: usize, length: usize) -> usize {
         let last = (self.board.slaves[slave].span as usize - length) / width;
         let word = match self.random.below(6) {
             0 => 0,

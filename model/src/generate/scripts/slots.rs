@@ -3,7 +3,7 @@
 use super::lines::slot_line;
 use super::{slave_at, Author};
 use crate::board::SLAVE_LIMIT;
-use crate::fabric::Slot;
+use crate::fabric::{total_accesses, Slot};
 
 impl Author {
     /// The masters that hold a transfer for this slave, or for another one.
@@ -81,15 +81,12 @@ impl Author {
     fn edge_progress(&mut self, slave: usize, slot: &mut Slot) {
         let owner = (slot.owner as usize).min(self.masters() - 1);
         let transfer = self.simulator.state.transfers[owner];
-        let total = transfer.beats as u16 * self.board.ratio(owner, slave) as u16;
-        let wait = match transfer.write {
-            true => self.board.slaves[slave].write_wait,
-            false => self.board.slaves[slave].read_wait,
-        };
+        let total = total_accesses(&self.board, owner, slave, &transfer) as u16;
+        let wait = self.board.slaves[slave].wait(transfer.write);
         let low = total.saturating_sub(1);
         let any = self.random.between(0, low as usize) as u16;
         let high = wait.saturating_add(1);
-        // the last access that there would be with bus sizing
+        // the last access that there would be with bus sizing and every word accessed
         let (master_width, slave_width) = (
             self.board.masters[owner].width,
             self.board.slaves[slave].width,
