@@ -1,7 +1,7 @@
 #!/bin/sh
-# Tries table and simulate on boards that are refused, simulate on scripts with refused calls, and both with options and names.
-# Compares what they write on standard output and on standard error, byte for byte, with the text that stands here. Refusal k is
-# rule 7.k of docs/RULES.md.
+# Tries table and simulate on boards that are refused, simulate on scripts with refused calls and with writes of some of the
+# lanes, and both with options and names. Compares what they write on standard output and on standard error, byte for byte, with
+# the text that stands here. Refusal k is rule 7.k of docs/RULES.md.
 set -eu
 
 root=$(CDPATH= cd -- "$(dirname -- "$0")/.." && pwd)
@@ -467,6 +467,169 @@ unshared_calls 'transfer,1,1,0,4096,3,1\nshare,1,0,0\nclock,1\n' clock,20,0 4:1
 unshared_calls 'share,1,0,0\npost,2,read,4096,15,1,-\npost,0,read,4098,6,9,11\npost,0,read,8192,15,1,-\n' 'post,20
 post,20
 post,20' '3:1 4:1 5:1'
+
+# The accesses of a transfer (rule 4.10), on a board with masters of 8 and 2 bytes, and a card of 2 bytes and bursts of 4 that
+# waits 1 clock for a read and 2 for a write. With bus sizing the accesses of a write that have no lane are left out.
+# Master 0 has its transfers at 4104, the card's offset 8, and writes these bytes.
+printf 'master,8,4\nmaster,2,1\nslave,4096,64,2,4,1,2,0\nshare,0,0,2\nshare,1,0,3\n' > lanes.txt
+bytes=a0a1a2a3a4a5a6a7
+narrowed() {
+    # shellcheck disable=SC2059
+    printf "$1" > calls.txt
+    try simulate calls.txt "$2" "${3-}" lanes.txt
+}
+
+# The clocks of card 0, each MASK:PHASE,OWNER,OFFSET,LANES,RUN,PLACE, as they are printed.
+clocks() {
+    for clock in "$@"; do
+        printf 'clock,0,%s\nslave,0,%s\n' "${clock%%:*}" "${clock#*:}"
+    done
+}
+
+# A write of master 0, with a clock behind its last: LANES, the card's bytes from offset 8 on when it is finished, its clocks, and
+# the card's numbers behind base and span where they are others.
+written() {
+    lanes=$1 stored=$2 passed=$3
+    shift 3
+    count=$(echo "$passed" | grep -c '^clock,')
+    posted="${1:+slave,0,4096,64,$1\n}reset\npost,0,write,4104,$lanes,1,$bytes\n"
+    narrowed "${posted}clock,$((count + 1))\nshow,memory,8,8\n" "reset,0
+post,0
+$passed
+clock,0,0
+slave,0,0,0,0,0,0,0
+$stored"
+}
+
+# Lanes of the second word, of the third and fourth, of all: one access at offset 10, two at 12 and 14, four.
+written 12 0000a2a300000000 "$(clocks 0:1,0,10,3,1,0 0:1,0,10,3,1,0 1:2,0,10,3,1,0)"
+written 240 00000000a4a5a6a7 "$(clocks 0:1,0,12,3,2,0 0:1,0,12,3,2,0 0:2,0,12,3,2,0 0:1,0,14,3,2,1 0:1,0,14,3,2,1 1:2,0,14,3,2,1)"
+written 255 $bytes "$(clocks 0:1,0,8,3,4,0 0:1,0,8,3,4,0 0:2,0,8,3,4,0 0:1,0,10,3,4,1 0:1,0,10,3,4,1 0:2,0,10,3,4,1 \
+    0:1,0,12,3,4,2 0:1,0,12,3,4,2 0:2,0,12,3,4,2 0:1,0,14,3,4,3 0:1,0,14,3,4,3 1:2,0,14,3,4,3)"
+# Lanes of the first two words, of the first and of the last; a single lane is one of the card's two.
+written 15 a0a1a2a300000000 "$(clocks 0:1,0,8,3,2,0 0:1,0,8,3,2,0 0:2,0,8,3,2,0 0:1,0,10,3,2,1 0:1,0,10,3,2,1 1:2,0,10,3,2,1)"
+written 3 a0a1000000000000 "$(clocks 0:1,0,8,3,1,0 0:1,0,8,3,1,0 1:2,0,8,3,1,0)"
+written 192 000000000000a6a7 "$(clocks 0:1,0,14,3,1,0 0:1,0,14,3,1,0 1:2,0,14,3,1,0)"
+written 1 a000000000000000 "$(clocks 0:1,0,8,1,1,0 0:1,0,8,1,1,0 1:2,0,8,1,1,0)"
+written 8 000000a300000000 "$(clocks 0:1,0,10,2,1,0 0:1,0,10,2,1,0 1:2,0,10,2,1,0)"
+written 128 00000000000000a7 "$(clocks 0:1,0,14,2,1,0 0:1,0,14,2,1,0 1:2,0,14,2,1,0)"
+# The accesses carried out are cut into runs, from the first of them on: two of 1; at a card of 1 byte two of 2, one of 2 and one
+# of 4.
+written 240 00000000a4a5a6a7 "$(clocks 0:2,0,12,3,1,0 1:2,0,14,3,1,0)" 2,1,1,0,0
+written 240 00000000a4a5a6a7 "$(clocks 0:2,0,12,1,2,0 0:2,0,13,1,2,1 0:2,0,14,1,2,0 1:2,0,15,1,2,1)" 1,2,1,0,0
+written 12 0000a2a300000000 "$(clocks 0:2,0,10,1,2,0 1:2,0,11,1,2,1)" 1,4,1,0,0
+written 240 00000000a4a5a6a7 "$(clocks 0:2,0,12,1,4,0 0:2,0,13,1,4,1 0:2,0,14,1,4,2 1:2,0,15,1,4,3)" 1,8,1,0,0
+# A card of 4 bytes has two words there, one of 8 bytes one.
+written 12 0000a2a300000000 "$(clocks 0:1,0,8,12,1,0 1:2,0,8,12,1,0)" 4,4,0,1,0
+written 48 00000000a4a50000 "$(clocks 0:1,0,12,3,1,0 1:2,0,12,3,1,0)" 4,4,0,1,0
+written 48 00000000a4a50000 "$(clocks 1:2,0,8,48,1,0)" 8,4,1,0,0
+# A native card has its access, at offset 2, whatever the lanes; those above its two have no place there.
+written 12 0000000000000000 "$(clocks 0:1,0,2,0,1,0 0:1,0,2,0,1,0 1:2,0,2,0,1,0)" 2,4,1,2,1
+written 240 0000000000000000 "$(clocks 1:2,0,2,0,1,0)" 2,4,1,0,1
+
+# A read carries out all four accesses, and brings all bytes, whichever lanes it names; of a native card it is one access.
+narrowed "reset\nfill,memory,8,$bytes\npost,0,read,4104,12,1,-\nclock,9\nshow,buffer,0,8\n" "reset,0
+post,0
+$(clocks 0:1,0,8,3,4,0 0:2,0,8,3,4,0 0:1,0,10,3,4,1 0:2,0,10,3,4,1 0:1,0,12,3,4,2 0:2,0,12,3,4,2 0:1,0,14,3,4,3 1:2,0,14,3,4,3 \
+    0:0,0,0,0,0,0)
+$bytes"
+narrowed "slave,0,4096,64,2,4,1,2,1\nreset\nfill,memory,2,b0b1\npost,0,read,4104,12,1,-\nclock,2\nshow,buffer,0,8\n" "reset,0
+post,0
+$(clocks 0:1,0,2,3,1,0 1:2,0,2,3,1,0)
+b0b1000000000000"
+# A burst of two words leaves none of its eight accesses out.
+narrowed "slave,0,4096,64,2,4,1,0,0\nreset\npost,0,write,4104,255,2,$bytes$bytes\nclock,8\nshow,memory,8,16\n" "reset,0
+post,0
+$(clocks 0:2,0,8,3,4,0 0:2,0,10,3,4,1 0:2,0,12,3,4,2 0:2,0,14,3,4,3 0:2,0,16,3,4,0 0:2,0,18,3,4,1 0:2,0,20,3,4,2 1:2,0,22,3,4,3)
+$bytes$bytes"
+# A master as wide as the card, or narrower, has one access for a word.
+narrowed 'reset\npost,1,write,4106,2,1,c0c1\nclock,3\nslave,0,4096,64,8,4,1,2,0\npost,1,write,4106,1,1,d0d1\nclock,3\n'"\
+show,memory,8,4\n" "reset,0
+post,0
+$(clocks 0:1,1,10,2,1,0 0:1,1,10,2,1,0 2:2,1,10,2,1,0)
+post,0
+$(clocks 0:1,1,8,4,1,0 0:1,1,8,4,1,0 2:2,1,8,4,1,0)
+0000d0c1"
+# The card is free behind the one access of a write: the other master, which has stood since, is served in the next clock.
+narrowed "reset\npost,0,write,4104,12,1,$bytes\npost,1,read,4096,3,1,-\nclock,5\n" "reset,0
+post,0
+post,0
+$(clocks 0:1,0,10,3,1,0 0:1,0,10,3,1,0 1:2,0,10,3,1,0 0:1,1,0,3,1,0 2:2,1,0,3,1,0)"
+# The quoted figures count every access of a word: 3 clocks each, a word of master 0 is four, turns 12 + 48 and 2 * 3 + 3.
+try table lanes.txt 'master,slave,wait,serve
+0,0,9,48
+1,0,60,3' ''
+narrowed "reset\npost,0,write,4104,12,1,$bytes\nclock,1\nwait,0,0\nwait,1,0\n" "reset,0
+post,0
+$(clocks 0:1,0,10,3,1,0)
+wait,0,9,48
+wait,0,60,3"
+
+# The state in the middle of a write, and behind it: what is done counts the accesses carried out.
+state_of() {
+    printf 'transfer,0,%s\n' "$1"
+    seq 1 7 | sed 's/.*/transfer,&,0,0,0,0,0/'
+    printf 'slot,0,%s\n' "$2"
+    seq 1 15 | sed 's/.*/slot,&,0,0,0,0,0/'
+}
+narrowed "reset\npost,0,write,4104,240,1,$bytes\nclock,3\nstate\nclock,1\nstate\nclock,2\nstate\n" "reset,0
+post,0
+$(clocks 0:1,0,12,3,2,0 0:1,0,12,3,2,0 0:2,0,12,3,2,0)
+$(state_of 1,1,4104,240,1 0,1,1,1,0)
+$(clocks 0:1,0,14,3,2,1)
+$(state_of 1,1,4104,240,1 0,1,1,1,1)
+$(clocks 0:1,0,14,3,2,1 1:2,0,14,3,2,1)
+$(state_of 0,0,0,0,0 0,1,0,0,0)"
+
+# A lent state that serves a transfer of master 0: WRITE, LANES, the accesses carried out, the clocks from there where the state is
+# taken, and the card's numbers where they are others. From the count of accesses on it is refused (rule 7.9), by a post too; the
+# state, the card's bytes and the master's words are as they were.
+rule='refusal 9: the state breaks a rule'
+serving() {
+    write=$1 lanes=$2 carried=$3 passed=${4-} card="${5:+slave,0,4096,64,$5\n}"
+    count=$(echo "$passed" | grep -c '^clock,') || :
+    lent="${card}reset\nfill,memory,0,$bytes$bytes\nfill,buffer,0,b0b1b2b3b4b5b6b7\ntransfer,0,1,$write,4104,$lanes,1\n"
+    lent="${lent}slot,0,0,1,1,$carried,0\n"
+    if [ -n "$passed" ]; then
+        narrowed "${lent}clock,$count\n" "reset,0
+$passed"
+        return
+    fi
+    first=6
+    [ -z "$card" ] || first=7
+    narrowed "${lent}clock,2\npost,1,read,4096,3,1,-\nstate\nshow,memory,0,16\nshow,buffer,0,8\n" "reset,0
+clock,9,0
+clock,9,0
+post,9
+$(state_of "1,$write,4104,$lanes,1" "0,1,1,$carried,0")
+$bytes$bytes
+b0b1b2b3b4b5b6b7" "simulate: script line $first: $rule
+simulate: script line $((first + 1)): $rule"
+}
+
+serving 1 12 0 "$(clocks 0:1,0,10,3,1,0 0:1,0,10,3,1,0 1:2,0,10,3,1,0)"
+serving 1 12 1
+serving 1 12 3
+serving 1 240 1 "$(clocks 0:1,0,14,3,2,1 0:1,0,14,3,2,1 1:2,0,14,3,2,1)"
+serving 1 240 2
+serving 1 240 3
+serving 1 240 4
+serving 1 255 3 "$(clocks 0:1,0,14,3,4,3 0:1,0,14,3,4,3 1:2,0,14,3,4,3)"
+serving 1 255 4
+serving 0 12 3 "$(clocks 0:1,0,14,3,4,3 1:2,0,14,3,4,3)"
+serving 0 12 1 "$(clocks 0:1,0,10,3,4,1 0:2,0,10,3,4,1)"
+serving 0 12 4
+serving 1 12 0 "$(clocks 0:1,0,2,0,1,0 0:1,0,2,0,1,0 1:2,0,2,0,1,0)" 2,4,1,2,1
+serving 1 12 1 '' 2,4,1,2,1
+serving 0 12 1 '' 2,4,1,2,1
+serving 1 12 1 "$(clocks 1:2,0,11,1,2,1)" 1,4,1,0,0
+serving 1 12 2 '' 1,4,1,0,0
+# The same accesses done are too many for a write of these lanes, and not for a read of them or for a write of all.
+narrowed 'reset\ntransfer,0,1,0,4104,12,1\nslot,0,0,1,1,2,1\nclock,1\ntransfer,0,1,1,4104,12,1\nclock,1\n'"\
+transfer,0,1,1,4104,255,1\nclock,1\n" "reset,0
+$(clocks 0:2,0,12,3,4,2)
+clock,9,0
+$(clocks 0:1,0,14,3,4,3)" "simulate: script line 6: $rule"
 
 # A line with many refused clocks is explained once, and only lines that are refused are.
 called 'reset\nclock,1\nlend,buffer,0\nclock,1000\nlend,buffer,4096\nclock,1\nclock,0\n' "reset,0
