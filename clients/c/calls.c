@@ -8,6 +8,7 @@
 #include <string.h>
 
 #include "fabric.h"
+#include "lent.h"
 
 static const char description[] =
     "master,4,8\n"
@@ -74,25 +75,6 @@ static int same_lent(const struct lent *a, const struct lent *b)
 static int same_answer(const struct lent *a, const struct lent *b)
 {
     return memcmp(&a->lines, &b->lines, sizeof a->lines) == 0 && a->mask == b->mask;
-}
-
-/* Each call is lent blocks of their own, as long as is said and no longer: a step beyond is seen by what checks memory. */
-static void *lend(const void *from, size_t length)
-{
-    void *block = malloc(length);
-
-    if (block == NULL) {
-        perror("calls");
-        exit(2);
-    }
-    memcpy(block, from, length);
-    return block;
-}
-
-static void take_back(void *to, void *block, size_t length)
-{
-    memcpy(to, block, length);
-    free(block);
 }
 
 static uint32_t read_text(const char *text, size_t length, struct fabric_board *board)

@@ -44,6 +44,8 @@ static size_t memory_length;
 /* The traffic: who holds a transfer, and what was posted. */
 static uint32_t held;
 static unsigned long posts, writes, bursts, parts;
+/* Writes that leave accesses out. */
+static unsigned long shortened;
 /* At native slaves: transfers to narrower ones than the master and to equally wide ones, their bursts, writes to no lane. */
 static unsigned long narrower, narrower_bursts, equal, equal_bursts, laneless;
 static uint64_t drawn;
@@ -97,6 +99,20 @@ static void draw(struct post *p, uint32_t m, uint32_t s)
         p->words[i] = (uint8_t)below(256);
 }
 
+/* Whether a write leaves accesses out: with bus sizing, those to words of the slave that have no enabled lane (rule 4.10). */
+static int leaves_out(const struct post *p)
+{
+    const struct fabric_slave *sl = &board->slave[p->slave];
+    uint32_t width = board->master[p->master].width;
+    uint32_t from = 0;
+
+    if (p->write == 0 || sl->native != 0)
+        return 0;
+    while (from + sl->width <= width && (p->lanes >> from & ((1u << sl->width) - 1)) != 0)
+        from += sl->width;
+    return from + sl->width <= width;
+}
+
 /* Counts a transfer by its kind: traffic that leaves a kind out compares nothing of it. */
 static void tally(const struct post *p)
 {
@@ -107,6 +123,7 @@ static void tally(const struct post *p)
     writes += p->write != 0;
     bursts += p->beats > 1;
     parts += p->beats == 1 && p->lanes != (1u << width) - 1;
+    shortened += leaves_out(p);
     if (sl->native == 0)
         return;
     narrower += sl->width < width;
@@ -275,8 +292,9 @@ static void fill_memory(void)
 /* What was compared. */
 static void print_agreed(const char *name, uint32_t clocks)
 {
-    printf("lockstep: %s: %" PRIu32 " clocks agree, %lu transfers: %lu writes, %lu bursts, %lu with some of the lanes", name,
-           clocks, posts, writes, bursts, parts);
+    printf("lockstep: %s: %" PRIu32 " clocks agree, %lu transfers: %lu writes (%lu leave accesses out), %lu bursts, "
+           "%lu with some of the lanes",
+           name, clocks, posts, writes, shortened, bursts, parts);
     if (narrower + equal > 0)
         printf("; native: %lu narrower (%lu bursts), %lu equal (%lu bursts), %lu writes to no lane", narrower, narrower_bursts,
                equal, equal_bursts, laneless);

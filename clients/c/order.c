@@ -13,6 +13,7 @@
 #include <string.h>
 
 #include "fabric.h"
+#include "lent.h"
 
 /* The most lines, and room for any numbers in them, also for those of a board that should not have been answered. */
 #define LINES (FABRIC_MASTERS + FABRIC_SLAVES + FABRIC_MASTERS * FABRIC_SLAVES)
@@ -54,19 +55,6 @@ static uint32_t below(uint32_t n)
 {
     drawn = drawn * UINT64_C(6364136223846793005) + UINT64_C(1442695040888963407);
     return (uint32_t)((drawn >> 33) % n);
-}
-
-/* Bytes in a block of their own, so that what checks memory sees a step beyond. */
-static void *lend(const void *from, size_t length)
-{
-    void *block = malloc(length);
-
-    if (block == NULL) {
-        perror("order");
-        exit(2);
-    }
-    memcpy(block, from, length);
-    return block;
 }
 
 static int all_are(const void *bytes, size_t length, uint8_t value)

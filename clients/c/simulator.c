@@ -1,7 +1,7 @@
 /*
  * A small simulator of a fabric, written from the rules (docs/RULES.md, sections 2 to 4) and not from the library. It works
- * the way a bus monitor sees the bus: a transfer is listed access by access when it is posted, byte by byte; a slave then
- * counts down the waits of the next access of its list and carries it out. It checks nothing: what is handed in has to be
+ * the way a bus monitor sees the bus: when a transfer is posted, the accesses that will be carried out for it are listed; a slave
+ * then counts down the waits of the next access of its list and carries it out. It checks nothing: what is handed in has to be
  * legal.
  */
 #include <string.h>
@@ -53,6 +53,10 @@ const char *const simulator_mistakes[] = {
     "last-run",      /* rule 4.12: the last run is shown as long as the others */
     "read-lanes",    /* rule 4.14: a narrower master's read shows its own lanes only */
     "every-lane",    /* rule 4.11: a write changes bytes of lanes that are not enabled */
+    "no-lane",       /* rule 4.10: a write carries out the accesses that have no lane too */
+    "read-words",    /* rule 4.10: a read carries out only the accesses of the lanes that it names */
+    "runs-of-all",   /* rule 4.12: runs count the accesses that a write leaves out */
+    "waits-of-all",  /* rule 4.8: a write takes the clocks of the accesses that it leaves out before its first one */
     NULL,
 };
 
@@ -91,23 +95,6 @@ static uint32_t slave_at(uint32_t address)
     return s;
 }
 
-/* Cuts the accesses into runs of `limit`, the last one perhaps shorter (rule 4.12). */
-static void cut_runs(struct request *r, uint32_t limit)
-{
-    uint32_t first = 0;
-
-    while (first < r->count) {
-        uint32_t left = r->count - first;
-        uint32_t length = left < limit ? left : limit;
-
-        for (uint32_t place = 0; place < length; place++) {
-            r->access[first + place].shown.run = mistake("last-run") ? limit : length;
-            r->access[first + place].shown.place = place;
-        }
-        first += length;
-    }
-}
-
 /*
  * Where the slave keeps byte i of a transfer, from its own front (rule 4.10). A native slave has a word for each word of the
  * master, and its words lie side by side: the bytes that the master's word has beyond the slave's are NOWHERE.
@@ -122,9 +109,83 @@ static uint32_t kept_at(const struct request *r, uint32_t width, uint32_t i)
     return i % width < sl->width ? from_base / width * sl->width + i % width : NOWHERE;
 }
 
+/* The slave's lanes that a transfer has in its bytes from `from` to before `to` (rules 2.3 and 4.14): of a read all of them. */
+static uint32_t lanes_of(const struct request *r, uint32_t width, uint32_t from, uint32_t to)
+{
+    uint32_t slave_width = board.slave[r->slave].width;
+    uint32_t lanes = 0;
+
+    if (!r->write && !mistake("read-lanes"))
+        return (1u << slave_width) - 1;
+    for (uint32_t i = from; i < to; i++) {
+        uint32_t at = kept_at(r, width, i);
+
+        if (at != NOWHERE && (!r->write || (r->lanes >> i % width & 1) != 0))
+            lanes |= 1u << at % slave_width;
+    }
+    return lanes;
+}
+
+/* Whether one of the bytes from `from` to before `to` has an enabled lane in the master's word. */
+static int enabled(const struct request *r, uint32_t width, uint32_t from, uint32_t to)
+{
+    while (from < to && (r->lanes >> from % width & 1) == 0)
+        from++;
+    return from < to;
+}
+
+/* Whether the access of these bytes is carried out (rule 4.10): with bus sizing, that of a write has an enabled lane. */
+static int carried_out(const struct request *r, uint32_t width, uint32_t from, uint32_t to)
+{
+    if (board.slave[r->slave].native || (r->write ? mistake("no-lane") : !mistake("read-words")))
+        return 1;
+    return enabled(r, width, from, to);
+}
+
+/* Puts the access of these bytes behind those that are listed. */
+static void list_access(struct request *r, uint32_t m, uint32_t from, uint32_t to)
+{
+    const struct fabric_slave *sl = &board.slave[r->slave];
+    uint32_t width = board.master[m].width;
+    uint32_t at = kept_at(r, width, from);
+    struct access *a = &r->access[r->count];
+    int first_of_beat = r->count == 0 || (a - 1)->from / width != from / width;
+
+    a->shown.phase = FABRIC_ACCESS;
+    a->shown.owner = m;
+    a->shown.offset = at - at % sl->width;
+    a->shown.lanes = lanes_of(r, width, from, to);
+    a->wait = r->write ? sl->write_wait : sl->read_wait;
+    if (mistake("wait-per-beat") && !first_of_beat)
+        a->wait = 0;
+    if (mistake("waits-of-all") && r->write && first_of_beat)
+        a->wait += from % width / (to - from) * (a->wait + 1);
+    a->from = from;
+    a->to = to;
+    r->count++;
+}
+
 /*
- * Lists the accesses (rule 4.10): each has as many bytes as the narrower of master and slave, at a native slave always a whole
- * word of the master. Its lanes are set byte by byte; a write that has only lanes beyond a native slave is still listed.
+ * Cuts the accesses into runs of `limit`, the last one perhaps shorter (rule 4.12). Only those that are listed count; for a
+ * mistake `bytes`, the length of the transfer, tells how many there would be with those that are left out.
+ */
+static void cut_runs(struct request *r, uint32_t limit, uint32_t bytes)
+{
+    for (uint32_t i = 0; i < r->count; i++) {
+        struct access *a = &r->access[i];
+        uint32_t unit = a->to - a->from;
+        uint32_t number = mistake("runs-of-all") ? a->from / unit : i;
+        uint32_t count = mistake("runs-of-all") ? bytes / unit : r->count;
+        uint32_t left = count - (number - number % limit);
+
+        a->shown.run = left < limit && !mistake("last-run") ? left : limit;
+        a->shown.place = number % limit;
+    }
+}
+
+/*
+ * Lists the accesses that are carried out (rule 4.10), from the lowest address up: each has as many bytes as the narrower of
+ * master and slave, at a native slave always a whole word of the master.
  */
 static void list_accesses(struct request *r, uint32_t m)
 {
@@ -132,29 +193,14 @@ static void list_accesses(struct request *r, uint32_t m)
     uint32_t width = board.master[m].width;
     uint32_t unit = sl->native || width < sl->width ? width : sl->width;
     uint32_t bytes = r->beats * width;
-    int own_lanes = r->write || mistake("read-lanes");
 
-    r->count = bytes / unit;
+    r->count = 0;
     r->next = 0;
-    for (uint32_t i = 0; i < bytes; i++) {
-        struct access *a = &r->access[i / unit];
-        uint32_t at = kept_at(r, width, i);
-
-        if (i % unit == 0) {
-            a->shown.phase = FABRIC_ACCESS;
-            a->shown.owner = m;
-            a->shown.offset = at - at % sl->width;
-            a->shown.lanes = own_lanes ? 0 : (1u << sl->width) - 1;
-            a->wait = r->write ? sl->write_wait : sl->read_wait;
-            if (mistake("wait-per-beat") && i % width != 0)
-                a->wait = 0;
-            a->from = i;
-            a->to = i + unit;
-        }
-        if (at != NOWHERE && (!r->write || (r->lanes >> i % width & 1) != 0))
-            a->shown.lanes |= 1u << at % sl->width;
+    for (uint32_t from = 0; from < bytes; from += unit) {
+        if (carried_out(r, width, from, from + unit))
+            list_access(r, m, from, from + unit);
     }
-    cut_runs(r, width < sl->width ? 1 : sl->burst);
+    cut_runs(r, width < sl->width ? 1 : sl->burst, bytes);
 }
 
 void simulator_post(uint32_t m, uint32_t write, uint32_t address, uint32_t lanes, uint32_t beats, const uint8_t *words)

@@ -1,8 +1,8 @@
 #!/bin/sh
 # Builds the C clients against target/staticlib/libfabric_c.a (rt staticlib fabric_c) and tries them: the planning tool, also
-# against the model; what the calls do to what they are lent; texts with share lines in order and out of order; the clock beside a
-# simulator of its own, and mistakes of that simulator, each against a rule of docs/RULES.md. What is lent is watched by valgrind
-# where the machine has it.
+# against the model; what the calls do to what they are lent; texts with share lines in order and out of order; the accesses of
+# every pair of widths; the clock beside a simulator of its own, and mistakes of that simulator, each against a rule of
+# docs/RULES.md. What is lent is watched by valgrind where the machine has it.
 set -eu
 here=$(cd "$(dirname "$0")" && pwd)
 root=$(cd "$here/../.." && pwd)
@@ -26,6 +26,7 @@ compile() {
     gcc -std=c11 $flags "$@" -o "$work/slices$suffix" "$here/slices.c" "$library"
     gcc -std=c11 $flags "$@" -o "$work/calls$suffix" "$here/calls.c" "$library"
     gcc -std=c11 $flags "$@" -o "$work/order$suffix" "$here/order.c" "$library"
+    gcc -std=c11 $flags "$@" -o "$work/lanes$suffix" "$here/lanes.c" "$library"
     gcc -std=c11 $flags "$@" -o "$work/lockstep$suffix" "$here/lockstep.c" "$here/simulator.c" "$library"
 }
 compile ''
@@ -35,6 +36,7 @@ compile_cpp() {
     g++ -std=c++11 $flags -o "$work/slices++" -x c++ "$here/slices.c" -x none "$library"
     g++ -std=c++11 $flags -o "$work/calls++" -x c++ "$here/calls.c" -x none "$library"
     g++ -std=c++11 $flags -o "$work/order++" -x c++ "$here/order.c" -x none "$library"
+    g++ -std=c++11 $flags -o "$work/lanes++" -x c++ "$here/lanes.c" -x none "$library"
     g++ -std=c++11 $flags -o "$work/lockstep++" -x c++ "$here/lockstep.c" "$here/simulator.c" -x none "$library"
 }
 cpp=
@@ -135,6 +137,36 @@ share,3,0,2
 share,3,5,1
 END
 
+# bus sizing, with masters and cards of every width: the cards' bursts cut what a single write carries out into runs
+cat >"$work/widths" <<'END'
+master,8,4
+master,4,8
+master,2,2
+master,1,1
+slave,0,256,1,2,0,1,0
+slave,256,256,1,64,2,3,0
+slave,1024,512,2,1,1,0,0
+slave,2048,512,2,2,0,2,0
+slave,4096,1024,4,1,3,1,0
+slave,8192,1024,8,4,1,2,0
+share,0,0,2
+share,0,1,1
+share,0,2,3
+share,0,3,2
+share,0,4,1
+share,0,5,2
+share,1,0,1
+share,1,1,2
+share,1,2,1
+share,1,3,3
+share,1,4,2
+share,2,0,3
+share,2,1,1
+share,2,5,2
+share,3,4,1
+share,3,5,2
+END
+
 # every pair of the larger boards and of generated ones, against the model's table
 model="$root/target/model/release/model"
 cargo build --release --offline --quiet --manifest-path "$root/model/Cargo.toml" --target-dir "$root/target/model"
@@ -142,6 +174,7 @@ mkdir "$work/boards"
 "$model" gen-boards 5 40 "$work/boards"
 cp "$root/boards/crane.txt" "$root/boards/encoder.txt" "$root/boards/largest.txt" "$work/boards"
 cp "$work/native" "$work/boards/native.txt"
+cp "$work/widths" "$work/boards/widths.txt"
 pairs=0
 for described in "$work"/boards/*.txt; do
     "$model" table <"$described" | grep '^[0-9]' >"$work/lines" || true
@@ -212,10 +245,12 @@ for suffix in '' $cpp; do
     "$work/slices$suffix" || failed=1
     "$work/calls$suffix" || failed=1
     "$work/order$suffix" "$root"/boards/*.txt "$work/native" || failed=1
+    "$work/lanes$suffix" || failed=1
 done
 for client in slices calls order; do
     $watch "$work/$client$watched" || { echo "$client, its memory watched, ended with status $?"; failed=1; }
 done
+$watch "$work/lanes$watched" 7 || { echo "lanes, its memory watched, ended with status $?"; failed=1; }
 
 # lockstep PROGRAM STATUS WORD..: what it prints is left in a file
 lockstep() {
@@ -245,7 +280,7 @@ for described in "$root"/boards/*.txt "$work"/boards/[0-9]*.txt; do
 done
 [ "$compared" -gt 30 ] || { echo "only $compared boards were compared"; failed=1; }
 lockstep "$work/lockstep" 0 "$root/boards/largest.txt" 200000
-for described in "$root"/boards/*.txt "$work/native"; do
+for described in "$root"/boards/*.txt "$work/native" "$work/widths"; do
     lockstep "$watch $work/lockstep$watched" 0 "$described" 500
 done
 
@@ -256,6 +291,16 @@ done
 compared=$((compared + 1))
 kinds=$(sed -n 's/.*; native: //p' "$work/printed" | grep -o '[0-9]*' | awk '$1 > 100' | wc -l)
 [ "$kinds" = 5 ] || { echo "too little traffic at native cards:"; cat "$work/printed"; failed=1; }
+
+# writes that leave accesses out: on boards that have cards narrower than a master, enough to find a difference
+for described in "$root/boards/document01.txt" "$root/boards/crane.txt" "$work/widths"; do
+    for suffix in '' $cpp; do
+        lockstep "$work/lockstep$suffix" 0 "$described" 20000
+    done
+    shortened=$(sed -n 's/.* writes (\([0-9]*\) leave accesses out), .*/\1/p' "$work/printed")
+    [ "${shortened:-0}" -gt 100 ] || { echo "too few writes leave accesses out:"; cat "$work/printed"; failed=1; }
+done
+compared=$((compared + 1))
 
 # a difference is found: every mistake of the simulator, printed for both sides
 mistakes=0
@@ -275,6 +320,10 @@ done
 lockstep "$work/lockstep" 1 --mistake wait-per-beat "$board" 100
 printf '%s\n' 'library:   clock 3 slave 0 phase 1 owner 0 offset 3598 lanes 3 run 8 place 1' \
     'simulator: clock 3 slave 0 phase 2 owner 0 offset 3598 lanes 3 run 8 place 1' >"$work/difference"
+cmp "$work/difference" "$work/printed" || failed=1
+lockstep "$work/lockstep" 1 --mistake no-lane "$board" 100
+printf '%s\n' 'library:   clock 78 slave 0 phase 2 owner 0 offset 1100 lanes 3 run 1 place 0' \
+    'simulator: clock 78 slave 0 phase 2 owner 0 offset 1100 lanes 3 run 2 place 0' >"$work/difference"
 cmp "$work/difference" "$work/printed" || failed=1
 
 # words that say nothing, boards that are none, output that is lost
