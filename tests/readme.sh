@@ -114,5 +114,10 @@ example docs/SIMULATE.md 'slave,1,' > shown
 target/bin/simulate boards/encoder.txt < script.txt > is 2>&1
 same 'docs/SIMULATE.md, an encoder card: something else is printed'
 
+example docs/SIMULATE.md 'post,0,write,4096,12' > script.txt
+example docs/SIMULATE.md 'slave,0,2,0,2,3,1,0' > shown
+target/bin/simulate board.txt < script.txt > is 2>&1
+same 'docs/SIMULATE.md, a write with some of the lanes: something else is printed'
+
 echo "readme: $examples examples, $different differences"
 [ "$different" -eq 0 ]
