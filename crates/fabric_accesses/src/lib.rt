@@ -255,15 +255,14 @@ pub fn place_of(ma: Master, sl: Slave, k: u32) -> u32
     k & (limit - 1)
 }
 
-// The length of the run that it is in (rules 4.12, 4.13): the last one has what is left.
-pub fn run_of(ma: Master, sl: Slave, t: Transfer, k: u32) -> u32
-    requires { ⌜ (Posted ma sl t) × (member (sl .burst) bursts ≡ true) ⌝ }
+// The length of the run that it is in (rules 4.12, 4.13), of so many accesses in total: the last one has what is left.
+pub fn run_of(ma: Master, sl: Slave, t: Transfer, total: u64, k: u32) -> u32
+    requires { ⌜ (total ≡ accesses ma sl t) × (member (sl .burst) bursts ≡ true) ⌝ }
     ensures { λ r. ⌜ r ≡ runOf ma sl t k ⌝ }
 {
     let limit = run_limit(ma, sl);
     let place = place_of(ma, sl, k);
     let start = k - place;
-    let total = accesses(ma, sl, t);
     let rest = difference(total, start as u64);
     if (limit as u64) <= rest {
         limit

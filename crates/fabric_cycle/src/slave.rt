@@ -10,7 +10,7 @@ use fabric_state::Slot;
 use fabric_state::Step;
 ghost use mathlib.Core.Path.{_≡_};
 ghost use mathlib.Core.Bool.{true};
-ghost use Rattle.fabric_accesses.specs.Accesses.{accessNumber};
+ghost use Rattle.fabric_accesses.specs.Accesses.{accesses, accessNumber};
 ghost use Rattle.fabric_arbiter.specs.Code.Winning.{grantBy};
 ghost use Rattle.fabric_bytes.specs.Code.Reaching.{Reached};
 ghost use Rattle.fabric_state.specs.Records.{arbiterOf};
@@ -61,14 +61,14 @@ pub fn slot_granted(slot: Slot, w: Winner, shares: u32, beats: u32) -> Slot
     slot_by(slot, a, g)
 }
 
-// What the slave shows of the access in hand, access a (rule 4.13).
-fn line_of(ma: Master, sl: Slave, t: Transfer, slot: Slot, a: u32, phase: u32) -> Line
-    requires { ⌜ Placed ma sl t (slot .done) a ⌝ }
+// What the slave shows of the access in hand, access a, of a transfer with so many in total (rule 4.13).
+fn line_of(ma: Master, sl: Slave, t: Transfer, slot: Slot, total: u64, a: u32, phase: u32) -> Line
+    requires { ⌜ (Placed ma sl t (slot .done) a) × (total ≡ accesses ma sl t) ⌝ }
     ensures { λ r. ⌜ r ≡ lineOf ma sl t slot phase ⌝ }
 {
     let offset = fabric_accesses::word_offset(ma, sl, t, a);
     let lanes = fabric_accesses::slave_lanes(ma, sl, t, a);
-    let run = fabric_accesses::run_of(ma, sl, t, slot.done);
+    let run = fabric_accesses::run_of(ma, sl, t, total, slot.done);
     let place = fabric_accesses::place_of(ma, sl, slot.done);
     Line {
         phase: phase,
@@ -88,24 +88,23 @@ fn waits(sl: Slave, t: Transfer, slot: Slot) -> bool
     waited < fabric_accesses::wait_of(sl, t)
 }
 
-// Rules 2 and 3 (rules 4.8, 4.9) at a slave that serves, with access a in hand.
-fn served(ma: Master, sl: Slave, t: Transfer, slot: Slot, a: u32, waiting: bool) -> Step
-    requires { ⌜ (Placed ma sl t (slot .done) a) × (waiting ≡ waits sl t slot) ⌝ }
+// Rules 2 and 3 (rules 4.8, 4.9) at a slave that serves, with access a in hand of so many in total.
+fn served(ma: Master, sl: Slave, t: Transfer, slot: Slot, total: u64, a: u32, waiting: bool) -> Step
+    requires { ⌜ (Placed ma sl t (slot .done) a) × (waiting ≡ waits sl t slot) × (total ≡ accesses ma sl t) ⌝ }
     ensures { λ r. ⌜ r ≡ served ma sl t slot ⌝ }
 {
     let mut after = slot;
     after.serving = true;
     if waiting {
         after.waited = slot.waited + 1;
-        let shown = line_of(ma, sl, t, slot, a, 1);
+        let shown = line_of(ma, sl, t, slot, total, a, 1);
         return Step {
             slot: after,
             line: shown,
             finished: false,
         };
     }
-    let line = line_of(ma, sl, t, slot, a, 2);
-    let total = fabric_accesses::accesses(ma, sl, t);
+    let line = line_of(ma, sl, t, slot, total, a, 2);
     let done = slot.done + 1;
     after.waited = 0;
     if (done as u64) < total {
@@ -149,8 +148,8 @@ fn carry_from(
     fabric_bytes::carry_access(ma, sl, t, m, start, a, memory, buffer);
 }
 
-// One clock of a slave that serves (rules 4.8, 4.9). Which access is in hand and whether the slave waits are asked once, for its
-// step and for its bytes.
+// One clock of a slave that serves (rules 4.8, 4.9). How many accesses there are, which one is in hand and whether the slave waits
+// are asked once, for its step, its line and its bytes.
 pub fn serve(
     ma: Master,
     sl: Slave,
@@ -164,8 +163,9 @@ pub fn serve(
     ensures { λ r. ⌜ Served ma sl t slot start (record { memory = now (memory .entry); buffer = now (buffer .entry) })
         (record { memory = now (memory .exit); buffer = now (buffer .exit) }) r ⌝ }
 {
+    let total = fabric_accesses::accesses(ma, sl, t);
     let a = fabric_accesses::access_number(ma, sl, t, slot.done);
     let waiting = waits(sl, t, slot);
     carry_from(ma, sl, t, slot, a, waiting, start, memory, buffer);
-    served(ma, sl, t, slot, a, waiting)
+    served(ma, sl, t, slot, total, a, waiting)
 }

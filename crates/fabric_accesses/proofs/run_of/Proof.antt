@@ -18,9 +18,6 @@ place-of-requires c κs = c .before .pre .1
 sub-start : tie.Need-sub-start
 sub-start c = place-le _ _ _ _ (c .place-of .ensures)
 
-accesses-requires : tie.Need-accesses-requires
-accesses-requires c κs = c .before .before .pre .0
-
 cast-difference : tie.Need-cast-difference
 cast-difference c = search needs
 
@@ -34,12 +31,12 @@ cast-result : tie.Need-cast-result
 cast-result c = search needs
 
 gives : (c : tie.After-difference)
-    → min (c .before .before .before .run-limit .result) (c .difference .result)
-    ≡ runOf (c .before .before .before .before .args .ma) (c .before .before .before .before .args .sl)
-    (c .before .before .before .before .args .t) (c .before .before .before .before .args .k)
+    → let start = c .before .before .before in
+    min (c .before .before .run-limit .result) (c .difference .result)
+    ≡ runOf (start .args .ma) (start .args .sl) (start .args .t) (start .args .k)
 gives c =
-    run-from _ _ _ _ _ _ _ _ (c .before .before .before .run-limit .ensures) (c .before .before .place-of .ensures)
-    (c .before .accesses .ensures) (c .difference .ensures)
+    run-from _ _ _ _ _ _ _ _ (c .before .before .run-limit .ensures) (c .before .place-of .ensures)
+    (c .before .before .before .pre .0) (c .difference .ensures)
 
 returns : tie.Need-returns
 returns c = omega (arith, gives (c .before))
@@ -54,7 +51,6 @@ run-of-spec =
     run-limit-requires
     place-of-requires
     sub-start
-    accesses-requires
     cast-difference
     difference-requires
     cast-if1

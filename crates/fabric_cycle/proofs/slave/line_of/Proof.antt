@@ -17,13 +17,13 @@ run-of-requires c κs = search needs
 place-of-requires : tie.Need-place-of-requires
 place-of-requires c κs = search needs
 
-cast-t11 : tie.Need-cast-t11
-cast-t11 c = search needs
+cast-t12 : tie.Need-cast-t12
+cast-t12 c = search needs
 
 returns : tie.Need-returns
 returns c =
     let offset = c .before .before .before in
-    line-found _ _ _ _ _ (offset .before .pre .number) (offset .word-offset .ensures) (c .before .before .slave-lanes .ensures)
+    line-found _ _ _ _ _ (offset .before .pre .0 .number) (offset .word-offset .ensures) (c .before .before .slave-lanes .ensures)
     (c .before .run-of .ensures) (c .place-of .ensures)
 
 pub line-of-spec : {M : Type 1} → statement M
@@ -34,5 +34,5 @@ line-of-spec =
     slave-lanes-requires
     run-of-requires
     place-of-requires
-    cast-t11
+    cast-t12
     returns)

@@ -10,15 +10,21 @@ use Rattle.fabric_cycle.proofs.slave.serve.Tie as tie
 abbrev hand : tie.After-waits → tie.After-access-number
 hand c = c .before
 
+abbrev counted : tie.After-waits → tie.After-accesses
+counted c = hand c .before
+
 abbrev start : tie.After-waits → tie.Start
-start c = hand c .before .before .before
+start c = counted c .before .before .before
 
 abbrev tested : tie.After-carry-from → tie.After-waits
 tested c = c .before .before .before
 
+accesses-requires : tie.Need-accesses-requires
+accesses-requires c κs = c .before .before .pre .placed .posted
+
 access-number-requires : tie.Need-access-number-requires
 access-number-requires c κs =
-    let placed = c .before .before .pre .placed in
+    let placed = c .before .before .before .pre .placed in
     (placed .posted, placed .left, placed .few)
 
 waits-requires : tie.Need-waits-requires
@@ -31,7 +37,7 @@ carry-from-requires c κs = let w = c .before .before in
 
 served-requires : tie.Need-served-requires
 served-requires c κs = let w = tested (c .before .before .before .before) in
-    (placed-at _ _ _ _ (hand w .access-number .ensures) (start w .pre .placed), w .waits .ensures)
+    (placed-at _ _ _ _ (hand w .access-number .ensures) (start w .pre .placed), w .waits .ensures, counted w .accesses .ensures)
 
 same-length : tie.Need-same-length
 same-length c = search needs
@@ -51,6 +57,7 @@ pub serve-spec : {M : Type 1} → statement M
 serve-spec =
     tie.close
     (tie.spec
+    accesses-requires
     access-number-requires
     waits-requires
     carry-from-requires

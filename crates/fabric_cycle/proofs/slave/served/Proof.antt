@@ -23,9 +23,6 @@ returns c = let a = c .before .before in
 line-of-requires-2 : tie.Need-line-of-requires-2
 line-of-requires-2 c κs = search needs
 
-accesses-requires : tie.Need-accesses-requires
-accesses-requires c κs = search needs
-
 add-done : tie.Need-add-done
 add-done c = search needs
 
@@ -35,14 +32,14 @@ cast-if2 c = search needs
 returns-2 : tie.Need-returns-2
 unfolding slotAccessed
 returns-2 c = let a = c .before .before in
-    step-working _ _ _ _ (waits-no _ _ _ (a .before .before .before .pre .1) (a .before .before .if1 .left))
-    (a .before .line-of2 .ensures) (a .accesses .ensures) (c .if2 .taken)
+    step-working _ _ _ _ (waits-no _ _ _ (a .before .before .pre .1) (a .before .if1 .left)) (a .line-of2 .ensures)
+    (a .before .before .pre .2) (c .if2 .taken)
 
 returns-3 : tie.Need-returns-3
 unfolding slotFinished
 returns-3 c = let a = c .before .before in
-    step-ending _ _ _ _ (waits-no _ _ _ (a .before .before .before .pre .1) (a .before .before .if1 .left))
-    (a .before .line-of2 .ensures) (a .accesses .ensures) (c .if2 .left)
+    step-ending _ _ _ _ (waits-no _ _ _ (a .before .before .pre .1) (a .before .if1 .left)) (a .line-of2 .ensures)
+    (a .before .before .pre .2) (c .if2 .left)
 
 pub served-spec : {M : Type 1} → statement M
 served-spec =
@@ -52,7 +49,6 @@ served-spec =
     line-of-requires
     returns
     line-of-requires-2
-    accesses-requires
     add-done
     cast-if2
     returns-2
