@@ -127,7 +127,7 @@ module _ (test : ℕ → Bool) where
   unfolding filtered table
   filtered-all n h = gather-same _ _ n (λ i l. rw (h i l))
 
-  -- where those from lo to hi pass and no others, these
+  -- where c of them from lo on pass and no others, these
   pub filtered-between : (lo c n : ℕ) → lo + c ≤ n → ((i : ℕ) → i < n → test i ≡ (leb lo i && ltb i (lo + c)))
       → filtered test n ≡ table (λ k. lo + k) c
   unfolding filtered table gather
