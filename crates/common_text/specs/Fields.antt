@@ -60,7 +60,7 @@ numberValue (Value n) = n
 
 -- the most numbers that a line has behind its word: those of a slave line (rule 1.3)
 abbrev pub mostNumbers : ℕ
-mostNumbers = 7
+mostNumbers = 8
 
 -- no numbers
 unfoldable pub noNumbers : Numbers

@@ -109,7 +109,7 @@ module _ (b : Board) (k : Legal b) where
             );
       }
 
-  slave-line : (s : ℕ) → s < b .«slave_count» → Line 38 (slaveItem (b .slaves) s)
+  slave-line : (s : ℕ) → s < b .«slave_count» → Line 41 (slaveItem (b .slaves) s)
   unfolding slaveItem itemText fieldsText bytesOf
   slave-line s l =
       let y = slaveAt b s in
@@ -117,10 +117,13 @@ module _ (b : Board) (k : Legal b) where
       let n = span-bound (y .span) (x .span) in
       let w = width-bound (y .width) (x .width) in
       let u = burst-bound (y .burst) (x .burst) in
-      let last = y .«write_wait» ∷ y .native ∷ [] in
-      let rest = y .«read_wait» ∷ last in
+      let last = y .native ∷ y .latency ∷ [] in
+      let rest = y .«read_wait» ∷ y .«write_wait» ∷ last in
       record {
-        writable = (omega arith, (omega arith, (omega arith, (omega arith, (omega arith, (omega arith, (omega arith, tt)))))));
+        writable = (
+          omega arith,
+          (omega arith, (omega arith, (omega arith, (omega arith, (omega arith, (omega arith, (omega arith, tt))))))),
+        );
         short =
             omega (
               arith,
@@ -129,9 +132,10 @@ module _ (b : Board) (k : Legal b) where
               length-field (y .span) (y .width ∷ y .burst ∷ rest),
               length-field (y .width) (y .burst ∷ rest),
               length-field (y .burst) rest,
-              length-field (y .«read_wait») last,
-              length-field (y .«write_wait») (y .native ∷ []),
-              length-field (y .native) [],
+              length-field (y .«read_wait») (y .«write_wait» ∷ last),
+              length-field (y .«write_wait») last,
+              length-field (y .native) (y .latency ∷ []),
+              length-field (y .latency) [],
               digits-most 9 (y .base) (omega arith),
               digits-most 4 (y .span) (omega arith),
               digits-most 0 (y .width) (omega arith),
@@ -139,6 +143,7 @@ module _ (b : Board) (k : Legal b) where
               digits-most 2 (y .«read_wait») (omega arith),
               digits-most 2 (y .«write_wait») (omega arith),
               digits-most 0 (y .native) (omega arith),
+              digits-most 1 (y .latency) (omega arith),
             );
       }
 
@@ -193,7 +198,7 @@ module _ (b : Board) (k : Legal b) where
         arith,
         length-parts b,
         lines-most (masterItem (b .masters)) 12 (b .«master_count») (λ m l. master-line m l .short),
-        lines-most (slaveItem (b .slaves)) 38 (b .«slave_count») (λ s l. slave-line s l .short),
+        lines-most (slaveItem (b .slaves)) 41 (b .«slave_count») (λ s l. slave-line s l .short),
         gather-most (shareItem (b .shares)) 15 128 pair-short,
         k .fewMasters,
         k .fewSlaves,

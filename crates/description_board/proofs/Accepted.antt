@@ -104,6 +104,7 @@ module _ (b : Board) (k : Legal b) where
         le-leb _ _ (x .readWait),
         le-leb _ _ (x .writeWait),
         le-leb _ _ (x .native),
+        le-leb _ _ (x .latency),
         eq-eqb _ _ (x .aligned),
         apart,
         le-ltb _ _ total,

@@ -40,6 +40,7 @@ values-legal n e f =
       readWait = v .read-fits;
       writeWait = v .write-fits;
       native = v .native-fits;
+      latency = v .latency-fits;
       aligned = f;
     }
 

@@ -15,7 +15,7 @@ noMaster = record { width = 0; burst = 0 }
 
 -- a slave of zeros
 abbrev pub noSlave : Slave
-noSlave = record { base = 0; span = 0; width = 0; burst = 0; «read_wait» = 0; «write_wait» = 0; native = 0 }
+noSlave = record { base = 0; span = 0; width = 0; burst = 0; «read_wait» = 0; «write_wait» = 0; native = 0; latency = 0 }
 
 -- rule 1.6: the slave has native alignment
 unfoldable pub isNative : Slave → Bool

@@ -35,7 +35,8 @@ slaveValues n =
     && (member (n .span) spans
     && (member (n .width) widths
     && (member (n .burst) bursts
-    && (leb (n .«read_wait») 255 && (leb (n .«write_wait») 255 && leb (n .native) 1)))))
+    && (leb (n .«read_wait») 255
+    && (leb (n .«write_wait») 255 && (leb (n .native) 1 && leb (n .latency) 63))))))
 
 -- rule 1.7: the span at base and the span of slave s have an address in common
 unfoldable pub meets : ℕ → ℕ → Slave → Bool
@@ -103,7 +104,7 @@ withMaster b w u = record {
   shares = b .shares;
 }
 
--- rule 1.3: `slave,base,span,width,burst,readwait,writewait,native`, the slave of a line
+-- rule 1.3: `slave,base,span,width,burst,readwait,writewait,native,latency`, the slave of a line
 abbrev pub slaveOf : SlaveNumbers → Slave
 slaveOf n = record {
   base = n .base;
@@ -113,6 +114,7 @@ slaveOf n = record {
   «read_wait» = n .«read_wait»;
   «write_wait» = n .«write_wait»;
   native = n .native;
+  latency = n .latency;
 }
 
 -- rule 1.1: the board with one slave more

@@ -14,6 +14,7 @@ pub struct Slave {
     pub read_wait: u32,
     pub write_wait: u32,
     pub native: u32,
+    pub latency: u32,
 }
 
 // What stands for a slave past the array of a board.
@@ -25,6 +26,7 @@ pub const NO_SLAVE: Slave = Slave {
     read_wait: 0,
     write_wait: 0,
     native: 0,
+    latency: 0,
 };
 
 // The shares of master m at slave s stand at index 16 * m + s; 0: not connected (rule 1.8).
@@ -45,6 +47,7 @@ pub struct SlaveNumbers {
     pub read_wait: u64,
     pub write_wait: u64,
     pub native: u64,
+    pub latency: u64,
 }
 
 // One line of a description (rule 1.3): the numbers of its fields, or a line that is none of the three kinds (rule 7.1).

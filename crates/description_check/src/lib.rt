@@ -43,6 +43,7 @@ fn slave_numbers(s: Slave) -> SlaveNumbers
         read_wait: s.read_wait as u64,
         write_wait: s.write_wait as u64,
         native: s.native as u64,
+        latency: s.latency as u64,
     }
 }
 
@@ -182,9 +183,9 @@ fn masters_fit(board: &[u32; BOARD_NUMBERS], n: usize) -> bool
 fn slave_fits(s: Slave) -> bool
     ensures { λ r. ⌜ (r ≡ true → SlaveFits s) ⌝ }
 {
-    let waits = (s.read_wait <= 255) & (s.write_wait <= 255);
+    let times = (s.read_wait <= 255) & ((s.write_wait <= 255) & (s.latency <= 63));
     let sizes = width_fits(s.width) & burst_fits(s.burst);
-    span_fits(s.base, s.span) & (sizes & waits)
+    span_fits(s.base, s.span) & (sizes & times)
 }
 
 // The larger of two ends.

@@ -69,7 +69,17 @@ no-master p = rw (zero-at p, zero-at (p + 1))
 
 no-slave : (p : ℕ) → slaveFrom zeros p ≡ noSlave
 unfolding slaveFrom
-no-slave p = rw (zero-at p, zero-at (p + 1), zero-at (p + 2), zero-at (p + 3), zero-at (p + 4), zero-at (p + 5), zero-at (p + 6))
+no-slave p =
+    rw (
+      zero-at p,
+      zero-at (p + 1),
+      zero-at (p + 2),
+      zero-at (p + 3),
+      zero-at (p + 4),
+      zero-at (p + 5),
+      zero-at (p + 6),
+      zero-at (p + 7),
+    )
 
 same-table : {X : Type 0} (f : ℕ → X) (n : ℕ) (d : X) → ((i : ℕ) → f i ≡ d) → table f n ≡ replicate n d
 same-table f n d h =

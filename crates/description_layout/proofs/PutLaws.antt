@@ -30,7 +30,11 @@ module _ (l m : List ℕ) (q : ℕ) where
   slave-same : Agree l m q slaveLength → slaveFrom m q ≡ slaveFrom l q
   unfolding slaveFrom
   slave-same e =
-      rw (e (q + 5) (omega arith) (omega arith), e (q + 6) (omega arith) (omega arith))
+      rw (
+        e (q + 5) (omega arith) (omega arith),
+        e (q + 6) (omega arith) (omega arith),
+        e (q + 7) (omega arith) (omega arith),
+      )
       (five-same l m q
       (λ b s w u r.
       record {
@@ -41,6 +45,7 @@ module _ (l m : List ℕ) (q : ℕ) where
         «read_wait» = r;
         «write_wait» = getD l (q + 5) 0;
         native = getD l (q + 6) 0;
+        latency = getD l (q + 7) 0;
       })
       (λ k low high. e k low (omega arith)))
 
@@ -69,22 +74,23 @@ master-put l e w u n q h =
           apart (sharesFrom + i) 1 (inl (omega arith)) (inr (omega arith)) (sharesFrom + i) (omega arith) (omega arith)),
     )
 
--- the stores of the code, of the seven numbers of a slave
+-- the stores of the code, of the eight numbers of a slave
 abbrev stored : List ℕ → ℕ → Slave → List ℕ
 stored l p s =
     set
-    (set (five l p (s .base) (s .span) (s .width) (s .burst) (s .«read_wait»)) (p + 5) (s .«write_wait»))
-    (p + 6) (s .native)
+    (set (set (five l p (s .base) (s .span) (s .width) (s .burst) (s .«read_wait»)) (p + 5) (s .«write_wait»)) (p + 6) (s .native))
+    (p + 7) (s .latency)
 
 abbrev numbers : Slave → List ℕ
-numbers s = s .base ∷ s .span ∷ s .width ∷ s .burst ∷ s .«read_wait» ∷ s .«write_wait» ∷ s .native ∷ []
+numbers s = s .base ∷ s .span ∷ s .width ∷ s .burst ∷ s .«read_wait» ∷ s .«write_wait» ∷ s .native ∷ s .latency ∷ []
 
 slave-sets : (l : List ℕ) (p : ℕ) (s : Slave) → stored l p s ≡ sets l p (numbers s)
 slave-sets l p s =
     let q : p + 6 ≡ suc (suc (suc (suc (suc (suc p))))) = omega arith in
-    rw (six-sets l p (s .base) (s .span) (s .width) (s .burst) (s .«read_wait») (s .«write_wait»), q)
+    let r : p + 7 ≡ suc (suc (suc (suc (suc (suc (suc p)))))) = omega arith in
+    rw (six-sets l p (s .base) (s .span) (s .width) (s .burst) (s .«read_wait») (s .«write_wait»), q, r)
 
--- one slave more: its seven numbers, and the count
+-- one slave more: its eight numbers, and the count
 pub slave-put : (l : List ℕ) → length l ≡ boardLength → (s : Slave) (n : ℕ) → n ≡ boardIn l .«slave_count» → n < 16
     → boardIn (set (stored l (at n) s) 1 (n + 1)) ≡ withSlave (boardIn l) s
 unfolding boardIn withSlave slaveFrom
@@ -109,6 +115,7 @@ slave-put l e s n q h =
             inside 4 (omega arith),
             inside 5 (omega arith),
             inside 6 (omega arith),
+            inside 7 (omega arith),
             rw add-zero at (inside 0 (omega arith)),
           ))
           (λ i d. slave-same l y (at i) (apart (at i) slaveLength (inl (omega arith)) (records-apart 18 slaveLength i n d))),

@@ -1,4 +1,4 @@
--- A board as an array of 258 numbers, one u32 for each field (rule 1.10).
+-- A board as an array of 274 numbers, one u32 for each field (rule 1.10).
 -- Every list of numbers is read as a board: what is not there is 0, so that no call has to rule an array out.
 -- Assumes nothing.
 use mathlib.Core.List.{List}
@@ -16,7 +16,7 @@ masterFrom l p = record { width = getD l p 0; burst = getD l (p + 1) 0 }
 -- rules 1.3, 1.10: how many numbers a slave has; where the shares begin, behind two counts, 8 masters and 16 slaves; how many
 -- numbers a board has. The code has them as constants of common_numbers.
 abbrev pub slaveLength : ℕ
-slaveLength = 7
+slaveLength = 8
 
 abbrev pub sharesFrom : ℕ
 sharesFrom = 18 + 16 * slaveLength
@@ -24,7 +24,7 @@ sharesFrom = 18 + 16 * slaveLength
 abbrev pub boardLength : ℕ
 boardLength = sharesFrom + 128
 
--- rule 1.10: seven numbers from index p on are a slave
+-- rule 1.10: eight numbers from index p on are a slave
 unfoldable pub slaveFrom : List ℕ → ℕ → Slave
 slaveFrom l p = record {
   base = getD l p 0;
@@ -34,9 +34,10 @@ slaveFrom l p = record {
   «read_wait» = getD l (p + 4) 0;
   «write_wait» = getD l (p + 5) 0;
   native = getD l (p + 6) 0;
+  latency = getD l (p + 7) 0;
 }
 
--- rule 1.10: the board in 258 numbers: its counts, 8 masters, 16 slaves, the shares of master m at slave s at 130 + 16 * m + s
+-- rule 1.10: the board in 274 numbers: its counts, 8 masters, 16 slaves, the shares of master m at slave s at 146 + 16 * m + s
 unfoldable pub boardIn : List ℕ → Board
 boardIn l = record {
   «master_count» = getD l 0 0;

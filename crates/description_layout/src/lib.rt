@@ -1,4 +1,4 @@
-// A board in a lent array of 258 numbers (rule 1.10): each record is read and put at its index.
+// A board in a lent array of 274 numbers (rule 1.10): each record is read and put at its index.
 // specs/Layout.antt says what the numbers mean.
 use common_numbers::BOARD_NUMBERS;
 use common_numbers::MASTER_NUMBERS;
@@ -63,6 +63,7 @@ pub fn slave_at(board: &[u32; BOARD_NUMBERS], s: usize) -> Slave
         read_wait: board[p + 4],
         write_wait: board[p + 5],
         native: board[p + 6],
+        latency: board[p + 7],
     }
 }
 
@@ -110,6 +111,7 @@ pub fn put_slave(board: &mut [u32; BOARD_NUMBERS], s: Slave)
     board[p + 4] = s.read_wait;
     board[p + 5] = s.write_wait;
     board[p + 6] = s.native;
+    board[p + 7] = s.latency;
     board[1] = n + 1;
 }
 

@@ -32,7 +32,7 @@ value ns i = getD (ns .values) i 0
 unfoldable pub masterLine : Numbers → Item
 masterLine ns = cond (eqb (ns .count) 2) (MasterLine (value ns 0) (value ns 1)) Malformed
 
--- rules 1.3, 7.1: `slave,base,span,width,burst,readwait,writewait,native`; no line has more numbers
+-- rules 1.3, 7.1: `slave,base,span,width,burst,readwait,writewait,native,latency`; no line has more numbers
 unfoldable pub slaveLine : Numbers → Item
 slaveLine ns =
     cond (eqb (ns .count) mostNumbers)
@@ -44,6 +44,7 @@ slaveLine ns =
       «read_wait» = value ns 4;
       «write_wait» = value ns 5;
       native = value ns 6;
+      latency = value ns 7;
     }))
     Malformed
 

@@ -43,6 +43,7 @@ fn slave_line(ns: Numbers) -> Item
             read_wait: ns.values[4],
             write_wait: ns.values[5],
             native: ns.values[6],
+            latency: ns.values[7],
         };
         return Item::SlaveLine(n);
     }
@@ -110,6 +111,7 @@ fn slave_fields(n: SlaveNumbers) -> [u64; SLAVE_FIELDS]
         n.read_wait,
         n.write_wait,
         n.native,
+        n.latency,
     ]
 }
 

@@ -40,6 +40,7 @@ fn slave_of(n: SlaveNumbers) -> Slave
         read_wait: n.read_wait as u32,
         write_wait: n.write_wait as u32,
         native: n.native as u32,
+        latency: n.latency as u32,
     }
 }
 

@@ -9,6 +9,7 @@ use common_numbers::BAD_VALUE;
 use common_numbers::BOARD_NUMBERS;
 use common_numbers::MEMORY_BYTES;
 use common_numbers::MOST_BASE;
+use common_numbers::MOST_LATENCY;
 use common_numbers::MOST_NATIVE;
 use common_numbers::MOST_SHARES;
 use common_numbers::MOST_WAIT;
@@ -72,8 +73,8 @@ fn member(x: u64, list: &[u64]) -> bool
 fn slave_values(n: SlaveNumbers) -> bool
     ensures { λ r. ⌜ r ≡ slaveValues n ⌝ }
 {
-    let limits = (n.read_wait <= MOST_WAIT)
-        & ((n.write_wait <= MOST_WAIT) & (n.native <= MOST_NATIVE));
+    let last = (n.native <= MOST_NATIVE) & (n.latency <= MOST_LATENCY);
+    let limits = (n.read_wait <= MOST_WAIT) & ((n.write_wait <= MOST_WAIT) & last);
     let lists = member(n.width, &WIDTHS) & (member(n.burst, &BURSTS) & limits);
     (n.base <= MOST_BASE) & (member(n.span, &SPANS) & lists)
 }

@@ -83,8 +83,17 @@ element-write-board-7 c = search needs
 add-board-7 : tie.Need-add-board-7
 add-board-7 c = search needs
 
+mul-board-8 : tie.Need-mul-board-8
+mul-board-8 c = search needs
+
 element-write-board-8 : tie.Need-element-write-board-8
 element-write-board-8 c = search needs
+
+add-board-8 : tie.Need-add-board-8
+add-board-8 c = search needs
+
+element-write-board-9 : tie.Need-element-write-board-9
+element-write-board-9 c = search needs
 
 returns : tie.Need-returns
 returns c = slave-put _ (search needs) _ _ (search needs) (search needs)
@@ -119,5 +128,8 @@ put-slave-spec =
     mul-board-7
     element-write-board-7
     add-board-7
+    mul-board-8
     element-write-board-8
+    add-board-8
+    element-write-board-9
     returns)

@@ -72,6 +72,15 @@ mul-t34 c = search needs
 element-copy-out-t37 : tie.Need-element-copy-out-t37
 element-copy-out-t37 c = search needs
 
+add-t38 : tie.Need-add-t38
+add-t38 c = search needs
+
+mul-t39 : tie.Need-mul-t39
+mul-t39 c = search needs
+
+element-copy-out-t42 : tie.Need-element-copy-out-t42
+element-copy-out-t42 c = search needs
+
 returns : tie.Need-returns
 unfolding slaveFrom
 returns c = slave-read _ _ (search needs)
@@ -102,4 +111,7 @@ slave-at-spec =
     add-t33
     mul-t34
     element-copy-out-t37
+    add-t38
+    mul-t39
+    element-copy-out-t42
     returns)

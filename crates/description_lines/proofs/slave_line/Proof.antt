@@ -26,9 +26,14 @@ element-copy-out-t23 c = search needs
 element-copy-out-t26 : tie.Need-element-copy-out-t26
 element-copy-out-t26 c = search needs
 
+element-copy-out-t29 : tie.Need-element-copy-out-t29
+element-copy-out-t29 c = search needs
+
 returns : tie.Need-returns
 unfolding slaveLine
-returns c = let start = c .before .before .before .before .before .before .before in rw (eq-eqb _ _ (start .if1 .taken))
+returns c =
+    let start = c .before .before .before .before .before .before .before .before in
+    rw (eq-eqb _ _ (start .if1 .taken))
 
 returns-2 : tie.Need-returns-2
 unfolding slaveLine
@@ -45,5 +50,6 @@ slave-line-spec =
     element-copy-out-t20
     element-copy-out-t23
     element-copy-out-t26
+    element-copy-out-t29
     returns
     returns-2)
