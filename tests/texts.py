@@ -26,9 +26,10 @@ RECORDS = ROOT / "crates/texts/stdin"
 ANSWERS = ROOT / "crates/texts/stdout"
 
 MASTER = "master,4,8"
-SLAVE = "slave,4096,4096,2,8,1,0,0"
+SLAVE = "slave,4096,4096,2,8,1,0,0,0"
 SHARE = "share,0,0,2"
-NATIVE = "slave,4096,4096,4,8,1,0,1"
+NATIVE = "slave,4096,4096,4,8,1,0,1,0"
+LATE = "slave,4096,4096,2,8,1,0,0,63"
 
 
 def text(*lines):
@@ -43,7 +44,7 @@ def small(master=MASTER, slave=SLAVE, share=SHARE):
 
 def unshared(*bases_and_spans):
     """A master, and slaves that differ in base and span alone: share lines are yet to follow."""
-    return text(MASTER, *(f"slave,{base},{span},2,8,1,0,0" for base, span in bases_and_spans))
+    return text(MASTER, *(f"slave,{base},{span},2,8,1,0,0,0" for base, span in bases_and_spans))
 
 
 def slaves(*bases_and_spans):
@@ -58,7 +59,7 @@ def shares(masters):
 
 def narrow(*shares, native=1):
     """A master half as wide as the slave, one as wide and one wider, with these share lines."""
-    return text("master,2,8", MASTER, "master,8,8", f"slave,4096,4096,4,8,1,0,{native}", *shares)
+    return text("master,2,8", MASTER, "master,8,8", f"slave,4096,4096,4,8,1,0,{native},0", *shares)
 
 
 def narrow_last(*shares):
@@ -69,7 +70,7 @@ def narrow_last(*shares):
 def grid(masters, slaves, *pairs):
     """So many masters, all alike, and so many slaves, with a share line for each of these pairs, of 1, 2, .. shares."""
     lines = [f"share,{master},{slave},{index + 1}" for index, (master, slave) in enumerate(pairs)]
-    return text(*[MASTER] * masters, *(f"slave,{base},{span},2,8,1,0,0" for base, span in row(slaves)), *lines)
+    return text(*[MASTER] * masters, *(f"slave,{base},{span},2,8,1,0,0,0" for base, span in row(slaves)), *lines)
 
 
 def row(count):
@@ -104,14 +105,15 @@ def longest():
     """Every number has the most digits it can have, spans five of them as often as their total allows."""
     spans = [16384] * 3 + [1024] * 13
     lines = ["master,8,64"] * 8
-    lines += [f"slave,{4294967296 - 16384 * (index + 1)},{span},8,64,255,255,1" for index, span in enumerate(spans)]
+    lines += [f"slave,{4294967296 - 16384 * (index + 1)},{span},8,64,255,255,1,63" for index, span in enumerate(spans)]
     lines += [f"share,{master},{slave},100" for master in range(8) for slave in range(16)]
     return text(*lines)
 
 
 def every_value(*more):
     """Every width, burst and span, but for the widest span, both ends of the waits, both values of the native field, and both
-    ends of the shares: each master at the slave of its number, which has its width. More slave lines stand behind the others."""
+    ends of the latency and of the shares: each master at the slave of its number, which has its width. More slave lines stand
+    behind the others."""
     widths = [1, 2, 4, 8]
     bursts = [1, 2, 4, 8, 16, 32, 64]
     spans = [32768 >> index for index in range(13)] + [8]
@@ -121,7 +123,9 @@ def every_value(*more):
         read_wait = [0, 255][index % 2]
         write_wait = [0, 0, 255][index % 3]
         native = [0, 0, 1, 1, 0][index % 5]
-        lines.append(f"slave,{base},{span},{widths[index % 4]},{bursts[index % 7]},{read_wait},{write_wait},{native}")
+        latency = [0, 63, 63][index % 3]
+        sizes = f"{span},{widths[index % 4]},{bursts[index % 7]}"
+        lines.append(f"slave,{base},{sizes},{read_wait},{write_wait},{native},{latency}")
         base += span
     lines += more
     lines += [f"share,{index},{index},{[1, 100][index % 2]}" for index in range(8)]
@@ -130,14 +134,14 @@ def every_value(*more):
 
 def long(length):
     """A text of so many bytes in two lines, of which the first answers 2."""
-    first = text("slave,0,8,1,1,0,0,0")
+    first = text("slave,0,8,1,1,0,0,0,0")
     return first + text("x" * (length - len(first) - 1))
 
 
 LIST = [
     ("0: boards of every size", [
         (0, "the shortest text that is taken: the least of everything", text(
-            "master,1,1", "slave,0,8,1,1,0,0,0", "share,0,0,1")),
+            "master,1,1", "slave,0,8,1,1,0,0,0,0", "share,0,0,1")),
         (0, "the board of docs/RULES.md, section 9", stored("document01.txt")),
         (0, "a board of a usual size, some of its pairs not connected", stored("crane.txt")),
         (0, "the largest board: 8 masters, 16 slaves, every pair connected, shares at their most", stored("largest.txt")),
@@ -151,10 +155,10 @@ LIST = [
         (0, "the most masters, all alike, at one slave", text(*[MASTER] * 8, SLAVE, *shares(8))),
         (0, "the most masters, each at its own slave", grid(8, 8, *((index, index) for index in range(8)))),
         (0, "a master at two slaves, or two masters at one, is no pair twice", text(
-            MASTER, "master,2,1", SLAVE, "slave,0,8,1,1,0,0,0",
+            MASTER, "master,2,1", SLAVE, "slave,0,8,1,1,0,0,0,0",
             "share,0,0,1", "share,0,1,2", "share,1,0,3", "share,1,1,4")),
         (0, "no share line for the slaves below and above the one that all masters are connected with", text(
-            MASTER, "master,2,1", SLAVE, "slave,0,8,1,1,0,0,0", "slave,8,8,1,1,0,0,0", "share,0,1,4", "share,1,1,5")),
+            MASTER, "master,2,1", SLAVE, "slave,0,8,1,1,0,0,0,0", "slave,8,8,1,1,0,0,0,0", "share,0,1,4", "share,1,1,5")),
         (0, "one master, connected with the last of the most slaves alone", unshared(*row(16)) + text("share,0,15,1")),
     ]),
     ("0: share lines by master, then slave", [
@@ -165,25 +169,34 @@ LIST = [
         (0, "slaves by number, 2 before 10: as text they would fall", grid(1, 16, (0, 1), (0, 2), (0, 9), (0, 10), (0, 15))),
         (0, "slaves that fall in their last digit, and in their last three bits", grid(1, 16, (0, 7), (0, 8), (0, 9), (0, 10))),
         (0, "shares that fall from line to line", text(
-            MASTER, MASTER, SLAVE, "slave,0,8,2,8,1,0,0", "share,0,0,100", "share,0,1,50", "share,1,0,2", "share,1,1,1")),
+            MASTER, MASTER, SLAVE, "slave,0,8,2,8,1,0,0,0", "share,0,0,100", "share,0,1,50", "share,1,0,2", "share,1,1,1")),
         (0, "the last pair of the most masters and slaves behind the first pairs", grid(
             8, 16, *((master, 0) for master in range(8)), (7, 15))),
     ]),
     ("0: native cards", [
         (0, "a board of a usual kind: a native card with a wider master and with one of its own width", stored("encoder.txt")),
         (0, "a native card without a share line", text(
-            "master,1,1", "slave,0,8,1,1,0,0,1", "slave,8,8,1,1,0,0,0", "share,0,1,1")),
+            "master,1,1", "slave,0,8,1,1,0,0,1,0", "slave,8,8,1,1,0,0,0,0", "share,0,1,1")),
         (0, "a master of the card's width", small(slave=NATIVE)),
-        (0, "a master twice as wide", small(slave="slave,4096,4096,2,8,1,0,1")),
-        (0, "the widest master at the narrowest card", small("master,8,64", "slave,4096,4096,1,8,1,0,1")),
+        (0, "a master twice as wide", small(slave="slave,4096,4096,2,8,1,0,1,0")),
+        (0, "the widest master at the narrowest card", small("master,8,64", "slave,4096,4096,1,8,1,0,1,0")),
         (0, "a narrower master on the board that is connected with another slave, not with the card", text(
-            "master,2,8", MASTER, "master,8,8", NATIVE, "slave,0,8,4,8,1,0,0", "share,0,1,1", "share,1,0,3", "share,2,0,2")),
+            "master,2,8", MASTER, "master,8,8", NATIVE, "slave,0,8,4,8,1,0,0,0", "share,0,1,1", "share,1,0,3", "share,2,0,2")),
         (0, "a narrower master at a slave with bus sizing", narrow("share,0,0,1", "share,1,0,2", "share,2,0,3", native=0)),
         (0, "a narrower master at the slave with bus sizing of two, and a wider one at both", text(
-            "master,1,1", "master,8,8", "slave,0,8,2,1,0,0,1", "slave,8,8,2,1,0,0,0",
+            "master,1,1", "master,8,8", "slave,0,8,2,1,0,0,1,0", "slave,8,8,2,1,0,0,0,0",
             "share,0,1,2", "share,1,0,3", "share,1,1,4")),
         (0, "by turns native and not: each line keeps its own number", text(
-            MASTER, *(f"slave,{8 * index},8,2,8,1,0,{index % 2}" for index in range(16)), SHARE)),
+            MASTER, *(f"slave,{8 * index},8,2,8,1,0,{index % 2},0" for index in range(16)), SHARE)),
+    ]),
+    ("0: slaves with a read latency", [
+        (0, "the least above none", small(slave="slave,4096,4096,2,8,1,0,0,1")),
+        (0, "the highest", small(slave=LATE)),
+        (0, "two digits, the last of them 0", small(slave="slave,4096,4096,2,8,1,0,0,10")),
+        (0, "a native card", small(slave="slave,4096,4096,4,8,1,0,1,63")),
+        (0, "no waits, and a burst of one word", small(slave="slave,4096,4096,2,1,0,0,0,63")),
+        (0, "from 0 to 60 by fours: each line keeps its own number", text(
+            MASTER, *(f"slave,{8 * index},8,2,8,1,0,0,{4 * index}" for index in range(16)), SHARE)),
     ]),
     ("1: the text as a whole", [
         (2, "8,192 bytes are not too many: the first line answers", long(8192)),
@@ -202,7 +215,7 @@ LIST = [
     ("1: a line's word", [
         (1, "another word", small(master="bus,4,8")),
         (1, "a capital letter", small(master="Master,4,8")),
-        (1, "another letter at the end", small(slave="slavs,4096,4096,2,8,1,0,0")),
+        (1, "another letter at the end", small(slave="slavs,4096,4096,2,8,1,0,0,0")),
         (1, "a letter too few", small(share="shar,0,0,2")),
         (1, "a letter too many", small(share="shares,0,0,2")),
         (1, "a space in front", small(master=" master,4,8")),
@@ -213,9 +226,11 @@ LIST = [
         (1, "a master's line with one too few", small(master="master,4")),
         (1, "a master's line with one too many", small(master="master,4,8,1")),
         (1, "a slave's line of six numbers, as it was before there were native cards", small(slave="slave,4096,4096,2,8,1,0")),
-        (1, "a slave's line with one too many", small(slave="slave,4096,4096,2,8,1,0,0,0")),
-        (1, "a slave's line with an empty field too many, behind a last comma", small(slave="slave,4096,4096,2,8,1,0,1,")),
+        (1, "a slave's line of seven numbers, as it was before there was a latency", small(slave="slave,4096,4096,2,8,1,0,0")),
+        (1, "a slave's line with one too many", small(slave="slave,4096,4096,2,8,1,0,0,0,0")),
+        (1, "a slave's line with an empty field too many, behind a last comma", small(slave="slave,4096,4096,2,8,1,0,1,0,")),
         (1, "six numbers in the second of two slave lines", text(MASTER, SLAVE, "slave,0,8,1,1,0,0", SHARE)),
+        (1, "seven numbers in the second of two slave lines", text(MASTER, SLAVE, "slave,0,8,1,1,0,0,0", SHARE)),
         (1, "a share line with one too few", small(share="share,0,0")),
         (1, "a share line with one too many, an empty one behind a last comma", small(share="share,0,0,2,")),
     ]),
@@ -223,16 +238,20 @@ LIST = [
         (1, "nothing, in a master's width", small(master="master,,8")),
         (1, "nothing, at the end of a line", small(share="share,0,0,")),
         (1, "a leading zero, in a master's burst", small(master="master,4,08")),
-        (1, "0 twice, in a write wait", small(slave="slave,4096,4096,2,8,1,00,0")),
-        (1, "a leading zero, in a native field: without it the line would be taken", small(slave="slave,4096,4096,2,8,1,0,01")),
-        (1, "nothing, in a native field: the line has its fields", small(slave="slave,4096,4096,2,8,1,0,")),
-        (1, "11 digits, in a native field", small(slave="slave,4096,4096,2,8,1,0,10000000000")),
-        (1, "11 digits, in a base: no number, so not 3", small(slave="slave,10000000000,8,2,8,1,0,0")),
+        (1, "0 twice, in a write wait", small(slave="slave,4096,4096,2,8,1,00,0,0")),
+        (1, "a leading zero, in a native field: without it the line would be taken", small(slave="slave,4096,4096,2,8,1,0,01,0")),
+        (1, "nothing, in a native field: the line has its fields", small(slave="slave,4096,4096,2,8,1,0,,0")),
+        (1, "11 digits, in a native field", small(slave="slave,4096,4096,2,8,1,0,10000000000,0")),
+        (1, "a leading zero, in a latency: without it the line would be taken", small(slave="slave,4096,4096,2,8,1,0,0,063")),
+        (1, "0 twice, in a latency", small(slave="slave,4096,4096,2,8,1,0,0,00")),
+        (1, "nothing, in a latency: the line has its fields", small(slave="slave,4096,4096,2,8,1,0,0,")),
+        (1, "11 digits, in a latency", small(slave="slave,4096,4096,2,8,1,0,0,10000000000")),
+        (1, "11 digits, in a base: no number, so not 3", small(slave="slave,10000000000,8,2,8,1,0,0,0")),
         (1, "20 digits, in shares: cut to 64 bits it is 2", small(share="share,0,0,18446744073709551618")),
-        (1, "a plus sign, in a span", small(slave="slave,4096,+4096,2,8,1,0,0")),
-        (1, "a minus sign, in a read wait", small(slave="slave,4096,4096,2,8,-1,0,0")),
-        (1, "a space in front, in a slave's width", small(slave="slave,4096,4096, 2,8,1,0,0")),
-        (1, "a space behind, in a slave's burst", small(slave="slave,4096,4096,2,8 ,1,0,0")),
+        (1, "a plus sign, in a span", small(slave="slave,4096,+4096,2,8,1,0,0,0")),
+        (1, "a minus sign, in a read wait", small(slave="slave,4096,4096,2,8,-1,0,0,0")),
+        (1, "a space in front, in a slave's width", small(slave="slave,4096,4096, 2,8,1,0,0,0")),
+        (1, "a space behind, in a slave's burst", small(slave="slave,4096,4096,2,8 ,1,0,0,0")),
         (1, "hex, in a master's number", small(share="share,0x0,0,2")),
         (1, "a tab, in a slave's number", small(share="share,0,\t0,2")),
         (1, "the byte below the digit 0", small(share="share,0,0,/")),
@@ -248,7 +267,7 @@ LIST = [
         (2, "a share before any slave", text(MASTER, SHARE, SLAVE)),
         (2, "a master behind a slave", text(MASTER, SLAVE, MASTER, *shares(2))),
         (2, "a master behind a share", small() + text(MASTER, "share,1,0,2")),
-        (2, "a slave behind a share", small() + text("slave,0,8,1,1,0,0,0")),
+        (2, "a slave behind a share", small() + text("slave,0,8,1,1,0,0,0,0")),
         (2, "a ninth master", text(*[MASTER] * 9, SLAVE, *shares(9))),
         (2, "a seventeenth slave", slaves(*row(17))),
     ]),
@@ -261,34 +280,46 @@ LIST = [
         (3, "a master's burst of 0", small(master="master,4,0")),
         (3, "a master's burst between two legal ones", small(master="master,4,3")),
         (3, "a master's burst of the next power of two", small(master="master,4,128")),
-        (3, "a base of 2^32, a multiple of its span", small(slave="slave,4294967296,4096,2,8,1,0,0")),
-        (3, "the highest number of 10 digits, in a base: a number, so not 1", small(slave="slave,9999999999,4096,2,8,1,0,0")),
-        (3, "a span of 0, by which nothing can be divided", small(slave="slave,0,0,2,8,1,0,0")),
-        (3, "a span of the power of two below the list", small(slave="slave,4096,4,2,8,1,0,0")),
-        (3, "a span between two legal ones, the base its multiple", small(slave="slave,12288,12,2,8,1,0,0")),
-        (3, "a span of the next power of two: the value answers, not the total", small(slave="slave,131072,131072,2,8,1,0,0")),
-        (3, "a slave's width of 0", small(slave="slave,4096,4096,0,8,1,0,0")),
-        (3, "a slave's width between two legal ones", small(slave="slave,4096,4096,6,8,1,0,0")),
-        (3, "a slave's width of the next power of two", small(slave="slave,4096,4096,16,8,1,0,0")),
-        (3, "a slave's burst of 0", small(slave="slave,4096,4096,2,0,1,0,0")),
-        (3, "a slave's burst between two legal ones", small(slave="slave,4096,4096,2,48,1,0,0")),
-        (3, "a slave's burst of the next power of two", small(slave="slave,4096,4096,2,128,1,0,0")),
-        (3, "a read wait of one too many", small(slave="slave,4096,4096,2,8,256,0,0")),
-        (3, "a write wait of one too many", small(slave="slave,4096,4096,2,8,1,256,0")),
-        (3, "a native field of one too many", small(slave="slave,4096,4096,2,8,1,0,2")),
-        (3, "a native field of two digits, the first of them 1", small(slave="slave,4096,4096,2,8,1,0,10")),
-        (3, "a native field that is 0 when it is cut to a byte", small(slave="slave,4096,4096,2,8,1,0,256")),
-        (3, "a native field that is 0 when it is cut to a byte or to 32 bits", small(slave="slave,4096,4096,2,8,1,0,4294967296")),
-        (3, "a native field that is 1 when it is cut to a byte or to 32 bits", small(slave="slave,4096,4096,2,8,1,0,4294967297")),
-        (3, "the highest number of 10 digits, in a native field", small(slave="slave,4096,4096,2,8,1,0,9999999999")),
+        (3, "a base of 2^32, a multiple of its span", small(slave="slave,4294967296,4096,2,8,1,0,0,0")),
+        (3, "the highest number of 10 digits, in a base: a number, so not 1", small(slave="slave,9999999999,4096,2,8,1,0,0,0")),
+        (3, "a span of 0, by which nothing can be divided", small(slave="slave,0,0,2,8,1,0,0,0")),
+        (3, "a span of the power of two below the list", small(slave="slave,4096,4,2,8,1,0,0,0")),
+        (3, "a span between two legal ones, the base its multiple", small(slave="slave,12288,12,2,8,1,0,0,0")),
+        (3, "a span of the next power of two: the value answers, not the total", small(slave="slave,131072,131072,2,8,1,0,0,0")),
+        (3, "a slave's width of 0", small(slave="slave,4096,4096,0,8,1,0,0,0")),
+        (3, "a slave's width between two legal ones", small(slave="slave,4096,4096,6,8,1,0,0,0")),
+        (3, "a slave's width of the next power of two", small(slave="slave,4096,4096,16,8,1,0,0,0")),
+        (3, "a slave's burst of 0", small(slave="slave,4096,4096,2,0,1,0,0,0")),
+        (3, "a slave's burst between two legal ones", small(slave="slave,4096,4096,2,48,1,0,0,0")),
+        (3, "a slave's burst of the next power of two", small(slave="slave,4096,4096,2,128,1,0,0,0")),
+        (3, "a read wait of one too many", small(slave="slave,4096,4096,2,8,256,0,0,0")),
+        (3, "a write wait of one too many", small(slave="slave,4096,4096,2,8,1,256,0,0")),
+        (3, "a native field of one too many", small(slave="slave,4096,4096,2,8,1,0,2,0")),
+        (3, "a native field of two digits, the first of them 1", small(slave="slave,4096,4096,2,8,1,0,10,0")),
+        (3, "a native field that is 0 when it is cut to a byte", small(slave="slave,4096,4096,2,8,1,0,256,0")),
+        (3, "a native field that is 0 when it is cut to a byte or to 32 bits", small(
+            slave="slave,4096,4096,2,8,1,0,4294967296,0")),
+        (3, "a native field that is 1 when it is cut to a byte or to 32 bits", small(
+            slave="slave,4096,4096,2,8,1,0,4294967297,0")),
+        (3, "the highest number of 10 digits, in a native field", small(slave="slave,4096,4096,2,8,1,0,9999999999,0")),
+        (3, "a latency of one too many", small(slave="slave,4096,4096,2,8,1,0,0,64")),
+        (3, "a latency of one too many, of a native card", small(slave="slave,4096,4096,4,8,1,0,1,64")),
+        (3, "a latency of one too many, in the last of the most slaves", unshared(*row(15)) + text(
+            "slave,120,8,2,8,1,0,0,64", SHARE)),
+        (3, "a latency of the next power of two", small(slave="slave,4096,4096,2,8,1,0,0,128")),
+        (3, "a latency of the highest wait", small(slave="slave,4096,4096,2,8,1,0,0,255")),
+        (3, "a latency that is 0 when it is cut to a byte", small(slave="slave,4096,4096,2,8,1,0,0,256")),
+        (3, "a latency that is 0 when it is cut to a byte or to 32 bits", small(slave="slave,4096,4096,2,8,1,0,0,4294967296")),
+        (3, "a latency that is 63 when it is cut to a byte or to 32 bits", small(slave="slave,4096,4096,2,8,1,0,0,4294967359")),
+        (3, "the highest number of 10 digits, in a latency", small(slave="slave,4096,4096,2,8,1,0,0,9999999999")),
         (3, "shares of 0: a pair that is not connected has no line", small(share="share,0,0,0")),
         (3, "shares of one too many", small(share="share,0,0,101")),
         (3, "shares that are 2 when they are cut to a byte or to 32 bits", small(share="share,0,0,4294967298")),
     ]),
     ("4: a base between two multiples of its span", [
-        (4, "an example of rule 9.8", small(slave="slave,4100,4096,2,8,1,0,0")),
-        (4, "a base below its span, and not 0", small(slave="slave,32768,65536,2,8,1,0,0")),
-        (4, "the highest base in range, a multiple of no span: not 3", small(slave="slave,4294967295,8,2,8,1,0,0")),
+        (4, "an example of rule 9.8", small(slave="slave,4100,4096,2,8,1,0,0,0")),
+        (4, "a base below its span, and not 0", small(slave="slave,32768,65536,2,8,1,0,0,0")),
+        (4, "the highest base in range, a multiple of no span: not 3", small(slave="slave,4294967295,8,2,8,1,0,0,0")),
     ]),
     # Bases are multiples of spans and spans powers of two, so of two slaves with a byte in common one lies within the other.
     ("5: slaves with a byte in common", [
@@ -305,7 +336,7 @@ LIST = [
     ("6: more bytes than there can be", [
         (6, "by the least, beside the widest span", slaves((0, 65536), (65536, 8))),
         (6, "by the least, at the fifteenth slave: the board of exactly 65,536 above and one slave more", every_value(
-            "slave,65536,8,1,1,0,0,0")),
+            "slave,65536,8,1,1,0,0,0,0")),
     ]),
     ("7: share lines for a pair that is not there, or has one", [
         (7, "a master one above the last", small() + text("share,1,0,2")),
@@ -321,36 +352,38 @@ LIST = [
     ]),
     ("19: a share line that joins a master to a native slave wider than it", [
         (19, "half as wide", small("master,2,8", NATIVE)),
-        (19, "the narrowest master at the widest slave", small("master,1,1", "slave,0,8,8,1,0,0,1")),
+        (19, "half as wide, the slave with a latency", small("master,2,8", "slave,4096,4096,4,8,1,0,1,63")),
+        (19, "the narrowest master at the widest slave", small("master,1,1", "slave,0,8,8,1,0,0,1,0")),
         (19, "behind share lines of wider masters", narrow_last("share,0,0,1", "share,1,0,1", "share,2,0,1")),
         (19, "before share lines of wider masters", narrow("share,0,0,1", "share,1,0,1", "share,2,0,1")),
         (19, "the first slave has bus sizing and takes the master, the second does not", text(
-            "master,2,8", "slave,0,8,4,8,1,0,0", NATIVE, "share,0,0,2", "share,0,1,2")),
+            "master,2,8", "slave,0,8,4,8,1,0,0,0", NATIVE, "share,0,0,2", "share,0,1,2")),
         (19, "the last master at the last slave of the most that there can be", text(
-            *["master,8,8"] * 7, "master,4,8", *(f"slave,{8 * index},8,8,8,1,0,1" for index in range(16)),
+            *["master,8,8"] * 7, "master,4,8", *(f"slave,{8 * index},8,8,8,1,0,1,0" for index in range(16)),
             *shares(7), "share,7,15,1")),
     ]),
     ("20: a master without a share line", [
-        (20, "the only one: the shortest text in which lines are right", text("master,1,1", "slave,0,8,1,1,0,0,0")),
+        (20, "the only one: the shortest text in which lines are right", text("master,1,1", "slave,0,8,1,1,0,0,0,0")),
         (20, "the most there can be, and none has one", text(*[MASTER] * 8, SLAVE)),
         (20, "the first of two", text(MASTER, "master,2,1", SLAVE, "share,1,0,3")),
         (20, "the last of two, as where a planner forgot the recorder", text(MASTER, "master,2,1", SLAVE, SHARE)),
         (20, "the middle one of three", text(MASTER, "master,2,1", MASTER, SLAVE, SHARE, "share,2,0,2")),
         (20, "the masters below and above the connected one", text(
-            MASTER, "master,2,1", "master,1,1", SLAVE, "slave,0,8,1,1,0,0,0", "share,1,1,5")),
+            MASTER, "master,2,1", "master,1,1", SLAVE, "slave,0,8,1,1,0,0,0,0", "share,1,1,5")),
         (20, "the first of the most, on the largest board", without(stored("largest.txt"), 0)),
         (20, "one between, on the largest board", without(stored("largest.txt"), 4)),
         (20, "the last of the most, on the largest board", without(stored("largest.txt"), 7)),
         (20, "all of them, on the largest board", without(stored("largest.txt"), *range(8))),
         (20, "one of a board of a usual size", without(stored("crane.txt"), 3)),
         (20, "as many share lines as masters, two of them of one master", text(
-            MASTER, "master,2,1", SLAVE, "slave,0,8,1,1,0,0,0", "share,0,0,2", "share,0,1,2")),
+            MASTER, "master,2,1", SLAVE, "slave,0,8,1,1,0,0,0,0", "share,0,0,2", "share,0,1,2")),
         (20, "the first of two: the slaves of the other's lines have the numbers of both", text(
-            MASTER, "master,2,1", SLAVE, "slave,0,8,1,1,0,0,0", "share,1,0,2", "share,1,1,2")),
+            MASTER, "master,2,1", SLAVE, "slave,0,8,1,1,0,0,0,0", "share,1,0,2", "share,1,1,2")),
         (20, "the last of two, behind lines of the first at the most slaves", text(MASTER) + unshared(*row(16)) + text(
             *(f"share,0,{slave},2" for slave in range(16)))),
         (20, "the first of two, before lines of the last at the most slaves", text(MASTER) + unshared(*row(16)) + text(
             *(f"share,1,{slave},2" for slave in range(16)))),
+        (20, "the last of two, at a slave with a latency", text(MASTER, MASTER, LATE, SHARE)),
         (20, "one that no slave takes: the only slave is native and wider", narrow("share,1,0,1", "share,2,0,1")),
     ]),
     # Without the rule each of them is a board: every master has a share line.
@@ -377,7 +410,7 @@ LIST = [
         (21, "master 7 at the first slave above master 6 at the last", grid(
             8, 16, *((master, 0) for master in range(6)), (7, 0), (6, 15))),
         (21, "the shares rise all the same", text(
-            MASTER, MASTER, SLAVE, "slave,0,8,2,8,1,0,0", "share,0,0,1", "share,1,0,2", "share,0,1,3")),
+            MASTER, MASTER, SLAVE, "slave,0,8,2,8,1,0,0,0", "share,0,0,1", "share,1,0,2", "share,0,1,3")),
         (21, "the shares fall too", text(MASTER, MASTER, SLAVE, "share,1,0,100", "share,0,0,1")),
         (21, "the most masters, backwards, each at its own slave", grid(8, 8, *((index, index) for index in reversed(range(8))))),
         (21, "one master, backwards at the most slaves", grid(1, 16, *((0, slave) for slave in reversed(range(16))))),
@@ -397,16 +430,17 @@ LIST = [
         (21, "a board of a usual size, with a pair of its last master added at the end", stored("crane.txt") + text("share,4,0,1")),
         (21, "a native card, its masters wide enough", text(MASTER, "master,8,8", NATIVE, "share,1,0,1", "share,0,0,1")),
         (21, "a narrow master at the slave with bus sizing, behind a wide one at the native card", text(
-            "master,2,8", MASTER, NATIVE, "slave,0,8,4,8,1,0,0", "share,1,0,1", "share,0,1,1")),
+            "master,2,8", MASTER, NATIVE, "slave,0,8,4,8,1,0,0,0", "share,1,0,1", "share,0,1,1")),
     ]),
     ("Several faults in one line: the lowest number", [
-        (1, "1 before 2: a slave before any master, with a bad number", text("slave,4096,4096,2,8,1,0,x", MASTER)),
+        (1, "1 before 2: a slave before any master, with a bad number", text("slave,4096,4096,2,8,1,0,0,x", MASTER)),
         (1, "1 before 3: a bad number behind a value outside its list", small(master="master,3,x")),
         (1, "1 before 3 to 6: a bad number at the end of a slave line with every other fault", unshared((0, 65536)) + text(
-            "slave,4,65536,3,8,1,0,")),
+            "slave,4,65536,3,8,1,0,0,")),
         (1, "1 before 3: no line feed behind shares of 0", small(share="share,0,0,0")[:-1]),
         (1, "1 before 7: a pair twice, with a leading zero", small() + text("share,0,0,02")),
         (1, "1 before 3: six numbers, a width of 3", small(slave="slave,4096,4096,3,8,1,0")),
+        (1, "1 before 3: seven numbers, the last of them 64", small(slave="slave,4096,4096,2,8,1,0,64")),
         (1, "1 before 19: shares with a leading zero", narrow("share,0,0,02")),
         (1, "1 before 19: no line feed", narrow("share,0,0,2")[:-1]),
         (1, "1 before 21: 0 twice, in a master's number", grid(2, 1, (1, 0)) + text("share,00,0,1")),
@@ -415,13 +449,17 @@ LIST = [
         (1, "1 before 21: a field too few", grid(2, 1, (1, 0)) + text("share,0,0")),
         (1, "1 before 21: no line feed", grid(2, 1, (1, 0), (0, 0))[:-1]),
         (2, "2 before 3: a ninth master, with a width of 0", text(*[MASTER] * 8, "master,0,8", SLAVE)),
-        (2, "2 before 3: a seventeenth slave, with a native field of 2", unshared(*row(16)) + text("slave,4096,8,2,8,1,0,2")),
+        (2, "2 before 3: a seventeenth slave, with a native field of 2", unshared(*row(16)) + text("slave,4096,8,2,8,1,0,2,0")),
+        (2, "2 before 3: a seventeenth slave, with a latency of 64", unshared(*row(16)) + text("slave,4096,8,2,8,1,0,0,64")),
         (2, "2 before 4 to 6: a seventeenth slave, with each of them", slaves(*row(16), (4, 65536))),
         (2, "2 before 3 and 7: a share before any slave, of 0 and for no master", text(MASTER, "share,1,0,0", SLAVE)),
-        (3, "3 before 4: a wait of 256, the base no multiple", small(slave="slave,4100,4096,2,8,256,0,0")),
-        (3, "3 before 4: a native field of 2, the base no multiple", small(slave="slave,4100,4096,2,8,1,0,2")),
-        (3, "3 before 5: a width of 3, the same bytes again", text(MASTER, SLAVE, "slave,4096,4096,3,8,1,0,0")),
-        (3, "3 before 6: a burst of 3, the total passed", unshared((0, 65536)) + text("slave,65536,8,2,3,1,0,0")),
+        (3, "3 before 4: a wait of 256, the base no multiple", small(slave="slave,4100,4096,2,8,256,0,0,0")),
+        (3, "3 before 4: a native field of 2, the base no multiple", small(slave="slave,4100,4096,2,8,1,0,2,0")),
+        (3, "3 before 4: a latency of 64, the base no multiple", small(slave="slave,4100,4096,2,8,1,0,0,64")),
+        (3, "3 before 5: a width of 3, the same bytes again", text(MASTER, SLAVE, "slave,4096,4096,3,8,1,0,0,0")),
+        (3, "3 before 5: a latency of 64, the same bytes again", text(MASTER, SLAVE, "slave,4096,4096,2,8,1,0,0,64")),
+        (3, "3 before 6: a burst of 3, the total passed", unshared((0, 65536)) + text("slave,65536,8,2,3,1,0,0,0")),
+        (3, "3 before 6: a latency of 64, the total passed", unshared((0, 65536)) + text("slave,65536,8,2,8,1,0,0,64")),
         (3, "3 before 7: shares of 0 for no master", small(share="share,1,0,0")),
         (3, "3 before 19: shares of 0", narrow("share,0,0,0")),
         (3, "3 before 19: shares of one too many", narrow("share,0,0,101")),
@@ -443,7 +481,7 @@ LIST = [
             2, 1, (1, 0)) + text("share,4294967296,0,1")),
         (19, "19 before 21: a narrow master behind wider ones", narrow("share,1,0,1", "share,2,0,1", "share,0,0,1")),
         (19, "19 before 21: a narrow master's native slave behind its other slave", text(
-            "master,2,8", NATIVE, "slave,0,8,4,8,1,0,0", "share,0,1,1", "share,0,0,1")),
+            "master,2,8", NATIVE, "slave,0,8,4,8,1,0,0,0", "share,0,1,1", "share,0,0,1")),
     ]),
     ("Several lines with a fault: the first of them", [
         (3, "a width of 3, then another word", text("master,3,8", "bus,4,8")),
@@ -451,6 +489,7 @@ LIST = [
         (6, "the total passed, then a master behind a slave", slaves((0, 65536), (65536, 8)) + text(MASTER)),
         (7, "a pair twice, then a line without its line feed", small() + text(SHARE) + "share,0"),
         (3, "a native field of 2, then a share line of a narrower master", narrow("share,0,0,2", native=2)),
+        (3, "a latency of 64, then a share line of a narrower master", small("master,2,8", "slave,4096,4096,4,8,1,0,1,64")),
         (7, "a pair twice, then a master narrower than the native slave", narrow("share,1,0,1", "share,1,0,1", "share,0,0,1")),
         (19, "a master narrower than the native slave, then a pair twice", narrow("share,0,0,1", "share,1,0,1", "share,1,0,1")),
         (19, "a master narrower than the native slave, and the same line again", narrow("share,0,0,1", "share,0,0,1")),
@@ -480,12 +519,12 @@ LIST = [
         (2, "no slave: both are found at the end", text(MASTER, MASTER)),
         (2, "no slave, and the most masters", text(*[MASTER] * 8)),
         (2, "a master behind the share lines, which has none itself", small() + text(MASTER)),
-        (2, "a slave behind the share lines", text(MASTER, MASTER, SLAVE, SHARE, "slave,0,8,1,1,0,0,0")),
+        (2, "a slave behind the share lines", text(MASTER, MASTER, SLAVE, SHARE, "slave,0,8,1,1,0,0,0,0")),
         (2, "its only line stands before any slave", text(MASTER, SHARE, SLAVE)),
         (3, "a width of 3, in the first line", text("master,3,8", SLAVE)),
         (3, "its only line has shares of 0", text(MASTER, MASTER, SLAVE, SHARE, "share,1,0,0")),
         (3, "its only line has shares of 0, and stands before others", text(MASTER, MASTER, SLAVE, "share,0,0,0", "share,1,0,2")),
-        (4, "a base that is no multiple of its span", text(MASTER, "slave,4100,4096,2,8,1,0,0")),
+        (4, "a base that is no multiple of its span", text(MASTER, "slave,4100,4096,2,8,1,0,0,0")),
         (5, "slaves with a byte in common", unshared((4096, 4096), (4096, 8))),
         (6, "more bytes than there can be", unshared((0, 65536), (65536, 8))),
         (7, "its only line names no slave", text(MASTER, MASTER, SLAVE, SHARE, "share,1,1,2")),
