@@ -62,16 +62,18 @@ pub const TEXT_BYTES: usize = 8192;
 pub const TEXT_ROOM: usize = TEXT_BYTES + 1;
 
 // Rule 1.3: the numbers of a slave line; no line of a description has more.
-pub const SLAVE_FIELDS: usize = 7;
+pub const SLAVE_FIELDS: usize = 8;
 
 pub const LINE_NUMBERS: usize = SLAVE_FIELDS;
 
-// Rule 1.6: the highest base, wait, native and shares.
+// Rule 1.6: the highest base, wait, native, latency and shares.
 pub const MOST_BASE: u64 = 4294967295;
 
 pub const MOST_WAIT: u64 = 255;
 
 pub const MOST_NATIVE: u64 = 1;
+
+pub const MOST_LATENCY: u64 = 63;
 
 pub const MOST_SHARES: u64 = 100;
 
@@ -103,7 +105,9 @@ pub const SLOT_NUMBERS: usize = 5;
 
 pub const SLOTS_FROM: usize = MASTERS * TRANSFER_NUMBERS;
 
-pub const STATE_NUMBERS: usize = SLOTS_FROM + SLAVES * SLOT_NUMBERS;
+pub const LATE_FROM: usize = SLOTS_FROM + SLAVES * SLOT_NUMBERS;
+
+pub const STATE_NUMBERS: usize = LATE_FROM + MASTERS;
 
 pub const LINE_FIELDS: usize = 6;
 

@@ -1,4 +1,5 @@
--- The accesses of one transfer at one slave: which bytes, where, and which are carried out (rules 4.8, 4.10, 4.13, 4.14, 5.4).
+-- The accesses of one transfer at one slave: which bytes, where, and which are carried out (rules 4.8, 4.10, 4.13, 4.14,
+-- 4.16, 5.4).
 -- The definitions are total: a quotient by 0 is 0, a remainder by 0 the number itself, a difference stops at 0, and behind the
 -- last access that is carried out each number is 0. On a legal board no width is 0, the address of a transfer that is not refused
 -- is not below the base, and no state that breaks no rule serves a transfer behind its last access.
@@ -60,6 +61,10 @@ accessNumber ma sl t k = getD (accessNumbers ma sl t) k 0
 -- rule 4.8: the slave's wait for the transfer's direction
 unfoldable pub waitOf : Slave → Transfer → ℕ
 waitOf sl t = cond (t .write) (sl .«write_wait») (sl .«read_wait»)
+
+-- rule 4.16: the clocks between a transfer's last access and its finish: none for a write
+unfoldable pub latencyOf : Slave → Transfer → ℕ
+latencyOf sl t = cond (t .write) 0 (sl .latency)
 
 -- rule 5.4: the own length of a transfer
 unfoldable pub ownLength : Master → Slave → Transfer → ℕ

@@ -12,7 +12,7 @@ ghost use Rattle.fabric_accesses.specs.Code.Pairs.{Span};
 ghost use Rattle.description_board.specs.Records.{isNative};
 ghost use Rattle.fabric_accesses.specs.Alignment.{ratio, leavesOut, laneBytes, accessBytes};
 ghost use Rattle.fabric_accesses.specs.Accesses.{firstByte, accessOffset, wordOffset, writeLanes, slaveLanes};
-ghost use Rattle.fabric_accesses.specs.Accesses.{accesses, accessNumber, waitOf, ownLength};
+ghost use Rattle.fabric_accesses.specs.Accesses.{accesses, accessNumber, waitOf, latencyOf, ownLength};
 ghost use Rattle.fabric_accesses.specs.Runs.{runLimit, placeOf, runOf};
 ghost use Rattle.fabric_accesses.specs.Code.Pairs.{Widths, InWord};
 ghost use Rattle.fabric_accesses.specs.Code.Numbers.{Posted, firstAccess, beatAccesses};
@@ -227,6 +227,13 @@ pub fn wait_of(sl: Slave, t: Transfer) -> u32
     ensures { λ r. ⌜ r ≡ waitOf sl t ⌝ }
 {
     if t.write { sl.write_wait } else { sl.read_wait }
+}
+
+// The clocks between a transfer's last access and its finish (rule 4.16): a write has none.
+pub fn latency_of(sl: Slave, t: Transfer) -> u32
+    ensures { λ r. ⌜ r ≡ latencyOf sl t ⌝ }
+{
+    if t.write { 0 } else { sl.latency }
 }
 
 // The clocks that a transfer takes once it has its first cycle (rule 5.4): every access that is carried out has the wait.

@@ -70,7 +70,7 @@ pub record Cycle (ma : Master) (sl : Slave) (t : Transfer) (slot : Slot) (x : St
   pub some : 1 ≤ leftOf ma sl t slot
   pub shown : (eqb (x .line .phase) 1 || eqb (x .line .phase) 2) ≡ true
   pub line : x .line .owner ≡ slot .owner
-  pub ends : x .finished ≡ not (x .slot .serving)
+  pub ends : x .last ≡ not (x .slot .serving)
 
 module _ (ma : Master) (sl : Slave) (t : Transfer) (slot : Slot) (on : slot .serving ≡ true)
     (more : slot .done < accesses ma sl t) (within : slot .waited ≤ waitOf sl t) where
@@ -88,7 +88,7 @@ module _ (ma : Master) (sl : Slave) (t : Transfer) (slot : Slot) (on : slot .ser
       leaves : (y : Slot) (phase : ℕ) (end : Bool) → y .owner ≡ slot .owner → y .remaining ≡ slot .remaining
           → leftOf ma sl t y ≡ clocksLeft (accesses ma sl t) (waitOf sl t) (slot .done) (slot .waited) - 1
           → (eqb phase 1 || eqb phase 2) ≡ true → end ≡ not (y .serving)
-          → Cycle ma sl t slot (record { slot = y; line = lineOf ma sl t slot phase; finished = end })
+          → Cycle ma sl t slot (record { slot = y; line = lineOf ma sl t slot phase; last = end })
       leaves y phase end o r l s f = record {
         owner = o;
         remaining = r;
@@ -102,10 +102,10 @@ module _ (ma : Master) (sl : Slave) (t : Transfer) (slot : Slot) (on : slot .ser
       go : (b : Bool) → ltb (slot .waited) (waitOf sl t) ≡ b → (c : Bool) → ltb (slot .done + 1) (accesses ma sl t) ≡ c
           → Cycle ma sl t slot
           (cond b
-          (record { slot = slotWaiting slot; line = lineOf ma sl t slot 1; finished = false })
+          (record { slot = slotWaiting slot; line = lineOf ma sl t slot 1; last = false })
           (cond c
-          (record { slot = slotAccessed slot; line = lineOf ma sl t slot 2; finished = false })
-          (record { slot = slotFinished slot; line = lineOf ma sl t slot 2; finished = true })))
+          (record { slot = slotAccessed slot; line = lineOf ma sl t slot 2; last = false })
+          (record { slot = slotFinished slot; line = lineOf ma sl t slot 2; last = true })))
       go true p c q = leaves _ 1 false refl refl (left-wait _ _ _ _) refl refl
       go false p true q =
           leaves _ 2 false refl refl (left-access _ _ _ _ more (omega (arith, ltb-false (slot .waited) _ p))) refl refl

@@ -1,11 +1,12 @@
 -- Which slave a transfer is for: on an accepted board one, and what is true there of a transfer that post takes.
 -- Assumes nothing.
 use mathlib.Core.Path.{_≡_, refl}
-use mathlib.Core.Bool.{true, false}
+use mathlib.Core.Bool.{true, false, and-false}
+use mathlib.Core.Logic.{_≢_}
 use Prim.Native.Nat.{ℕ, _+_, _*_, _%_, _≤_, _<_}
 use native.Mathlib.Omega.{arith}
 use lib.Dec.{ltb, eqb}
-use borrow.Author.Tests.{ltb-false, eqb-true, eqb-false, not-false}
+use borrow.Author.Tests.{ltb-false, eqb-true, eqb-false, ne-eqb, not-false}
 use Rattle.common_laws.proofs.Tests.{both, neither, passed}
 use Rattle.description_board.specs.declared.Board.{Board}
 use Rattle.description_board.specs.Records.{masterAt, slaveAt, sharesAt}
@@ -13,38 +14,72 @@ use Rattle.description_board.specs.Legal.{Legal}
 use Rattle.fabric_accesses.specs.declared.Transfer.{Transfer}
 use Rattle.fabric_lanes.specs.Lanes.{postLanes}
 use Rattle.fabric_accesses.specs.Decoding.{selects, targetOf}
-use Rattle.fabric_accesses.specs.Accesses.{accesses}
+use Rattle.fabric_accesses.specs.Accesses.{accesses, latencyOf}
 use Rattle.fabric_accesses.proofs.SelectLaws.{target-first, selects-facts, selects-one, selects-target}
 use Rattle.fabric_accesses.specs.Code.Numbers.{Posted}
 use Rattle.fabric_accesses.proofs.PowerLaws.{legal-widths}
 use Rattle.fabric_accesses.proofs.NumberLaws.{accesses-pos}
 use Rattle.fabric_state.specs.declared.State.{State}
-use Rattle.fabric_state.specs.Records.{transferAt}
+use Rattle.fabric_state.specs.Records.{transferAt, lateAt}
 use Rattle.fabric_state.specs.Posting.{wrongBeats, unaligned, wrongLanes, unmapped}
 use Rattle.fabric_state.specs.Posting.{passesEnd, transferRefusalBy, transferRefusal}
-use Rattle.fabric_state.specs.Soundness.{requests}
+use Rattle.fabric_state.specs.Soundness.{holdsFor, requests, latencyAt}
 
--- a requester holds a transfer whose address selects the slave
+-- who holds a transfer for a slave holds one, and its address selects the slave
 module _ (b : Board) (st : State) (s m : ℕ) where
-  pub requests-held : requests b st s m ≡ true → transferAt st m .held ≡ true
+  pub holds-held : holdsFor b st s m ≡ true → transferAt st m .held ≡ true
+  unfolding holdsFor
+  holds-held e = both (transferAt st m .held) (selects b m (transferAt st m .address) s) e .0
+
+  pub holds-selects : holdsFor b st s m ≡ true → selects b m (transferAt st m .address) s ≡ true
+  unfolding holdsFor
+  holds-selects e = both (transferAt st m .held) (selects b m (transferAt st m .address) s) e .1
+
+  pub holds-not : transferAt st m .held ≡ false → holdsFor b st s m ≡ false
+  unfolding holdsFor
+  holds-not h = rw h
+
+  -- and holds it for that slave alone
+  pub holds-target : Legal b → holdsFor b st s m ≡ true → targetOf b m (transferAt st m .address) ≡ s
+  holds-target legal e = selects-target b legal m (transferAt st m .address) s (holds-selects e)
+
+  -- a requester holds a transfer for the slave, and has no latency clocks to pass
+  pub requests-free : requests b st s m ≡ true → lateAt st m ≡ 0
   unfolding requests
-  requests-held e = both (transferAt st m .held) (selects b m (transferAt st m .address) s) e .0
+  requests-free e = eqb-true (lateAt st m) 0 (both (eqb (lateAt st m) 0) (holdsFor b st s m) e .0)
+
+  pub requests-holds : requests b st s m ≡ true → holdsFor b st s m ≡ true
+  unfolding requests
+  requests-holds e = both (eqb (lateAt st m) 0) (holdsFor b st s m) e .1
+
+  pub requests-held : requests b st s m ≡ true → transferAt st m .held ≡ true
+  requests-held e = holds-held (requests-holds e)
 
   pub requests-selects : requests b st s m ≡ true → selects b m (transferAt st m .address) s ≡ true
-  unfolding requests
-  requests-selects e = both (transferAt st m .held) (selects b m (transferAt st m .address) s) e .1
+  requests-selects e = holds-selects (requests-holds e)
 
-  pub requests-of : transferAt st m .held ≡ true → selects b m (transferAt st m .address) s ≡ true → requests b st s m ≡ true
-  unfolding requests
-  requests-of h e = rw (h, e)
+  pub requests-of : lateAt st m ≡ 0 → transferAt st m .held ≡ true → selects b m (transferAt st m .address) s ≡ true
+      → requests b st s m ≡ true
+  unfolding requests holdsFor
+  requests-of f h e = rw (f, h, e)
 
   pub requests-not : transferAt st m .held ≡ false → requests b st s m ≡ false
   unfolding requests
-  requests-not h = rw h
+  requests-not h = rw (holds-not h) (and-false (eqb (lateAt st m) 0))
+
+  pub requests-late : lateAt st m ≢ 0 → requests b st s m ≡ false
+  unfolding requests
+  requests-late h = rw (ne-eqb (lateAt st m) 0 h)
 
   -- and requests that slave alone
   pub requests-target : Legal b → requests b st s m ≡ true → targetOf b m (transferAt st m .address) ≡ s
-  requests-target legal e = selects-target b legal m (transferAt st m .address) s (requests-selects e)
+  requests-target legal e = holds-target legal (requests-holds e)
+
+  -- what its transfer has of latency is what it has at that slave
+  pub requests-latency : Legal b → requests b st s m ≡ true
+      → latencyAt b m (transferAt st m) ≡ latencyOf (slaveAt b s) (transferAt st m)
+  unfolding latencyAt
+  requests-latency legal e = rw (requests-target legal e)
 
 pub requests-one : (b : Board) (st : State) (m s k : ℕ) → Legal b → requests b st s m ≡ true → requests b st k m ≡ true → s ≡ k
 requests-one b st m s k legal e f =

@@ -23,23 +23,26 @@ use Rattle.fabric_arbiter.specs.Granting.{arbiterAfter}
 use Rattle.fabric_arbiter.proofs.OrderLaws.{Grants, granted-facts}
 use Rattle.fabric_state.specs.declared.Slot.{Slot}
 use Rattle.fabric_state.specs.declared.State.{State}
-use Rattle.fabric_state.specs.Records.{transferAt, slotAt}
+use Rattle.fabric_state.specs.Records.{transferAt, slotAt, lateAt}
 use Rattle.fabric_state.specs.Posting.{transferRefusal}
-use Rattle.fabric_state.specs.Soundness.{requests, soundTransfer, soundSlotBy, soundSlot, sound}
+use Rattle.fabric_state.specs.Soundness.{holdsFor, requests, latencyAt, soundHeld, soundTransfer, soundSlotBy, soundSlot, sound}
 use Rattle.fabric_state.specs.Soundness.{soundOwner, soundRemaining, soundService, soundRest}
 use Rattle.fabric_state.specs.Control.{grantAt, slotBy, slotGranted, slotAfterGrant}
 use Rattle.fabric_state.specs.Control.{slotWaiting, slotAccessed, slotFinished}
-use Rattle.fabric_state.specs.Control.{stepOf, finished, stateAfter}
+use Rattle.fabric_state.specs.Control.{stepOf, ended, lateAfter, finished, stateAfter}
 use Rattle.fabric_state.specs.Resetting.{resetState, stateAtReset}
 use Rattle.fabric_state.specs.Posting.{withTransfer}
 use Rattle.fabric_state.proofs.Sound.{Sound}
-use Rattle.fabric_state.proofs.StateLaws.{transfers-after, slots-after, slot-after, transfer-after, finished-by}
-use Rattle.fabric_state.proofs.StateLaws.{transfer-kept, held-after, transfer-reset, slot-reset}
-use Rattle.fabric_state.proofs.StateLaws.{transfers-with, slots-with, transfer-with, transfer-with-other, slot-with}
-use Rattle.fabric_state.proofs.RequestLaws.{requests-held, requests-one, requests-selects}
+use Rattle.fabric_state.proofs.StateLaws.{transfers-after, slots-after, lates-after, slot-after, transfer-after}
+use Rattle.fabric_state.proofs.StateLaws.{late-after, late-after-past, late-ends, late-none, late-less, ended-by}
+use Rattle.fabric_state.proofs.StateLaws.{finished-late, finished-ended, unfinished-of, unfinished-late}
+use Rattle.fabric_state.proofs.StateLaws.{transfer-finished, transfer-kept, held-after, transfer-reset, slot-reset, late-reset}
+use Rattle.fabric_state.proofs.StateLaws.{transfers-with, slots-with, lates-with, transfer-with, transfer-with-other}
+use Rattle.fabric_state.proofs.StateLaws.{slot-with, late-with}
+use Rattle.fabric_state.proofs.RequestLaws.{requests-held, requests-one, requests-selects, requests-free}
 use Rattle.fabric_state.proofs.RequestLaws.{Accepted, accepted-at, accepted-accesses}
 use Rattle.fabric_state.proofs.StepLaws.{waitNow, accessesNow, Outcome, rests, waiting, works, ends, outcome}
-use Rattle.fabric_state.proofs.StepLaws.{grant-serving, grant-given, line-owner, finished-serving}
+use Rattle.fabric_state.proofs.StepLaws.{grant-serving, grant-given, line-owner, last-serving}
 
 -- the slot x of slave s: it serves a transfer of which something is left
 pub record SlotServes (b : Board) (st : State) (s : ℕ) (x : Slot) : Type 0 where
@@ -54,7 +57,16 @@ pub record SlotSound (b : Board) (st : State) (s : ℕ) (x : Slot) : Type 0 wher
   pub serving : x .serving ≡ true → SlotServes b st s x
   pub resting : x .serving ≡ false → (x .done ≡ 0) × (x .waited ≡ 0)
 
+-- the transfer t of master m and its latency clocks break no rule
+pub record HeldSound (b : Board) (m : ℕ) (t : Transfer) (clocks : ℕ) : Type 0 where
+  pub holds : t .held ≡ true → (m < b .«master_count») × (transferRefusal b m t ≡ 0)
+  pub late : t .held ≡ true → clocks ≤ latencyAt b m t
+  pub free : t .held ≡ false → clocks ≡ 0
+
 module _ (b : Board) (st : State) where
+  pub held-sound : Sound b st → (m : ℕ) → HeldSound b m (transferAt st m) (lateAt st m)
+  held-sound x m = record { holds = x .holds m; late = x .late m; free = x .free m }
+
   pub slot-sound : Sound b st → (s : ℕ) → s < b .«slave_count» → SlotSound b st s (slotAt st s)
   slot-sound x s h = record {
     owner = x .owner s h;
@@ -64,13 +76,16 @@ module _ (b : Board) (st : State) where
   }
 
   -- a state is sound by its parts
-  pub sound-of : length (st .transfers) ≡ 8 → length (st .slots) ≡ 16
-      → ((m : ℕ) → transferAt st m .held ≡ true → (m < b .«master_count») × (transferRefusal b m (transferAt st m) ≡ 0))
+  pub sound-of : length (st .transfers) ≡ 8 → length (st .slots) ≡ 16 → length (st .late) ≡ 8
+      → ((m : ℕ) → HeldSound b m (transferAt st m) (lateAt st m))
       → ((s : ℕ) → s < b .«slave_count» → SlotSound b st s (slotAt st s)) → Sound b st
-  sound-of l k f g = record {
+  sound-of l k n f g = record {
     transfers = l;
     slots = k;
-    holds = f;
+    lates = n;
+    holds = λ m q. f m .holds q;
+    late = λ m q. f m .late q;
+    free = λ m q. f m .free q;
     owner = λ s h. g s h .owner;
     remaining = λ s h. g s h .remaining;
     serving = λ s h e. let v = g s h .serving e in record { asks = v .asks; done = v .done; waited = v .waited };
@@ -153,47 +168,75 @@ module _ (b : Board) (st : State) (s : ℕ) (x : Slot) where
       go true q = serves-test (v .serving q)
       go false q = let r = v .resting q in rw (r .0, r .1)
 
+-- the test of a transfer and its latency clocks, and the facts
+module _ (b : Board) (m : ℕ) (t : Transfer) (late : ℕ) where
+  -- what is asked of one that is held
+  abbrev passesHeld : Bool
+  passesHeld = ltb m (b .«master_count») && (eqb (transferRefusal b m t) 0 && leb late (latencyAt b m t))
+
+  pub held-facts : soundHeld b m t late ≡ true → HeldSound b m t late
+  unfolding soundHeld
+  held-facts e = record {
+    holds = λ q. let p = parts q in (p .0, p .1);
+    late = λ q. parts q .2;
+    free = λ q. eqb-true late 0 (branch q);
+  }
+    where
+      -- the branch of the test that was made
+      branch : {c : Bool} → t .held ≡ c → cond c passesHeld (eqb late 0) ≡ true
+      branch q = ap (λ (d : Bool). cond d passesHeld (eqb late 0)) (sym q) ∙ e
+
+      parts : t .held ≡ true → (m < b .«master_count») × (transferRefusal b m t ≡ 0) × (late ≤ latencyAt b m t)
+      parts q =
+          let p = both (ltb m (b .«master_count»)) (eqb (transferRefusal b m t) 0 && leb late (latencyAt b m t))
+          (branch q) in
+          let r = both (eqb (transferRefusal b m t) 0) (leb late (latencyAt b m t)) (p .1) in
+          (ltb-true m (b .«master_count») (p .0), eqb-true (transferRefusal b m t) 0 (r .0), leb-true _ _ (r .1))
+
+  held-test : HeldSound b m t late → soundHeld b m t late ≡ true
+  unfolding soundHeld
+  held-test x = go (t .held) refl
+    where
+      go : (c : Bool) → t .held ≡ c → cond c passesHeld (eqb late 0) ≡ true
+      go true q =
+          let r = x .holds q in
+          rw (lt-ltb m (b .«master_count») (r .0), eq-eqb (transferRefusal b m t) 0 (r .1)) (le-leb _ _ (x .late q))
+      go false q = eq-eqb late 0 (x .free q)
+
 module _ (b : Board) (st : State) where
-  pub sound-facts : length (st .transfers) ≡ 8 → length (st .slots) ≡ 16 → b .«slave_count» ≤ 16 → sound b st ≡ true
-      → Sound b st
+  pub sound-facts : length (st .transfers) ≡ 8 → length (st .slots) ≡ 16 → length (st .late) ≡ 8 → b .«slave_count» ≤ 16
+      → sound b st ≡ true → Sound b st
   unfolding sound soundTransfer soundSlot
-  sound-facts l k _ e =
-      sound-of b st l k holds
+  sound-facts l k n _ e =
+      sound-of b st l k n (λ m. held m (ltb m 8) refl)
       (λ s h. slot-facts b st s (slotAt st s) (every-at (soundSlot b st) (b .«slave_count») (parts .1) s h))
     where
       parts : (every (soundTransfer b st) 8 ≡ true) × (every (soundSlot b st) (b .«slave_count») ≡ true)
       parts = both (every (soundTransfer b st) 8) (every (soundSlot b st) (b .«slave_count»)) e
 
-      holds : (m : ℕ) → transferAt st m .held ≡ true → (m < b .«master_count») × (transferRefusal b m (transferAt st m) ≡ 0)
-      holds m q = go (ltb m 8) refl
-        where
-          go : (c : Bool) → ltb m 8 ≡ c → (m < b .«master_count») × (transferRefusal b m (transferAt st m) ≡ 0)
-          go true h =
-              let t = rw (q, soundTransfer) at (every-at (soundTransfer b st) 8 (parts .0) m (ltb-true m 8 h)) in
-              let p = both (ltb m (b .«master_count»)) (eqb (transferRefusal b m (transferAt st m)) 0) t in
-              (ltb-true m (b .«master_count») (p .0), eqb-true (transferRefusal b m (transferAt st m)) 0 (p .1))
-          go false h =
-              let none = List·getD-eq-default (st .transfers) noTransfer {n = m} (rw l (ltb-false m 8 h)) in
-              absurd (false≢true (rw none at q))
+      held : (m : ℕ) (c : Bool) → ltb m 8 ≡ c → HeldSound b m (transferAt st m) (lateAt st m)
+      held m true h = held-facts b m (transferAt st m) (lateAt st m) (every-at (soundTransfer b st) 8 (parts .0) m (ltb-true m 8 h))
+      held m false h =
+          let none : transferAt st m ≡ noTransfer = List·getD-eq-default (st .transfers) noTransfer {n = m} (rw l (ltb-false m 8 h)) in
+          let zero : lateAt st m ≡ 0 = List·getD-eq-default (st .late) 0 {n = m} (rw n (ltb-false m 8 h)) in
+          rw (none, zero)
+          (record { holds = λ q. absurd (false≢true q); late = λ q. absurd (false≢true q); free = λ q. refl })
 
   pub sound-test : Legal b → Sound b st → sound b st ≡ true
   unfolding sound soundTransfer soundSlot
   sound-test _ x =
-      rw (every-all (soundTransfer b st) 8 (λ m h. held m (transferAt st m .held) refl))
+      rw (every-all (soundTransfer b st) 8 (λ m h. held-test b m (transferAt st m) (lateAt st m) (held-sound b st x m)))
       (every-all (soundSlot b st) (b .«slave_count») (λ s h. slot-test b st s (slotAt st s) (slot-sound b st x s h)))
-    where
-      held : (m : ℕ) (c : Bool) → transferAt st m .held ≡ c
-          → cond c (ltb m (b .«master_count») && eqb (transferRefusal b m (transferAt st m)) 0) true ≡ true
-      held m true q =
-          let r = x .holds m q in
-          rw (lt-ltb m (b .«master_count») (r .0), eq-eqb (transferRefusal b m (transferAt st m)) 0 (r .1))
-      held m false q = refl
 
 pub reset-sound : (b : Board) → Legal b → Sound b (stateAtReset b)
 unfolding stateAtReset resetState
 reset-sound b legal =
-    sound-of b (stateAtReset b) (length-replicate 8 noTransfer) (length-table _ 16)
-    (λ m q. absurd (false≢true (rw (transfer-reset b m) at q)))
+    sound-of b (stateAtReset b) (length-replicate 8 noTransfer) (length-table _ 16) (length-replicate {A = ℕ} 8 0)
+    (λ m. record {
+      holds = λ q. absurd (false≢true (rw (transfer-reset b m) at q));
+      late = λ q. absurd (false≢true (rw (transfer-reset b m) at q));
+      free = λ q. late-reset b m;
+    })
     (λ s h. rw (slot-reset b s h (legal .fewSlaves)) (record {
       owner = omega (arith, legal .someMaster);
       remaining = inl refl;
@@ -201,17 +244,17 @@ reset-sound b legal =
       resting = λ q. (refl, refl);
     }))
 
--- a master that holds the same transfer in two states requests alike
-pub requests-same : (b : Board) (st u : State) (m s : ℕ) → transferAt u m ≡ transferAt st m
+-- a master that holds the same transfer in two states, with the same latency clocks, requests alike
+pub requests-same : (b : Board) (st u : State) (m s : ℕ) → transferAt u m ≡ transferAt st m → lateAt u m ≡ lateAt st m
     → requests b u s m ≡ requests b st s m
-unfolding requests
-requests-same b st u m s same = rw same
+unfolding requests holdsFor
+requests-same b st u m s same late = rw (same, late)
 
--- a slot that serves goes on in a state where its owner holds the same transfer
+-- a slot that serves goes on in a state where its owner holds the same transfer, with the same latency clocks
 serves-on : (b : Board) (st u : State) (s : ℕ) (x : Slot) → transferAt u (x .owner) ≡ transferAt st (x .owner)
-    → SlotServes b st s x → SlotServes b u s x
-serves-on b st u s x same v = record {
-  asks = requests-same b st u (x .owner) s same ∙ v .asks;
+    → lateAt u (x .owner) ≡ lateAt st (x .owner) → SlotServes b st s x → SlotServes b u s x
+serves-on b st u s x same late v = record {
+  asks = requests-same b st u (x .owner) s same late ∙ v .asks;
   done = rw same (v .done);
   waited = rw same (v .waited);
 }
@@ -219,20 +262,22 @@ serves-on b st u s x same v = record {
 pub post-sound : (b : Board) (st : State) (m : ℕ) (t : Transfer) → Legal b → Sound b st → m < b .«master_count»
     → transferAt st m .held ≡ false → transferRefusal b m t ≡ 0 → t .held ≡ true → Sound b (withTransfer st m t)
 post-sound b st m t legal x h free ok _ =
-    sound-of b (withTransfer st m t) (transfers-with st m t ∙ x .transfers) (ap length (slots-with st m t) ∙ x .slots) holds slots
+    sound-of b (withTransfer st m t) (transfers-with st m t ∙ x .transfers) (ap length (slots-with st m t) ∙ x .slots)
+    (ap length (lates-with st m t) ∙ x .lates) (λ k. rw (late-with st m t k) (held k (ℕ-discrete k m))) slots
   where
     posted : transferAt (withTransfer st m t) m ≡ t
     posted = transfer-with st m t (x .transfers) (omega (arith, legal .fewMasters))
 
-    holds : (k : ℕ) → transferAt (withTransfer st m t) k .held ≡ true
-        → (k < b .«master_count») × (transferRefusal b k (transferAt (withTransfer st m t) k) ≡ 0)
-    holds k q = go (ℕ-discrete k m)
-      where
-        go : Dec (k ≡ m) → (k < b .«master_count») × (transferRefusal b k (transferAt (withTransfer st m t) k) ≡ 0)
-        go (yes e) = rw e (h, rw posted ok)
-        go (no e) =
-            let same = transfer-with-other st m t k e in
-            rw same (x .holds k (rw same at q))
+    -- whoever posts has no latency clocks to pass
+    held : (k : ℕ) → Dec (k ≡ m) → HeldSound b k (transferAt (withTransfer st m t) k) (lateAt st k)
+    held k (yes e) =
+        let none : lateAt st m ≡ 0 = x .free m free in
+        rw (e, posted, none) (record {
+          holds = λ q. (h, ok);
+          late = λ q. omega arith;
+          free = λ q. refl;
+        })
+    held k (no e) = rw (transfer-with-other st m t k e) (held-sound b st x k)
 
     other : (s : ℕ) → s < b .«slave_count» → slotAt st s .serving ≡ true → slotAt st s .owner ≢ m
     other s l q e =
@@ -247,7 +292,7 @@ post-sound b st m t legal x h free ok _ =
           remaining = v .remaining;
           serving = λ q.
               serves-on b st (withTransfer st m t) s (slotAt st s)
-              (transfer-with-other st m t (slotAt st s .owner) (other s l q))
+              (transfer-with-other st m t (slotAt st s .owner) (other s l q)) (late-with st m t (slotAt st s .owner))
               (v .serving q);
           resting = v .resting;
         })
@@ -296,33 +341,58 @@ module _ (b : Board) (st : State) (legal : Legal b) (x : Sound b st) where
       go true q = rw (grant-serving b st s q) (slot-sound b st x s h)
       go false q = rw (grant-given b st s q) (given (grantAt b st s) refl q)
 
-  -- a slave that finishes a master had its transfer
-  pub finished-asks : (s : ℕ) → s < b .«slave_count» → stepOf b st s .finished ≡ true
+  -- a slave that carries out a last access had its owner's request
+  pub last-asks : (s : ℕ) → s < b .«slave_count» → stepOf b st s .last ≡ true
       → requests b st s (stepOf b st s .line .owner) ≡ true
-  finished-asks s h f =
-      let on = finished-serving b st s f in
+  last-asks s h f =
+      let on = last-serving b st s f in
       rw (line-owner b st s on) (grant-sound s h .serving on .asks)
 
-  -- a master whose transfer is for slave s is finished by s
-  pub finished-only : (s m : ℕ) → requests b st s m ≡ true → finished b st m ≡ true
-      → (stepOf b st s .finished ≡ true) × (stepOf b st s .line .owner ≡ m)
-  finished-only s m e f =
-      let r = finished-by b st m f in
-      let asks = rw (r .3) at (finished-asks (r .0) (r .1) (r .2)) in
+  -- who has its last access requested, and had no latency clocks to pass
+  pub ended-asks : (m : ℕ) → ended b st m ≡ true → (s : ℕ) × (s < b .«slave_count») × (requests b st s m ≡ true)
+  ended-asks m e =
+      let r = ended-by b st m e in
+      (r .0, r .1, rw (r .3) at (last-asks (r .0) (r .1) (r .2)))
+
+  -- a master that requests slave s has its last access there
+  pub ended-only : (s m : ℕ) → requests b st s m ≡ true → ended b st m ≡ true
+      → (stepOf b st s .last ≡ true) × (stepOf b st s .line .owner ≡ m)
+  ended-only s m e f =
+      let r = ended-by b st m f in
+      let asks = rw (r .3) at (last-asks (r .0) (r .1) (r .2)) in
       let same = requests-one b st m (r .0) s legal asks e in
       rw (← same) (r .2, r .3)
 
-  -- a slave that goes on serving leaves its owner the transfer
-  pub served-kept : (s : ℕ) → s < b .«slave_count» → slotAfterGrant b st s .serving ≡ true → stepOf b st s .finished ≡ false
-      → transferAt (stateAfter b st) (slotAfterGrant b st s .owner) ≡ transferAt st (slotAfterGrant b st s .owner)
-  served-kept s h on f =
-      let v = grant-sound s h in
-      let m = slotAfterGrant b st s .owner in
-      transfer-after b st m (omega (arith, v .owner, legal .fewMasters)) ∙ transfer-kept b st m (go (finished b st m) refl)
+  -- a requester whose last access is still to come keeps its transfer, and gets no latency clocks
+  module _ (s m : ℕ) (asks : requests b st s m ≡ true) (more : ended b st m ≡ false) where
+    known : m < 8
+    known = omega (arith, requester s m asks .0, legal .fewMasters)
+
+    pub asks-kept : transferAt (stateAfter b st) m ≡ transferAt st m
+    asks-kept =
+        transfer-after b st m known
+        ∙ transfer-kept b st m (unfinished-of b st m (requests-free b st s m asks) more)
+
+    pub asks-free : lateAt (stateAfter b st) m ≡ lateAt st m
+    asks-free =
+        let none = requests-free b st s m asks in
+        late-after b st m known ∙ late-none b st m none more ∙ sym none
+
+  -- a slave that goes on serving has its owner's last access still to come
+  served-on : (s : ℕ) → s < b .«slave_count» → slotAfterGrant b st s .serving ≡ true → stepOf b st s .last ≡ false
+      → ended b st (slotAfterGrant b st s .owner) ≡ false
+  served-on s h on f = go (ended b st (slotAfterGrant b st s .owner)) refl
     where
-      go : (c : Bool) → finished b st (slotAfterGrant b st s .owner) ≡ c → finished b st (slotAfterGrant b st s .owner) ≡ false
-      go true e = absurd (true≢false (sym (finished-only s _ (grant-sound s h .serving on .asks) e .0) ∙ f))
+      go : (c : Bool) → ended b st (slotAfterGrant b st s .owner) ≡ c → ended b st (slotAfterGrant b st s .owner) ≡ false
+      go true e = absurd (true≢false (sym (ended-only s _ (grant-sound s h .serving on .asks) e .0) ∙ f))
       go false e = e
+
+  module _ (s : ℕ) (h : s < b .«slave_count») (on : slotAfterGrant b st s .serving ≡ true) (f : stepOf b st s .last ≡ false) where
+    pub served-kept : transferAt (stateAfter b st) (slotAfterGrant b st s .owner) ≡ transferAt st (slotAfterGrant b st s .owner)
+    served-kept = asks-kept s _ (grant-sound s h .serving on .asks) (served-on s h on f)
+
+    pub served-free : lateAt (stateAfter b st) (slotAfterGrant b st s .owner) ≡ lateAt st (slotAfterGrant b st s .owner)
+    served-free = asks-free s _ (grant-sound s h .serving on .asks) (served-on s h on f)
 
   step-sound : (s : ℕ) → s < b .«slave_count» → SlotSound b (stateAfter b st) s (stepOf b st s .slot)
   unfolding slotWaiting slotAccessed slotFinished
@@ -331,7 +401,7 @@ module _ (b : Board) (st : State) (legal : Legal b) (x : Sound b st) where
       now : SlotSound b st s (slotAfterGrant b st s)
       now = grant-sound s h
 
-      on : (done waited : ℕ) → slotAfterGrant b st s .serving ≡ true → stepOf b st s .finished ≡ false
+      on : (done waited : ℕ) → slotAfterGrant b st s .serving ≡ true → stepOf b st s .last ≡ false
           → done < accessesNow b st s → waited ≤ waitNow b st s
           → SlotSound b (stateAfter b st) s (record {
             owner = slotAfterGrant b st s .owner;
@@ -344,7 +414,7 @@ module _ (b : Board) (st : State) (legal : Legal b) (x : Sound b st) where
         owner = now .owner;
         remaining = now .remaining;
         serving = λ p.
-            serves-on b st (stateAfter b st) s _ (served-kept s h e f)
+            serves-on b st (stateAfter b st) s _ (served-kept s h e f) (served-free s h e f)
             (record { asks = now .serving e .asks; done = l; waited = w });
         resting = λ p. absurd (true≢false p);
       }
@@ -367,13 +437,47 @@ module _ (b : Board) (st : State) (legal : Legal b) (x : Sound b st) where
             resting = λ p. (refl, refl);
           })
 
+  -- the latency clocks after the clock are no more than the transfer has, and none where it is not held
+  late-fits : (m : ℕ) → transferAt st m .held ≡ true → lateAfter b st m ≤ latencyAt b m (transferAt st m)
+  late-fits m held = go (ℕ-discrete (lateAt st m) 0) (ended b st m) refl
+    where
+      go : Dec (lateAt st m ≡ 0) → (c : Bool) → ended b st m ≡ c → lateAfter b st m ≤ latencyAt b m (transferAt st m)
+      go (yes z) true e = omega (arith, late-ends b st m z e)
+      go (yes z) false e = omega (arith, late-none b st m z e)
+      go (no z) c e = omega (arith, late-less b st m z, x .late m held)
+
+  late-idle : (m : ℕ) → transferAt st m .held ≡ false → lateAfter b st m ≡ 0
+  late-idle m off = go (ended b st m) refl
+    where
+      go : (c : Bool) → ended b st m ≡ c → lateAfter b st m ≡ 0
+      go true e =
+          let r = ended-asks m e in
+          absurd (true≢false (sym (requests-held b st (r .0) m (r .2)) ∙ off))
+      go false e = late-none b st m (x .free m off) e
+
+  held-sound-after : (m : ℕ) → HeldSound b m (transferAt (stateAfter b st) m) (lateAt (stateAfter b st) m)
+  held-sound-after m = record {
+    holds = λ q. let same = held-after b st m q .1 in rw same (x .holds m (rw same at q));
+    late = λ q. late m (ltb m 8) refl q;
+    free = λ q. free m (ltb m 8) refl (finished b st m) refl q;
+  }
+    where
+      late : (m : ℕ) (c : Bool) → ltb m 8 ≡ c → transferAt (stateAfter b st) m .held ≡ true
+          → lateAt (stateAfter b st) m ≤ latencyAt b m (transferAt (stateAfter b st) m)
+      late m true h q =
+          let same = held-after b st m q .1 in
+          rw (same, late-after b st m (ltb-true m 8 h)) (late-fits m (rw same at q))
+      late m false h q = omega (arith, late-after-past b st m (ltb-false m 8 h))
+
+      free : (m : ℕ) (c : Bool) → ltb m 8 ≡ c → (d : Bool) → finished b st m ≡ d
+          → transferAt (stateAfter b st) m .held ≡ false → lateAt (stateAfter b st) m ≡ 0
+      free m true h true f q = late-after b st m (ltb-true m 8 h) ∙ finished-late b st m f
+      free m true h false f q =
+          let same = transfer-after b st m (ltb-true m 8 h) ∙ transfer-kept b st m f in
+          late-after b st m (ltb-true m 8 h) ∙ late-idle m (rw same at q)
+      free m false h d f q = late-after-past b st m (ltb-false m 8 h)
+
   pub clock-sound : Sound b (stateAfter b st)
   clock-sound =
-      sound-of b (stateAfter b st) (transfers-after b st) (slots-after b st) holds
+      sound-of b (stateAfter b st) (transfers-after b st) (slots-after b st) (lates-after b st) held-sound-after
       (λ s h. rw (slot-after b st s h (legal .fewSlaves)) (step-sound s h))
-    where
-      holds : (m : ℕ) → transferAt (stateAfter b st) m .held ≡ true
-          → (m < b .«master_count») × (transferRefusal b m (transferAt (stateAfter b st) m) ≡ 0)
-      holds m q =
-          let same = held-after b st m q .1 in
-          rw same (x .holds m (rw same at q))

@@ -1,14 +1,14 @@
 -- Reading the state after a reset, a post or a clock, the slave lines and the mask.
 -- Assumes nothing.
 use mathlib.Core.Path.{_≡_, refl, sym, _∙_}
-use mathlib.Core.Bool.{Bool, true, false, false≢true, true≢false}
+use mathlib.Core.Bool.{Bool, true, false, not, _&&_, _||_, and-false, false≢true, true≢false}
 use mathlib.Core.Logic.{_≢_}
 use Prim.Native.Nat.{ℕ, _-_, _≤_, _<_}
 use native.Mathlib.Omega.{arith}
 use lib.Dec.{ltb, eqb}
 use lib.ListN.{length, getD, length-set}
 use lib.Seq.{getD-set-same, getD-set-other}
-use borrow.Author.Tests.{lt-ltb, le-ltb, ltb-true, ltb-false, eq-eqb, eqb-true}
+use borrow.Author.Tests.{lt-ltb, le-ltb, ltb-true, ltb-false, eq-eqb, ne-eqb, eqb-true}
 use Rattle.common_laws.specs.Bits.{bit}
 use Rattle.common_laws.proofs.TableLaws.{length-table, getD-table, getD-table-past, getD-replicate-all}
 use Rattle.common_laws.proofs.Tests.{both}
@@ -17,9 +17,10 @@ use Rattle.description_board.specs.declared.Board.{Board}
 use Rattle.fabric_accesses.specs.declared.Transfer.{Transfer}
 use Rattle.fabric_accesses.specs.Accesses.{noTransfer}
 use Rattle.fabric_state.specs.declared.State.{State}
-use Rattle.fabric_state.specs.Records.{noLine, noSlot, transferAt, slotAt}
-use Rattle.fabric_state.specs.Control.{stepOf, lineAfter, slotAfter, finishes, finished, maskOf, transferAfter}
-use Rattle.fabric_state.specs.Control.{stateAfter, linesOf}
+use Rattle.fabric_state.specs.Records.{noLine, noSlot, transferAt, slotAt, lateAt}
+use Rattle.fabric_state.specs.Control.{stepOf, lineAfter, slotAfter, endsAt, ended, lateAfter, finished, maskOf}
+use Rattle.fabric_state.specs.Control.{transferAfter, stateAfter, linesOf}
+use Rattle.fabric_state.specs.Soundness.{latencyAt}
 use Rattle.fabric_state.specs.Resetting.{resetState, stateAtReset}
 use Rattle.fabric_state.specs.Posting.{withTransfer}
 
@@ -31,6 +32,10 @@ module _ (b : Board) (st : State) where
   pub slots-after : length (stateAfter b st .slots) ≡ 16
   unfolding stateAfter
   slots-after = length-table (slotAfter b st) 16
+
+  pub lates-after : length (stateAfter b st .late) ≡ 8
+  unfolding stateAfter
+  lates-after = length-table (lateAfter b st) 8
 
   pub slot-after : (s : ℕ) → s < b .«slave_count» → b .«slave_count» ≤ 16 → slotAt (stateAfter b st) s ≡ stepOf b st s .slot
   unfolding stateAfter slotAfter
@@ -56,6 +61,14 @@ module _ (b : Board) (st : State) where
   unfolding stateAfter
   transfer-after-past m h = getD-table-past (transferAfter b st) 8 noTransfer m h
 
+  pub late-after : (m : ℕ) → m < 8 → lateAt (stateAfter b st) m ≡ lateAfter b st m
+  unfolding stateAfter
+  late-after m h = getD-table (lateAfter b st) 8 0 m h
+
+  pub late-after-past : (m : ℕ) → 8 ≤ m → lateAt (stateAfter b st) m ≡ 0
+  unfolding stateAfter
+  late-after-past m h = getD-table-past (lateAfter b st) 8 0 m h
+
   pub mask-bit : (m : ℕ) → m < 8 → bit (maskOf b st) m ≡ finished b st m
   unfolding maskOf
   mask-bit m h = bit-mask (finished b st) 8 m h
@@ -64,24 +77,77 @@ module _ (b : Board) (st : State) where
   unfolding maskOf
   mask-bit-past m h = bit-mask-past (finished b st) 8 m h
 
-  -- who is finished is finished by a slave
-  pub finished-by : (m : ℕ) → finished b st m ≡ true
-      → (s : ℕ) × (s < b .«slave_count») × (stepOf b st s .finished ≡ true) × (stepOf b st s .line .owner ≡ m)
-  unfolding finished finishes
-  finished-by m e =
-      let r = some-at (finishes b st m) (b .«slave_count») e in
-      let p = both (stepOf b st (r .0) .finished) (eqb (stepOf b st (r .0) .line .owner) m) (r .2) in
+  -- a last access is carried out by a slave
+  pub ended-by : (m : ℕ) → ended b st m ≡ true
+      → (s : ℕ) × (s < b .«slave_count») × (stepOf b st s .last ≡ true) × (stepOf b st s .line .owner ≡ m)
+  unfolding ended endsAt
+  ended-by m e =
+      let r = some-at (endsAt b st m) (b .«slave_count») e in
+      let p = both (stepOf b st (r .0) .last) (eqb (stepOf b st (r .0) .line .owner) m) (r .2) in
       (r .0, r .1, p .0, eqb-true (stepOf b st (r .0) .line .owner) m (p .1))
 
-  pub finished-here : (m s : ℕ) → s < b .«slave_count» → stepOf b st s .finished ≡ true → stepOf b st s .line .owner ≡ m
-      → finished b st m ≡ true
-  unfolding finished finishes
-  finished-here m s h e f = some-here (finishes b st m) (b .«slave_count») s h (rw (e, eq-eqb (stepOf b st s .line .owner) m f))
+  pub ended-here : (m s : ℕ) → s < b .«slave_count» → stepOf b st s .last ≡ true → stepOf b st s .line .owner ≡ m
+      → ended b st m ≡ true
+  unfolding ended endsAt
+  ended-here m s h e f = some-here (endsAt b st m) (b .«slave_count») s h (rw (e, eq-eqb (stepOf b st s .line .owner) m f))
 
-  -- and the other way round: who is not finished is finished by no slave
-  pub unfinished-at : (m : ℕ) → finished b st m ≡ false → (s : ℕ) → s < b .«slave_count» → stepOf b st s .finished ≡ true
-      → stepOf b st s .line .owner ≢ m
-  unfinished-at m e s h f q = true≢false (sym (finished-here m s h f q) ∙ e)
+  -- ---- latency clocks, and the finish
+
+  module _ (m : ℕ) where
+    abbrev behind : ℕ
+    behind = latencyAt b m (transferAt st m)
+
+    -- where a master has none to pass: its last access brings those of its transfer
+    pub late-ends : lateAt st m ≡ 0 → ended b st m ≡ true → lateAfter b st m ≡ behind
+    unfolding lateAfter
+    late-ends z e = rw (z, e)
+
+    pub late-none : lateAt st m ≡ 0 → ended b st m ≡ false → lateAfter b st m ≡ 0
+    unfolding lateAfter
+    late-none z e = rw (z, e)
+
+    -- where it has some, one fewer is left
+    pub late-less : lateAt st m ≢ 0 → lateAfter b st m ≡ lateAt st m - 1
+    unfolding lateAfter
+    late-less h = rw (ne-eqb (lateAt st m) 0 h)
+
+    -- who is finished has none left
+    pub finished-late : finished b st m ≡ true → lateAfter b st m ≡ 0
+    unfolding finished
+    finished-late e =
+        eqb-true (lateAfter b st m) 0 (both (not (eqb (lateAt st m) 0) || ended b st m) (eqb (lateAfter b st m) 0) e .1)
+
+    -- and had none, and its last access in this clock, or had some
+    pub finished-ended : finished b st m ≡ true → lateAt st m ≡ 0 → (ended b st m ≡ true) × (behind ≡ 0)
+    unfolding finished
+    finished-ended e z = go (ended b st m) refl
+      where
+        last : ended b st m ≡ true
+        last = rw z at (both (not (eqb (lateAt st m) 0) || ended b st m) (eqb (lateAfter b st m) 0) e .0)
+
+        go : (c : Bool) → ended b st m ≡ c → (ended b st m ≡ true) × (behind ≡ 0)
+        go true q = (q, sym (late-ends z q) ∙ finished-late e)
+        go false q = absurd (true≢false (sym last ∙ q))
+
+    pub finished-now : lateAt st m ≡ 0 → ended b st m ≡ true → behind ≡ 0 → finished b st m ≡ true
+    unfolding finished
+    finished-now z e f = rw (z, e, late-ends z e, f)
+
+    pub finished-then : lateAt st m ≡ 1 → finished b st m ≡ true
+    unfolding finished
+    finished-then e =
+        let h : lateAt st m ≢ 0 = λ q. omega (arith, e, q) in
+        let z : lateAfter b st m ≡ 0 = omega (arith, late-less h, e) in
+        rw (ne-eqb (lateAt st m) 0 h, z)
+
+    -- who is not finished: its last access is not carried out, or latency clocks are left
+    pub unfinished-of : lateAt st m ≡ 0 → ended b st m ≡ false → finished b st m ≡ false
+    unfolding finished
+    unfinished-of z e = rw (z, e)
+
+    pub unfinished-late : lateAfter b st m ≢ 0 → finished b st m ≡ false
+    unfolding finished
+    unfinished-late h = rw (ne-eqb (lateAfter b st m) 0 h) (and-false (not (eqb (lateAt st m) 0) || ended b st m))
 
   pub transfer-finished : (m : ℕ) → finished b st m ≡ true → transferAfter b st m ≡ noTransfer
   unfolding transferAfter
@@ -104,7 +170,7 @@ module _ (b : Board) (st : State) where
       go true h false f = (f, transfer-after m (ltb-true m 8 h) ∙ transfer-kept m f)
       go false h d f = absurd (false≢true (rw (transfer-after-past m (ltb-false m 8 h)) at q))
 
--- a post changes one transfer, and no slot
+-- a post changes one transfer, and no slot and no latency clocks
 module _ (st : State) (m : ℕ) (t : Transfer) where
   pub transfers-with : length (withTransfer st m t .transfers) ≡ length (st .transfers)
   unfolding withTransfer
@@ -122,6 +188,14 @@ module _ (st : State) (m : ℕ) (t : Transfer) where
   unfolding withTransfer
   transfer-with-other k h = getD-set-other (st .transfers) m k t noTransfer h
 
+  pub lates-with : withTransfer st m t .late ≡ st .late
+  unfolding withTransfer
+  lates-with = refl
+
+  pub late-with : (k : ℕ) → lateAt (withTransfer st m t) k ≡ lateAt st k
+  unfolding withTransfer
+  late-with k = refl
+
   pub slot-with : (s : ℕ) → slotAt (withTransfer st m t) s ≡ slotAt st s
   unfolding withTransfer
   slot-with s = refl
@@ -130,6 +204,10 @@ module _ (st : State) (m : ℕ) (t : Transfer) where
 pub transfer-reset : (b : Board) (m : ℕ) → transferAt (stateAtReset b) m ≡ noTransfer
 unfolding stateAtReset resetState
 transfer-reset b m = getD-replicate-all 8 m noTransfer
+
+pub late-reset : (b : Board) (m : ℕ) → lateAt (stateAtReset b) m ≡ 0
+unfolding stateAtReset resetState
+late-reset b m = getD-replicate-all 8 m 0
 
 pub slot-reset : (b : Board) (s : ℕ) → s < b .«slave_count» → b .«slave_count» ≤ 16
     → slotAt (stateAtReset b) s

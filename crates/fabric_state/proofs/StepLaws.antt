@@ -30,17 +30,17 @@ lineNow b st s phase =
 -- what the step is, by cases
 pub data Outcome (b : Board) (st : State) (s : ℕ) : Type 0 where
   rests : slotAfterGrant b st s .serving ≡ false
-      → stepOf b st s ≡ record { slot = slotAfterGrant b st s; line = noLine; finished = false } → Outcome b st s
+      → stepOf b st s ≡ record { slot = slotAfterGrant b st s; line = noLine; last = false } → Outcome b st s
   waiting : slotAfterGrant b st s .serving ≡ true → slotAfterGrant b st s .waited < waitNow b st s
-      → stepOf b st s ≡ record { slot = slotWaiting (slotAfterGrant b st s); line = lineNow b st s 1; finished = false }
+      → stepOf b st s ≡ record { slot = slotWaiting (slotAfterGrant b st s); line = lineNow b st s 1; last = false }
       → Outcome b st s
   works : slotAfterGrant b st s .serving ≡ true → waitNow b st s ≤ slotAfterGrant b st s .waited
       → slotAfterGrant b st s .done + 1 < accessesNow b st s
-      → stepOf b st s ≡ record { slot = slotAccessed (slotAfterGrant b st s); line = lineNow b st s 2; finished = false }
+      → stepOf b st s ≡ record { slot = slotAccessed (slotAfterGrant b st s); line = lineNow b st s 2; last = false }
       → Outcome b st s
   ends : slotAfterGrant b st s .serving ≡ true → waitNow b st s ≤ slotAfterGrant b st s .waited
       → accessesNow b st s ≤ slotAfterGrant b st s .done + 1
-      → stepOf b st s ≡ record { slot = slotFinished (slotAfterGrant b st s); line = lineNow b st s 2; finished = true }
+      → stepOf b st s ≡ record { slot = slotFinished (slotAfterGrant b st s); line = lineNow b st s 2; last = true }
       → Outcome b st s
 
 module _ (b : Board) (st : State) (s : ℕ) where
@@ -53,18 +53,18 @@ module _ (b : Board) (st : State) (s : ℕ) where
   grant-given e = rw e
 
   pub step-rests : slotAfterGrant b st s .serving ≡ false
-      → stepOf b st s ≡ record { slot = slotAfterGrant b st s; line = noLine; finished = false }
+      → stepOf b st s ≡ record { slot = slotAfterGrant b st s; line = noLine; last = false }
   unfolding stepOf
   step-rests e = rw e
 
   pub step-waits : slotAfterGrant b st s .serving ≡ true → slotAfterGrant b st s .waited < waitNow b st s
-      → stepOf b st s ≡ record { slot = slotWaiting (slotAfterGrant b st s); line = lineNow b st s 1; finished = false }
+      → stepOf b st s ≡ record { slot = slotWaiting (slotAfterGrant b st s); line = lineNow b st s 1; last = false }
   unfolding stepOf served waits
   step-waits e h = rw (e, lt-ltb (slotAfterGrant b st s .waited) (waitNow b st s) h)
 
   pub step-works : slotAfterGrant b st s .serving ≡ true → waitNow b st s ≤ slotAfterGrant b st s .waited
       → slotAfterGrant b st s .done + 1 < accessesNow b st s
-      → stepOf b st s ≡ record { slot = slotAccessed (slotAfterGrant b st s); line = lineNow b st s 2; finished = false }
+      → stepOf b st s ≡ record { slot = slotAccessed (slotAfterGrant b st s); line = lineNow b st s 2; last = false }
   unfolding stepOf served waits
   step-works e h l =
       rw (
@@ -75,7 +75,7 @@ module _ (b : Board) (st : State) (s : ℕ) where
 
   pub step-ends : slotAfterGrant b st s .serving ≡ true → waitNow b st s ≤ slotAfterGrant b st s .waited
       → accessesNow b st s ≤ slotAfterGrant b st s .done + 1
-      → stepOf b st s ≡ record { slot = slotFinished (slotAfterGrant b st s); line = lineNow b st s 2; finished = true }
+      → stepOf b st s ≡ record { slot = slotFinished (slotAfterGrant b st s); line = lineNow b st s 2; last = true }
   unfolding stepOf served waits
   step-ends e h l =
       rw (
@@ -107,9 +107,9 @@ module _ (b : Board) (st : State) (s : ℕ) where
       go (works e h l q) = rw q
       go (ends e h l q) = rw q
 
-  -- a slave that finishes a master has served it
-  pub finished-serving : stepOf b st s .finished ≡ true → slotAfterGrant b st s .serving ≡ true
-  finished-serving f = go outcome
+  -- a slave that carries out a last access has served
+  pub last-serving : stepOf b st s .last ≡ true → slotAfterGrant b st s .serving ≡ true
+  last-serving f = go outcome
     where
       go : Outcome b st s → slotAfterGrant b st s .serving ≡ true
       go (rests e q) = absurd (false≢true (rw q at f))

@@ -1,8 +1,8 @@
--- One clock without the bytes: slots, lines, the mask of masters finished (rules 4.3 to 4.9, 4.13).
+-- One clock without the bytes: slots, lines, the mask of masters finished (rules 4.3 to 4.9, 4.13, 4.16).
 -- Assumes nothing.
-use mathlib.Core.Bool.{Bool, true, false, cond, _&&_}
+use mathlib.Core.Bool.{Bool, true, false, cond, not, _&&_, _||_}
 use mathlib.Core.List.{List}
-use Prim.Native.Nat.{ℕ, _+_, _^_}
+use Prim.Native.Nat.{ℕ, _+_, _-_, _^_}
 use lib.Dec.{ltb, eqb}
 use Rattle.common_laws.specs.Lists.{table, sum, some}
 use Rattle.description_board.specs.declared.Master.{Master}
@@ -20,8 +20,8 @@ use Rattle.fabric_state.specs.declared.Slot.{Slot}
 use Rattle.fabric_state.specs.declared.State.{State}
 use Rattle.fabric_state.specs.declared.Line.{Line}
 use Rattle.fabric_state.specs.declared.Step.{Step}
-use Rattle.fabric_state.specs.Records.{noLine, transferAt, slotAt, arbiterOf}
-use Rattle.fabric_state.specs.Soundness.{requests}
+use Rattle.fabric_state.specs.Records.{noLine, transferAt, slotAt, lateAt, arbiterOf}
+use Rattle.fabric_state.specs.Soundness.{requests, latencyAt}
 
 -- rule 1 (rules 4.3 to 4.6): the grant of slave s, which does not serve
 unfoldable pub grantAt : Board → State → ℕ → Grant
@@ -78,10 +78,10 @@ slotFinished slot = record { owner = slot .owner; remaining = slot .remaining; s
 unfoldable pub served : Master → Slave → Transfer → Slot → Step
 served ma sl t slot =
     cond (waits sl t slot)
-    (record { slot = slotWaiting slot; line = lineOf ma sl t slot 1; finished = false })
+    (record { slot = slotWaiting slot; line = lineOf ma sl t slot 1; last = false })
     (cond (ltb (slot .done + 1) (accesses ma sl t))
-    (record { slot = slotAccessed slot; line = lineOf ma sl t slot 2; finished = false })
-    (record { slot = slotFinished slot; line = lineOf ma sl t slot 2; finished = true }))
+    (record { slot = slotAccessed slot; line = lineOf ma sl t slot 2; last = false })
+    (record { slot = slotFinished slot; line = lineOf ma sl t slot 2; last = true }))
 
 -- rules 4.3 to 4.9: one clock of slave s
 unfoldable pub stepOf : Board → State → ℕ → Step
@@ -89,7 +89,7 @@ stepOf b st s =
     let slot = slotAfterGrant b st s in
     cond (slot .serving)
     (served (masterAt b (slot .owner)) (slaveAt b s) (transferAt st (slot .owner)) slot)
-    (record { slot = slot; line = noLine; finished = false })
+    (record { slot = slot; line = noLine; last = false })
 
 -- rule 4.13: a clock's line of slave s; zeros for what is no slave of the board
 unfoldable pub lineAfter : Board → State → ℕ → Line
@@ -99,13 +99,24 @@ lineAfter b st s = cond (ltb s (b .«slave_count»)) (stepOf b st s .line) noLin
 unfoldable pub slotAfter : Board → State → ℕ → Slot
 slotAfter b st s = cond (ltb s (b .«slave_count»)) (stepOf b st s .slot) (slotAt st s)
 
--- rule 4.9: slave s finishes master m in this clock
-unfoldable pub finishes : Board → State → ℕ → ℕ → Bool
-finishes b st m s = stepOf b st s .finished && eqb (stepOf b st s .line .owner) m
+-- rule 4.9: slave s carries out the last access of master m in this clock
+unfoldable pub endsAt : Board → State → ℕ → ℕ → Bool
+endsAt b st m s = stepOf b st s .last && eqb (stepOf b st s .line .owner) m
 
--- rules 4.9, 4.13: master m is finished in this clock
+-- rule 4.9: the last access of master m is carried out in this clock
+unfoldable pub ended : Board → State → ℕ → Bool
+ended b st m = some (endsAt b st m) (b .«slave_count»)
+
+-- rule 4.16: the latency clocks that master m still has to pass behind this clock: one fewer, or those of the transfer whose last
+-- access is carried out in it
+unfoldable pub lateAfter : Board → State → ℕ → ℕ
+lateAfter b st m =
+    cond (eqb (lateAt st m) 0) (cond (ended b st m) (latencyAt b m (transferAt st m)) 0) (lateAt st m - 1)
+
+-- rules 4.9, 4.13, 4.16: master m is finished in this clock: its last access is carried out, now or before, and no latency clock
+-- is left
 unfoldable pub finished : Board → State → ℕ → Bool
-finished b st m = some (finishes b st m) (b .«slave_count»)
+finished b st m = (not (eqb (lateAt st m) 0) || ended b st m) && eqb (lateAfter b st m) 0
 
 -- rule 4.13: bit m for master m
 unfoldable pub maskOf : Board → State → ℕ
@@ -117,7 +128,11 @@ transferAfter b st m = cond (finished b st m) noTransfer (transferAt st m)
 
 -- rule 4.1: the state after the clock
 unfoldable pub stateAfter : Board → State → State
-stateAfter b st = record { transfers = table (transferAfter b st) 8; slots = table (slotAfter b st) 16 }
+stateAfter b st = record {
+  transfers = table (transferAfter b st) 8;
+  slots = table (slotAfter b st) 16;
+  late = table (lateAfter b st) 8;
+}
 
 -- rule 4.13: a clock's lines
 unfoldable pub linesOf : Board → State → List Line

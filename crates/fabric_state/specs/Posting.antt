@@ -63,6 +63,6 @@ unfoldable pub transferRefusal : Board → ℕ → Transfer → ℕ
 transferRefusal b m t =
     let s = targetOf b m (t .address) in transferRefusalBy (masterAt b m) (slaveAt b s) t s (b .«slave_count»)
 
--- rule 3.3: master m holds the transfer t
+-- rule 3.3: master m holds the transfer t; the latency clocks to pass stay
 unfoldable pub withTransfer : State → ℕ → Transfer → State
-withTransfer st m t = record { transfers = set (st .transfers) m t; slots = st .slots }
+withTransfer st m t = record { transfers = set (st .transfers) m t; slots = st .slots; late = st .late }

@@ -1,4 +1,4 @@
--- The state's records, and its elements by number (rules 3.3, 4.1).
+-- The state's records, and its elements by number (rules 3.3, 4.1, 4.16).
 -- Assumes nothing.
 use mathlib.Core.Bool.{false}
 use Prim.Native.Nat.{ℕ}
@@ -20,7 +20,7 @@ noLine = record { phase = 0; owner = 0; offset = 0; lanes = 0; run = 0; place = 
 
 -- rule 8.1: a state of zeros
 unfoldable pub noState : State
-noState = record { transfers = replicate 8 noTransfer; slots = replicate 16 noSlot }
+noState = record { transfers = replicate 8 noTransfer; slots = replicate 16 noSlot; late = replicate 8 0 }
 
 -- rule 3.3: the transfer of master m
 abbrev pub transferAt : State → ℕ → Transfer
@@ -29,6 +29,10 @@ transferAt st m = getD (st .transfers) m noTransfer
 -- rule 4.1: the slot of slave s
 abbrev pub slotAt : State → ℕ → Slot
 slotAt st s = getD (st .slots) s noSlot
+
+-- rule 4.16: the latency clocks that master m still has to pass
+abbrev pub lateAt : State → ℕ → ℕ
+lateAt st m = getD (st .late) m 0
 
 -- rule 4.1: a slave's arbiter: its last owner, and the grants that remain to that owner
 abbrev pub arbiterOf : Slot → Arbiter

@@ -18,6 +18,7 @@ resetState owner count = record {
       table
       (λ s. cond (ltb s count) (record { owner = owner; remaining = 0; serving = Bool.false; done = 0; waited = 0 }) noSlot)
       16;
+  late = replicate 8 0;
 }
 
 -- rule 4.2: the state after a reset: the last owner is the board's highest master

@@ -1,6 +1,6 @@
--- Who requests a slave (rule 4.3), and which states break a rule (rule 7.9).
+-- Who requests a slave (rules 4.3, 4.16), and which states break a rule (rule 7.9).
 -- Assumes nothing.
-use mathlib.Core.Bool.{Bool, true, cond, _&&_}
+use mathlib.Core.Bool.{Bool, cond, _&&_}
 use Prim.Native.Nat.{ℕ}
 use lib.Dec.{ltb, leb, eqb}
 use Rattle.common_laws.specs.Lists.{every}
@@ -9,21 +9,36 @@ use Rattle.description_board.specs.declared.Slave.{Slave}
 use Rattle.description_board.specs.declared.Board.{Board}
 use Rattle.description_board.specs.Records.{masterAt, slaveAt, sharesAt}
 use Rattle.fabric_accesses.specs.declared.Transfer.{Transfer}
-use Rattle.fabric_accesses.specs.Decoding.{selects}
-use Rattle.fabric_accesses.specs.Accesses.{accesses, waitOf}
+use Rattle.fabric_accesses.specs.Decoding.{selects, targetOf}
+use Rattle.fabric_accesses.specs.Accesses.{accesses, waitOf, latencyOf}
 use Rattle.fabric_state.specs.declared.Slot.{Slot}
 use Rattle.fabric_state.specs.declared.State.{State}
-use Rattle.fabric_state.specs.Records.{transferAt, slotAt}
+use Rattle.fabric_state.specs.Records.{transferAt, slotAt, lateAt}
 use Rattle.fabric_state.specs.Posting.{transferRefusal}
 
--- rule 4.3: master m is a requester of slave s
-unfoldable pub requests : Board → State → ℕ → ℕ → Bool
-requests b st s m = transferAt st m .held && selects b m (transferAt st m .address) s
+-- rule 3.6: master m holds a transfer for slave s
+unfoldable pub holdsFor : Board → State → ℕ → ℕ → Bool
+holdsFor b st s m = transferAt st m .held && selects b m (transferAt st m .address) s
 
--- rule 7.9: a transfer that is held is of a master of the board, and none of 7.13 to 7.17 holds of it
+-- rules 4.3, 4.16: master m is a requester of slave s: it has no latency clocks to pass
+unfoldable pub requests : Board → State → ℕ → ℕ → Bool
+requests b st s m = eqb (lateAt st m) 0 && holdsFor b st s m
+
+-- rule 4.16: the clocks between the last access of master m's transfer t and its finish, at the slave that it is for
+unfoldable pub latencyAt : Board → ℕ → Transfer → ℕ
+latencyAt b m t = latencyOf (slaveAt b (targetOf b m (t .address))) t
+
+-- rule 7.9: a transfer t that is held is of a master of the board, none of 7.13 to 7.17 holds of it, and the latency clocks to pass
+-- are no more than it has; with none held there are no such clocks
+unfoldable pub soundHeld : Board → ℕ → Transfer → ℕ → Bool
+soundHeld b m t late =
+    cond (t .held)
+    (ltb m (b .«master_count») && (eqb (transferRefusal b m t) 0 && leb late (latencyAt b m t)))
+    (eqb late 0)
+
+-- rule 7.9: the transfer of master m
 unfoldable pub soundTransfer : Board → State → ℕ → Bool
-soundTransfer b st m =
-    cond (transferAt st m .held) (ltb m (b .«master_count») && eqb (transferRefusal b m (transferAt st m)) 0) true
+soundTransfer b st m = soundHeld b m (transferAt st m) (lateAt st m)
 
 -- rule 7.9: the last owner is a master of the board
 unfoldable pub soundOwner : Board → Slot → Bool
@@ -33,8 +48,8 @@ soundOwner b slot = ltb (slot .owner) (b .«master_count»)
 unfoldable pub soundRemaining : ℕ → Slot → Bool
 soundRemaining shares slot = cond (eqb shares 0) (eqb (slot .remaining) 0) (ltb (slot .remaining) shares)
 
--- rule 7.9: a slave that serves has accesses left, and has not passed more waits than its wait; `asks`: its owner, ma, holds the
--- transfer t for it
+-- rule 7.9: a slave that serves has accesses left, and has not passed more waits than its wait; `asks`: its owner, ma, requests
+-- it with the transfer t
 unfoldable pub soundService : Bool → Master → Slave → Transfer → Slot → Bool
 soundService asks ma sl t slot = asks && (ltb (slot .done) (accesses ma sl t) && leb (slot .waited) (waitOf sl t))
 

@@ -18,10 +18,13 @@ pub const NO_SLOT: Slot = Slot {
     done: 0,
     waited: 0,
 };
-// The transfer of each master (rule 3.3), and the slot of each slave (rule 4.1).
+
+// The transfer of each master (rule 3.3), the slot of each slave (rule 4.1), and the latency clocks that each master still has to
+// pass (rule 4.16).
 pub struct State {
     pub transfers: [Transfer; 8],
     pub slots: [Slot; 16],
+    pub late: [u32; 8],
 }
 
 // What one slave shows in one clock (rule 4.13): phase, owner, byte offset, lanes, length of the run, place in the run.
@@ -44,11 +47,11 @@ pub const NO_LINE: Line = Line {
     place: 0,
 };
 
-// One slave's clock: the slot after it, its line, whether its owner is finished (rules 4.3 to 4.9, 4.13).
+// One slave's clock: the slot after it, its line, whether it carries out its owner's last access (rules 4.3 to 4.9, 4.13).
 pub struct Step {
     pub slot: Slot,
     pub line: Line,
-    pub finished: bool,
+    pub last: bool,
 }
 
 // The answer of clock (rule 4.13): bit m of the mask is 1 where master m is finished.
