@@ -26,14 +26,15 @@ use Rattle.fabric_accesses.specs.Decoding.{targetOf}
 use Rattle.fabric_accesses.specs.Code.Numbers.{Posted}
 use Rattle.fabric_state.specs.declared.Slot.{Slot}
 use Rattle.fabric_state.specs.declared.State.{State}
-use Rattle.fabric_state.specs.Records.{transferAt, slotAt}
+use Rattle.fabric_state.specs.Records.{transferAt, slotAt, lateAt}
 use Rattle.fabric_state.specs.Posting.{transferRefusal}
-use Rattle.fabric_state.specs.Soundness.{requests, soundTransfer, soundOwner, soundRemaining}
+use Rattle.fabric_state.specs.Soundness.{holdsFor, requests, latencyAt, soundHeld, soundTransfer, soundOwner, soundRemaining}
 use Rattle.fabric_state.specs.Soundness.{soundService, soundRest, soundSlotBy, soundSlot}
-use Rattle.fabric_state.proofs.RequestLaws.{requests-held, requests-selects, accepted-at, accepted-posted}
+use Rattle.fabric_state.proofs.RequestLaws.{holds-held, holds-selects, accepted-at, accepted-posted}
+use Rattle.fabric_state.proofs.SoundLaws.{HeldSound, held-facts}
 use Rattle.fabric_check.specs.Code.Targets.{heldTarget, targetIn, targetsIn}
-use Rattle.fabric_check.specs.Code.Checks.{soundHeld, Held, Decoded}
-use Rattle.fabric_check.proofs.TargetLaws.{target-requests}
+use Rattle.fabric_check.specs.Code.Checks.{Held, Decoded}
+use Rattle.fabric_check.proofs.TargetLaws.{target-holds}
 
 -- a loop over the numbers below n: one more passes, one fails
 module _ (test : ℕ → Bool) where
@@ -57,53 +58,64 @@ module _ {X : Type 0} {c : Bool} (x y : X) where
   cond-left e = rw e
 
 -- a transfer that a master of the board holds, that another holds, and that is not held: what is answered, and what is put
-module _ (b : Board) (m : ℕ) (t : Transfer) (before : List ℕ) where
+module _ (b : Board) (m : ℕ) (t : Transfer) (late : ℕ) (before : List ℕ) where
   abbrev ours : Bool
   ours = ltb m (b .«master_count»)
 
   abbrev passes : Bool
-  passes = eqb (transferRefusal b m t) 0
+  passes = eqb (transferRefusal b m t) 0 && leb late (latencyAt b m t)
 
-  pub held-ours : {masters target number : ℕ} → t .held ≡ true → masters ≡ b .«master_count» → m < masters
+  -- the latency is asked of a transfer that is not refused
+  fits : {number latency : ℕ} → number ≡ transferRefusal b m t → (transferRefusal b m t ≡ 0 → latency ≡ latencyAt b m t)
+      → (eqb number 0 && leb late latency) ≡ passes
+  fits {number} {latency} f g = rw f (go (eqb (transferRefusal b m t) 0) refl)
+    where
+      go : (c : Bool) → eqb (transferRefusal b m t) 0 ≡ c → (c && leb late latency) ≡ (c && leb late (latencyAt b m t))
+      go true q = ap (leb late) (g (eqb-true (transferRefusal b m t) 0 q))
+      go false q = refl
+
+  pub held-ours : {masters target number latency : ℕ} → t .held ≡ true → masters ≡ b .«master_count» → m < masters
       → target ≡ targetOf b m (t .address) → number ≡ transferRefusal b m t
-      → Held b m t (eqb number 0) before (set before m target)
+      → (transferRefusal b m t ≡ 0 → latency ≡ latencyAt b m t)
+      → Held b m t late (eqb number 0 && leb late latency) before (set before m target)
   unfolding soundHeld heldTarget
-  held-ours on em h e f = record {
+  held-ours on em h e f g = record {
     sound =
-        ap (λ (n : ℕ). eqb n 0) f
+        fits f g
         ∙ sym (ap (λ (c : Bool). c && passes) (lt-ltb m (b .«master_count») (rw (← em) h)))
-        ∙ sym (cond-taken (ours && passes) true on);
+        ∙ sym (cond-taken (ours && passes) (eqb late 0) on);
     target = λ q. ap (set before m) (e ∙ sym (cond-taken (targetOf b m (t .address)) (b .«slave_count») on));
   }
 
   pub held-stranger : {masters : ℕ} → t .held ≡ true → masters ≡ b .«master_count» → masters ≤ m → (after : List ℕ)
-      → Held b m t false before after
+      → Held b m t late false before after
   unfolding soundHeld
   held-stranger on em h after = record {
     sound =
         sym (ap (λ (c : Bool). c && passes) (le-ltb m (b .«master_count») (rw (← em) h)))
-        ∙ sym (cond-taken (ours && passes) true on);
+        ∙ sym (cond-taken (ours && passes) (eqb late 0) on);
     target = λ q. absurd (true≢false (sym q));
   }
 
-  pub held-none : {count : ℕ} → t .held ≡ false → count ≡ b .«slave_count» → Held b m t true before (set before m count)
+  pub held-none : {count : ℕ} → t .held ≡ false → count ≡ b .«slave_count»
+      → Held b m t late (eqb late 0) before (set before m count)
   unfolding soundHeld heldTarget
   held-none off e = record {
-    sound = sym (cond-left (ours && passes) true off);
+    sound = sym (cond-left (ours && passes) (eqb late 0) off);
     target = λ q. ap (set before m) (e ∙ sym (cond-left (targetOf b m (t .address)) (b .«slave_count») off));
   }
 
 -- a transfer that was read: its rule, and its slave put behind those of the transfers before it
 module _ (b : Board) (st : State) (m : ℕ) {t : Transfer} (et : t ≡ transferAt st m) where
-  pub read-sound : soundHeld b m t ≡ soundTransfer b st m
-  unfolding soundHeld soundTransfer
-  read-sound = rw et
+  pub read-sound : {late : ℕ} → late ≡ lateAt st m → soundHeld b m t late ≡ soundTransfer b st m
+  unfolding soundTransfer
+  read-sound el = rw (et, el)
 
   read-target : heldTarget b m t ≡ targetIn b (st .transfers) m
   unfolding targetIn
   read-target = rw et
 
-  pub targets-next : (g : ℕ → ℕ) {r : Bool} {before after : List ℕ} → Held b m t r before after → r ≡ true
+  pub targets-next : (g : ℕ → ℕ) {late : ℕ} {r : Bool} {before after : List ℕ} → Held b m t late r before after → r ≡ true
       → before ≡ filled (targetIn b (st .transfers)) g 8 m → after ≡ filled (targetIn b (st .transfers)) g 8 (m + 1)
   targets-next g held on e = held .target on ∙ filled-next (targetIn b (st .transfers)) g 8 m e read-target
 
@@ -159,14 +171,15 @@ module _ (b : Board) (st : State) (s : ℕ) {slot : Slot} {masters : ℕ} (eslot
   -- the slot's owner is a master of the board; the code has read its shares, the two, its transfer and that transfer's target
   pub slot-parts : (targets : List ℕ) → Decoded b st targets → length (st .transfers) ≡ 8 → s < b .«slave_count»
       → slot .owner < masters
-      → {share : ℕ} {ma : Master} {sl : Slave} {t : Transfer} → share ≡ sharesAt b (slot .owner) s
-      → ma ≡ masterAt b (slot .owner) → sl ≡ slaveAt b s → t ≡ transferAt st (slot .owner)
-      → soundSlotBy share (eqb (getD targets (slot .owner) 0) s) ma sl t slot ≡ soundSlot b st s
-  unfolding soundSlot soundOwner
-  slot-parts targets decoded full here h e f g k = rw (e, f, g, k, eslot) (whole (rw (← em, ← eslot) h))
+      → {share late : ℕ} {ma : Master} {sl : Slave} {t : Transfer} → share ≡ sharesAt b (slot .owner) s
+      → ma ≡ masterAt b (slot .owner) → sl ≡ slaveAt b s → t ≡ transferAt st (slot .owner) → late ≡ lateAt st (slot .owner)
+      → soundSlotBy share (eqb late 0 && eqb (getD targets (slot .owner) 0) s) ma sl t slot ≡ soundSlot b st s
+  unfolding soundSlot soundOwner requests
+  slot-parts targets decoded full here h e f g k n = rw (e, f, g, k, n, eslot) (whole (rw (← em, ← eslot) h))
     where
       whole : slotAt st s .owner < b .«master_count»
-          → soundSlotBy (sharesAt b (slotAt st s .owner) s) (eqb (getD targets (slotAt st s .owner) 0) s)
+          → soundSlotBy (sharesAt b (slotAt st s .owner) s)
+          (eqb (lateAt st (slotAt st s .owner)) 0 && eqb (getD targets (slotAt st s .owner) 0) s)
           (masterAt b (slotAt st s .owner)) (slaveAt b s) (transferAt st (slotAt st s .owner)) (slotAt st s)
           ≡ soundSlot b st s
       whole l =
@@ -174,7 +187,7 @@ module _ (b : Board) (st : State) (s : ℕ) {slot : Slot} {masters : ℕ} (eslot
           rw (
             lt-ltb (slotAt st s .owner) (b .«master_count») l,
             decoded .targets,
-            target-requests b (decoded .board) st full s here (slotAt st s .owner) small,
+            target-holds b (decoded .board) st full s here (slotAt st s .owner) small,
           )
 
 -- the width of a master of an accepted board
@@ -182,17 +195,18 @@ pub legal-width : (b : Board) → boardRefusal b ≡ 0 → (m : ℕ) {masters : 
     → {ma : Master} → ma ≡ masterAt b m → member (ma .width) widths ≡ true
 legal-width b ok m e h f = rw f (accepted-legal b ok .master m (rw (← e) h) .width)
 
--- where the transfer of a slot's owner is for its slave, it has lanes that a post may have
+-- where a slot's owner requests its slave, its transfer has lanes that a post may have
 pub slot-posted : (b : Board) (st : State) (targets : List ℕ) → Decoded b st targets → length (st .transfers) ≡ 8
-    → (s m : ℕ) → s < b .«slave_count» → m < b .«master_count» → eqb (getD targets m 0) s ≡ true
+    → (s m late : ℕ) → s < b .«slave_count» → m < b .«master_count» → (eqb late 0 && eqb (getD targets m 0) s) ≡ true
     → {ma : Master} {sl : Slave} {t : Transfer} → ma ≡ masterAt b m → sl ≡ slaveAt b s → t ≡ transferAt st m → Posted ma sl t
 unfolding soundTransfer
-slot-posted b st targets decoded full s m h known q e f g =
+slot-posted b st targets decoded full s m late h known q e f g =
     let legal = accepted-legal b (decoded .board) in
     let small : m < 8 = omega (arith, legal .fewMasters) in
-    let asks : requests b st s m ≡ true
-    = sym (target-requests b (decoded .board) st full s h m small) ∙ rw (← decoded .targets) q in
-    let held = every-at (soundTransfer b st) 8 (decoded .transfers) m small in
-    let sound = both (ltb m (b .«master_count»)) _ (rw (requests-held b st s m asks) at held) in
-    let ok = accepted-at b legal m (transferAt st m) (eqb-true _ 0 (sound .1)) s (requests-selects b st s m asks) in
+    let here = both (eqb late 0) (eqb (getD targets m 0) s) q .1 in
+    let holds : holdsFor b st s m ≡ true
+    = sym (target-holds b (decoded .board) st full s h m small) ∙ rw (← decoded .targets) here in
+    let sound = held-facts b m (transferAt st m) (lateAt st m) (every-at (soundTransfer b st) 8 (decoded .transfers) m small) in
+    let free = sound .holds (holds-held b st s m holds) .1 in
+    let ok = accepted-at b legal m (transferAt st m) free s (holds-selects b st s m holds) in
     rw (e, f, g) (accepted-posted b legal m s (transferAt st m) known ok)

@@ -20,8 +20,11 @@ use Rattle.description_board.specs.Rules.{widths}
 use Rattle.description_board.specs.Items.{boardRefusal}
 use Rattle.description_board.proofs.Accepted.{accepted-legal}
 use Rattle.fabric_accesses.specs.declared.Transfer.{Transfer}
+use Rattle.fabric_accesses.specs.Accesses.{latencyOf}
 use Rattle.fabric_accesses.specs.Decoding.{targetOf}
 use Rattle.fabric_state.specs.Posting.{unmapped, transferRefusalBy, transferRefusal}
+use Rattle.fabric_state.specs.Soundness.{latencyAt}
+use Rattle.fabric_state.proofs.RequestLaws.{accepted}
 use Rattle.fabric_accesses.proofs.SelectLaws.{target-first}
 
 pub width-some : (width : ℕ) → member width widths ≡ true → 0 < width
@@ -64,3 +67,13 @@ refusal-parts b ok m t target e f g h =
     same : (x : ℕ) → x ≡ targetOf b m (t .address)
         → transferRefusalBy (masterAt b m) (slaveAt b x) t x (b .«slave_count») ≡ transferRefusal b m t
     same x q = rw q
+
+-- the latency of a transfer that is not refused, at the slave that the code has read
+pub latency-parts : (b : Board) → boardRefusal b ≡ 0 → (m : ℕ) (t : Transfer) (target : ℕ) {sl : Slave}
+    → target ≡ targetOf b m (t .address) → sl ≡ slaveAt b (target % 16) → transferRefusal b m t ≡ 0
+    → latencyOf sl t ≡ latencyAt b m t
+unfolding latencyAt
+latency-parts b ok m t target e g free =
+    let legal = accepted-legal b ok in
+    let small : target < 16 = omega (arith, e, accepted b legal m t free .within, legal .fewSlaves) in
+    rw (g, mod-eq-of-lt small, e)

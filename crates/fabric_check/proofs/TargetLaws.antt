@@ -28,11 +28,11 @@ use Rattle.fabric_accesses.specs.Decoding.{agrees, selects, targetOf}
 use Rattle.fabric_accesses.proofs.DecodeLaws.{span-of}
 use Rattle.fabric_state.specs.declared.State.{State}
 use Rattle.fabric_state.specs.Records.{transferAt}
-use Rattle.fabric_state.specs.Soundness.{requests}
+use Rattle.fabric_state.specs.Soundness.{holdsFor}
 use Rattle.fabric_check.specs.Code.Targets.{heldTarget, targetIn, targetsIn, requestMask}
 use Rattle.fabric_check.specs.Code.Decoded.{Decodes}
 use Rattle.fabric_accesses.proofs.SelectLaws.{target-first, selects-target}
-use Rattle.fabric_state.proofs.RequestLaws.{requests-not}
+use Rattle.fabric_state.proofs.RequestLaws.{holds-not}
 
 -- a slave of the board is selected where its address agrees and the master has shares there; one of the two says that it is not
 module _ (b : Board) (m address s : ℕ) where
@@ -135,7 +135,7 @@ module _ (ts : List ℕ) where
   pub mask-at : (s : ℕ) {masks : List ℕ} → s < 16 → masks ≡ table (requestMask ts) 16 → getD masks s 0 ≡ requestMask ts s
   mask-at s h e = rw e (getD-table (requestMask ts) 16 0 s h)
 
--- on an accepted board a master's target is slave s exactly where it requests slave s
+-- on an accepted board a master's target is slave s exactly where it holds a transfer for slave s
 module _ (b : Board) (ok : boardRefusal b ≡ 0) (st : State) (full : length (st .transfers) ≡ 8) (s : ℕ)
     (here : s < b .«slave_count») where
   target-selects : (m address : ℕ) → eqb (targetOf b m address) s ≡ selects b m address s
@@ -148,9 +148,9 @@ module _ (b : Board) (ok : boardRefusal b ≡ 0) (st : State) (full : length (st
           let f = target-first b m address in
           true≢false (sym (f .found (rw q here)) ∙ ap (selects b m address) q ∙ e))
 
-  pub target-requests : (m : ℕ) → m < 8 → eqb (getD (targetsIn b (st .transfers)) m 0) s ≡ requests b st s m
-  unfolding targetsIn targetIn heldTarget requests
-  target-requests m h =
+  pub target-holds : (m : ℕ) → m < 8 → eqb (getD (targetsIn b (st .transfers)) m 0) s ≡ holdsFor b st s m
+  unfolding targetsIn targetIn heldTarget holdsFor
+  target-holds m h =
       ap (λ (x : ℕ). eqb x s) (getD-table (targetIn b (st .transfers)) 8 0 m h)
       ∙ go (transferAt st m .held) (target-selects m (transferAt st m .address))
     where
@@ -160,17 +160,17 @@ module _ (b : Board) (ok : boardRefusal b ≡ 0) (st : State) (full : length (st
       go true e = e
       go false e = ne-eqb (b .«slave_count») s (λ q. omega arith)
 
-  -- so the mask's bits are the requests
-  pub mask-requests : (m : ℕ) → bit (requestMask (targetsIn b (st .transfers)) s) m ≡ requests b st s m
+  -- so the mask's bits are who holds one
+  pub mask-holds : (m : ℕ) → bit (requestMask (targetsIn b (st .transfers)) s) m ≡ holdsFor b st s m
   unfolding requestMask
-  mask-requests m = go (ltb m 8) refl
+  mask-holds m = go (ltb m 8) refl
     where
-      go : (c : Bool) → ltb m 8 ≡ c → bit (requestMask (targetsIn b (st .transfers)) s) m ≡ requests b st s m
+      go : (c : Bool) → ltb m 8 ≡ c → bit (requestMask (targetsIn b (st .transfers)) s) m ≡ holdsFor b st s m
       go true q =
           let near = ltb-true m 8 q in
-          bit-mask (λ k. eqb (getD (targetsIn b (st .transfers)) k 0) s) 8 m near ∙ target-requests m near
+          bit-mask (λ k. eqb (getD (targetsIn b (st .transfers)) k 0) s) 8 m near ∙ target-holds m near
       go false q =
           let far = ltb-false m 8 q in
           let none = List·getD-eq-default (st .transfers) noTransfer {n = m} (rw full far) in
           bit-mask-past (λ k. eqb (getD (targetsIn b (st .transfers)) k 0) s) 8 m far
-          ∙ sym (requests-not b st s m (ap (λ (t : Transfer). t .held) none))
+          ∙ sym (holds-not b st s m (ap (λ (t : Transfer). t .held) none))

@@ -23,16 +23,17 @@ pub use transfers::request_masks;
 pub use transfers::transfer_refusal;
 pub use transfers::weight_of;
 
-// Whether the transfer t of master m breaks no rule (rule 7.9); where it breaks none, the slave that it is for is left in
-// `targets`. The rules ask for that slave and so does the call that follows: an address is decoded once.
+// Whether the transfer t of master m breaks no rule with so many latency clocks to pass (rule 7.9); where it breaks none, the slave
+// that it is for is left in `targets`. The rules ask for that slave and so does the call that follows: an address is decoded once.
 fn held_at(
     board: &[u32; BOARD_NUMBERS],
     m: usize,
     t: Transfer,
+    late: u32,
     targets: &mut [u32; MASTERS],
 ) -> bool
     requires { ⌜ (boardRefusal (boardIn (now board)) ≡ 0) × (m < 8) ⌝ }
-    ensures { λ r. ⌜ Held (boardIn (now (board .entry))) m t r (now (targets .entry)) (now (targets .exit)) ⌝ }
+    ensures { λ r. ⌜ Held (boardIn (now (board .entry))) m t late r (now (targets .entry)) (now (targets .exit)) ⌝ }
 {
     let count = description_layout::slave_count(board);
     if t.held {
@@ -42,12 +43,13 @@ fn held_at(
             // the number of slaves can be 16: what stands for no slave is looked up, and not used
             let sl = description_layout::slave_at(board, (target % 16) as usize);
             let ma = description_layout::master_at(board, m);
-            return transfers::transfer_refusal_by(ma, sl, t, target, count) == 0;
+            let number = transfers::transfer_refusal_by(ma, sl, t, target, count);
+            return (number == 0) & (late <= fabric_accesses::latency_of(sl, t));
         }
         return false;
     }
     targets[m] = count;
-    true
+    late == 0
 }
 
 // Whether no transfer breaks a rule (rule 7.9); where none does, each one's slave is left in `targets`. One pass decodes and
@@ -65,7 +67,8 @@ fn sound_transfers(
     let mut m: usize = 0;
     while m < 8 {
         let t = fabric_layout::transfer_at(st, m);
-        if !held_at(board, m, t, targets) {
+        let late = fabric_layout::late_at(st, m);
+        if !held_at(board, m, t, late, targets) {
             return false;
         }
         m += 1;
@@ -73,8 +76,8 @@ fn sound_transfers(
     true
 }
 
-// Whether a slot whose owner is a master of the board breaks no rule (rule 7.9): of its owner's shares, whether its owner's
-// transfer is for this slave, and the two and that transfer.
+// Whether a slot whose owner is a master of the board breaks no rule (rule 7.9): of its owner's shares, whether its owner
+// requests this slave, and the two and its transfer.
 fn sound_slot_by(slot: Slot, share: u32, here: bool, ma: Master, sl: Slave, t: Transfer) -> bool
     requires { ⌜ (here ≡ true → Posted ma sl t) ⌝ }
     ensures { λ r. ⌜ r ≡ soundSlotBy share here ma sl t slot ⌝ }
@@ -116,7 +119,9 @@ fn sound_slots(
         let ma = description_layout::master_at(board, owner);
         let sl = description_layout::slave_at(board, i);
         let t = fabric_layout::transfer_at(st, owner);
-        if !sound_slot_by(slot, share, targets[owner] == s, ma, sl, t) {
+        let late = fabric_layout::late_at(st, owner);
+        let target = targets[owner];
+        if !sound_slot_by(slot, share, (late == 0) & (target == s), ma, sl, t) {
             return false;
         }
         s += 1;

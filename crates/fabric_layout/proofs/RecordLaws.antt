@@ -8,7 +8,7 @@ use Prim.Native.Nat.{ℕ, _+_, _*_, _≤_, _<_}
 use native.Mathlib.Nat.{add-zero, zero-add}
 use native.Mathlib.Omega.{arith}
 use lib.ListN.{length, getD, set}
-use lib.Seq.{sets}
+use lib.Seq.{sets, getD-set-same, getD-set-other}
 use Rattle.common_laws.proofs.TableLaws.{getD-table}
 use Rattle.common_laws.proofs.FillLaws.{table-put}
 use Rattle.common_laws.proofs.FrontLaws.{table-same}
@@ -17,10 +17,10 @@ use Rattle.fabric_accesses.specs.declared.Transfer.{Transfer}
 use Rattle.fabric_accesses.specs.Accesses.{noTransfer}
 use Rattle.fabric_state.specs.declared.Slot.{Slot}
 use Rattle.fabric_state.specs.declared.Line.{Line}
-use Rattle.fabric_state.specs.Records.{noSlot, transferAt, slotAt}
+use Rattle.fabric_state.specs.Records.{noSlot, transferAt, slotAt, lateAt}
 use Rattle.fabric_state.specs.Posting.{withTransfer}
 use Rattle.fabric_layout.specs.Layout.{marked, transferFrom, slotFrom, stateIn, lineFrom, linesIn}
-use Rattle.fabric_layout.specs.Code.Puts.{withSlot}
+use Rattle.fabric_layout.specs.Code.Puts.{withSlot, withLate}
 
 mark-back : (b : Bool) {n : ℕ} → n ≡ cond b 1 0 → marked n ≡ b
 mark-back true e = rw e
@@ -33,6 +33,9 @@ module _ (l r : List ℕ) (q : ℕ) where
   unfolding transferFrom
   transfer-same =
       five-same l r q (λ h w a s n. record { held = marked h; write = marked w; address = a; lanes = s; beats = n })
+
+  late-same : Agree l r q 1 → getD r q 0 ≡ getD l q 0
+  late-same e = e q (omega arith) (omega arith)
 
   slot-same : Agree l r q 5 → slotFrom r q ≡ slotFrom l q
   unfolding slotFrom
@@ -103,6 +106,10 @@ module _ (l : List ℕ) where
   unfolding stateIn
   transfer-found m d h = getD-table (λ i. transferFrom l (5 * i)) 8 d m h
 
+  pub late-read : (m : ℕ) → m < 8 → getD l (120 + m) 0 ≡ lateAt (stateIn l) m
+  unfolding stateIn
+  late-read m h = sym (getD-table (λ i. getD l (120 + i) 0) 8 0 m h)
+
   -- what the code reads, field by field
   pub slot-read : (s : ℕ) → s < 16
       → _≡_ {A = Slot}
@@ -134,7 +141,7 @@ module _ (l : List ℕ) where
   unfolding transferFrom
   beats-read m h = ap (λ (t : Transfer). t .beats) (sym (transfer-found m noTransfer h))
 
-  module _ (k : length l ≡ 120) where
+  module _ (k : length l ≡ 128) where
     pub slot-put : (s : ℕ) (x : Slot) {on : ℕ} → s < 16 → on ≡ cond (x .serving) 1 0
         → stateIn (five l (40 + 5 * s) (x .owner) (x .remaining) on (x .done) (x .waited)) ≡ withSlot (stateIn l) s x
     unfolding stateIn withSlot
@@ -144,6 +151,7 @@ module _ (l : List ℕ) where
         rw (
           five-sets l p (x .owner) (x .remaining) on (x .done) (x .waited),
           table-same _ _ 8 (λ m g. transfer-same l (sets l p vs) (5 * m) (sets-apart vs l p (5 * m) 5 (inl (omega arith)))),
+          table-same _ _ 8 (λ m g. late-same l (sets l p vs) (120 + m) (sets-apart vs l p (120 + m) 1 (inr (omega arith)))),
           table-put (λ i. slotFrom l (40 + 5 * i)) _ 16 s x (slot-here l p x on (rw k (omega arith)) e)
               (λ i w. slot-same l (sets l p vs) (40 + 5 * i) (sets-apart vs l p (40 + 5 * i) 5 (records-apart 40 5 i s w))),
         )
@@ -158,9 +166,23 @@ module _ (l : List ℕ) where
           five-sets l p held write (t .address) (t .lanes) (t .beats),
           table-same _ _ 16
               (λ s g. slot-same l (sets l p vs) (40 + 5 * s) (sets-apart vs l p (40 + 5 * s) 5 (inr (omega arith)))),
+          table-same _ _ 8 (λ i g. late-same l (sets l p vs) (120 + i) (sets-apart vs l p (120 + i) 1 (inr (omega arith)))),
           table-put (λ i. transferFrom l (5 * i)) _ 8 m t (transfer-here l p t held write (rw k (omega arith)) eh ew)
               (λ i w.
               transfer-same l (sets l p vs) (5 * i) (sets-apart vs l p (5 * i) 5 (simp zero-add at (records-apart 0 5 i m w)))),
+        )
+
+    pub late-put : (m n : ℕ) → m < 8 → stateIn (set l (120 + m) n) ≡ withLate (stateIn l) m n
+    unfolding stateIn withLate
+    late-put m n h =
+        let p = 120 + m in
+        let vs = n ∷ [] in
+        rw (
+          table-same _ _ 8 (λ i g. transfer-same l (sets l p vs) (5 * i) (sets-apart vs l p (5 * i) 5 (inl (omega arith)))),
+          table-same _ _ 16
+              (λ s g. slot-same l (sets l p vs) (40 + 5 * s) (sets-apart vs l p (40 + 5 * s) 5 (inl (omega arith)))),
+          table-put (λ i. getD l (120 + i) 0) _ 8 m n (getD-set-same l p n 0 (rw k (omega arith)))
+              (λ i w. getD-set-other l p (120 + i) n 0 (λ e. w (omega arith))),
         )
 
   pub line-put : length l ≡ 96 → (s : ℕ) (x : Line) → s < 16

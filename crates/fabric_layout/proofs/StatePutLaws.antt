@@ -16,11 +16,11 @@ use Rattle.fabric_accesses.specs.Accesses.{noTransfer}
 use Rattle.fabric_state.specs.declared.Slot.{Slot}
 use Rattle.fabric_state.specs.declared.State.{State}
 use Rattle.fabric_state.specs.declared.Line.{Line}
-use Rattle.fabric_state.specs.Records.{noSlot, noLine, transferAt, slotAt}
+use Rattle.fabric_state.specs.Records.{noSlot, noLine, transferAt, slotAt, lateAt}
 use Rattle.fabric_state.specs.Posting.{withTransfer}
 use Rattle.fabric_state.specs.Resetting.{resetState}
 use Rattle.fabric_layout.specs.Layout.{stateIn, transferFrom, slotFrom, lineFrom, linesIn}
-use Rattle.fabric_layout.specs.Code.Puts.{withSlot, firstLines, resetSlot}
+use Rattle.fabric_layout.specs.Code.Puts.{withSlot, withLate, firstLines, resetSlot}
 
 module _ (l : List ℕ) where
   pub transfers-length : length (stateIn l .transfers) ≡ 8
@@ -30,6 +30,10 @@ module _ (l : List ℕ) where
   pub slots-length : length (stateIn l .slots) ≡ 16
   unfolding stateIn
   slots-length = length-table (λ s. slotFrom l (40 + 5 * s)) 16
+
+  pub lates-length : length (stateIn l .late) ≡ 8
+  unfolding stateIn
+  lates-length = length-table (λ m. getD l (120 + m) 0) 8
 
   pub lines-length : length (linesIn l) ≡ 16
   unfolding linesIn
@@ -42,6 +46,9 @@ module _ (l : List ℕ) where
 
   pub slots-begin : (f : ℕ → Slot) → stateIn l .slots ≡ filled f (slotAt (stateIn l)) 16 0
   slots-begin f = filled-none f (slotAt (stateIn l)) 16 noSlot (stateIn l .slots) slots-length (λ i h. refl)
+
+  pub lates-begin : (f : ℕ → ℕ) → stateIn l .late ≡ filled f (lateAt (stateIn l)) 8 0
+  lates-begin f = filled-none f (lateAt (stateIn l)) 8 0 (stateIn l .late) lates-length (λ i h. refl)
 
   -- a loop that clears the lines from n on
   pub clear-begin : (n : ℕ)
@@ -93,16 +100,36 @@ module _ (u v : State) where
   unfolding withSlot
   transfers-left s x e = ap (λ (y : State). y .transfers) e
 
+  pub lates-put : (m n : ℕ) → u ≡ withLate v m n → u .late ≡ set (v .late) m n
+  unfolding withLate
+  lates-put m n e = ap (λ (y : State). y .late) e
+
+  pub lates-left : (s : ℕ) (x : Slot) → u ≡ withSlot v s x → u .late ≡ v .late
+  unfolding withSlot
+  lates-left s x e = ap (λ (y : State). y .late) e
+
+  pub lates-held : (m : ℕ) (t : Transfer) → u ≡ withTransfer v m t → u .late ≡ v .late
+  unfolding withTransfer
+  lates-held m t e = ap (λ (y : State). y .late) e
+
+  pub transfers-late : (m n : ℕ) → u ≡ withLate v m n → u .transfers ≡ v .transfers
+  unfolding withLate
+  transfers-late m n e = ap (λ (y : State). y .transfers) e
+
 -- ---- a reset
 
 pub idle-all : {l : List Transfer} → l ≡ table (λ k. noTransfer) 8 → l ≡ replicate 8 noTransfer
 unfolding table gather
 idle-all e = e
 
+pub none-late : {l : List ℕ} → l ≡ table (λ k. 0) 8 → l ≡ replicate 8 0
+unfolding table gather
+none-late e = e
+
 pub reset-end : (u : State) (owner n : ℕ) → u .transfers ≡ replicate 8 noTransfer → u .slots ≡ table (resetSlot owner n) 16
-    → u ≡ resetState owner n
+    → u .late ≡ replicate 8 0 → u ≡ resetState owner n
 unfolding resetState resetSlot
-reset-end u owner n t s = rw (← t, ← s) refl
+reset-end u owner n t s l = rw (← t, ← s, ← l) refl
 
 pub fresh-owned : (owner n s : ℕ) → s < n
     → _≡_ {A = Slot} (record { owner = owner; remaining = 0; serving = Bool.false; done = 0; waited = 0 }) (resetSlot owner n s)

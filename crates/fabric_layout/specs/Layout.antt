@@ -37,11 +37,12 @@ slotFrom l p = record {
   waited = getD l (p + 4) 0;
 }
 
--- rule 2.4: the state in 120 numbers: 8 transfers, then 16 slots
+-- rule 2.4: the state in 128 numbers: 8 transfers, then 16 slots, then 8 masters' latency clocks to pass
 unfoldable pub stateIn : List ℕ → State
 stateIn l = record {
   transfers = table (λ m. transferFrom l (5 * m)) 8;
   slots = table (λ s. slotFrom l (40 + 5 * s)) 16;
+  late = table (λ m. getD l (120 + m) 0) 8;
 }
 
 -- rule 4.13: six numbers from index p on are a clock's line

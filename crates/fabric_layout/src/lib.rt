@@ -1,4 +1,5 @@
 // A state and a clock's lines in lent arrays of numbers (rules 2.4, 4.13): each record is read and put at its index.
+use common_numbers::LATE_FROM;
 use common_numbers::LINE_FIELDS;
 use common_numbers::LINES_NUMBERS;
 use common_numbers::SLOT_NUMBERS;
@@ -16,11 +17,11 @@ ghost use mathlib.Core.Bool.{cond};
 ghost use Prim.Native.Nat.{_<_};
 ghost use lib.ListN.{set, replicate};
 ghost use Rattle.fabric_accesses.specs.Accesses.{noTransfer};
-ghost use Rattle.fabric_state.specs.Records.{transferAt, slotAt};
+ghost use Rattle.fabric_state.specs.Records.{transferAt, slotAt, lateAt};
 ghost use Rattle.fabric_state.specs.Posting.{withTransfer};
 ghost use Rattle.fabric_state.specs.Resetting.{resetState};
 ghost use Rattle.fabric_layout.specs.Layout.{stateIn, linesIn};
-ghost use Rattle.fabric_layout.specs.Code.Puts.{withSlot, firstLines, resetSlot};
+ghost use Rattle.fabric_layout.specs.Code.Puts.{withSlot, withLate, firstLines, resetSlot};
 
 // The number of a mark (rule 2.4).
 fn mark_of(b: bool) -> u32
@@ -67,6 +68,14 @@ pub fn slot_at(st: &[u32; STATE_NUMBERS], s: usize) -> Slot
     }
 }
 
+// The latency clocks that master m still has to pass (rules 2.4, 4.16).
+pub fn late_at(st: &[u32; STATE_NUMBERS], m: usize) -> u32
+    requires { ⌜ m < 8 ⌝ }
+    ensures { λ r. ⌜ r ≡ lateAt (stateIn (now (st .entry))) m ⌝ }
+{
+    st[LATE_FROM + m]
+}
+
 // Master m holds t (rules 2.4, 3.3).
 pub fn put_transfer(st: &mut [u32; STATE_NUMBERS], m: usize, t: Transfer)
     requires { ⌜ m < 8 ⌝ }
@@ -93,6 +102,15 @@ pub fn put_slot(st: &mut [u32; STATE_NUMBERS], s: usize, x: Slot)
     st[p + 2] = mark_of(x.serving);
     st[p + 3] = x.done;
     st[p + 4] = x.waited;
+}
+
+// Master m has n latency clocks to pass (rules 2.4, 4.16).
+pub fn put_late(st: &mut [u32; STATE_NUMBERS], m: usize, n: u32)
+    requires { ⌜ m < 8 ⌝ }
+    ensures { λ _. ⌜ stateIn (now (st .exit)) ≡ withLate (stateIn (now (st .entry))) m n ⌝ }
+{
+    description_layout::count(st);
+    st[LATE_FROM + m] = n;
 }
 
 // The clock's line of slave s becomes x (rule 4.13).
@@ -132,13 +150,15 @@ fn reset_slot(owner: u32, n: u32, s: usize) -> Slot
     x
 }
 
-// No transfer is held (rule 4.2).
-fn clear_transfers(st: &mut [u32; STATE_NUMBERS])
-    ensures { λ _. ⌜ stateIn (now (st .exit)) .transfers ≡ replicate 8 noTransfer ⌝ }
+// No transfer is held, and no latency clocks are to pass (rule 4.2).
+fn clear_masters(st: &mut [u32; STATE_NUMBERS])
+    ensures { λ _. ⌜ (stateIn (now (st .exit)) .transfers ≡ replicate 8 noTransfer)
+        × (stateIn (now (st .exit)) .late ≡ replicate 8 0) ⌝ }
 {
     let mut m: usize = 0;
     while m < 8 {
         put_transfer(st, m, NO_TRANSFER);
+        put_late(st, m, 0);
         m += 1;
     }
 }
@@ -147,7 +167,7 @@ fn clear_transfers(st: &mut [u32; STATE_NUMBERS])
 pub fn reset_state(st: &mut [u32; STATE_NUMBERS], owner: u32, n: u32)
     ensures { λ _. ⌜ stateIn (now (st .exit)) ≡ resetState owner n ⌝ }
 {
-    clear_transfers(st);
+    clear_masters(st);
     let mut s: usize = 0;
     while s < 16 {
         put_slot(st, s, reset_slot(owner, n, s));

@@ -3,7 +3,7 @@
 use mathlib.Core.Path.{_∙_}
 use borrow.Author.Needs.{needs}
 use Rattle.fabric_check.proofs.TargetLaws.{decodes}
-use Rattle.fabric_check.proofs.RefusalLaws.{refusal-parts}
+use Rattle.fabric_check.proofs.RefusalLaws.{refusal-parts, latency-parts}
 use Rattle.fabric_check.proofs.CheckLaws.{held-ours, held-stranger, held-none, legal-width}
 use Rattle.fabric_check.proofs.held_at.Statement.{statement}
 use Rattle.fabric_check.proofs.held_at.Tie as tie
@@ -44,21 +44,26 @@ transfer-refusal-by-requires c κs =
     let ours = c .before .before .before in
     legal-width _ (starting ours .pre .0) _ (ours .before .master-count .ensures) (ours .if2 .taken) (c .master-at .ensures)
 
+latency-of-requires : tie.Need-latency-of-requires
+latency-of-requires c κs = search needs
+
 returns : tie.Need-returns
 returns c =
-    let found = c .before .before .before in
+    let judged = c .before in
+    let found = judged .before .before .before in
     let ours = found .before in
     let start = starting ours in
     let count = ours .before .before .before .slave-count .ensures in
-    held-ours _ _ _ _ (ours .before .before .if1 .taken) (ours .before .master-count .ensures) (ours .if2 .taken)
+    let slave = judged .before .before .slave-at .ensures in
+    held-ours _ _ _ _ _ (ours .before .before .if1 .taken) (ours .before .master-count .ensures) (ours .if2 .taken)
     (found .target-of .ensures)
-    (c .transfer-refusal-by .ensures
-    ∙ refusal-parts _ (start .pre .0) _ _ _ (found .target-of .ensures) (c .before .master-at .ensures)
-    (c .before .before .slave-at .ensures) count)
+    (judged .transfer-refusal-by .ensures
+    ∙ refusal-parts _ (start .pre .0) _ _ _ (found .target-of .ensures) (judged .before .master-at .ensures) slave count)
+    (λ free. c .latency-of .ensures ∙ latency-parts _ (start .pre .0) _ _ _ (found .target-of .ensures) slave free)
 
 returns-2 : tie.Need-returns-2
 returns-2 c =
-    held-stranger _ _ _ _ (c .before .before .if1 .taken) (c .before .master-count .ensures) (c .if2 .left) _
+    held-stranger _ _ _ _ _ (c .before .before .if1 .taken) (c .before .master-count .ensures) (c .if2 .left) _
 
 mul-targets-2 : tie.Need-mul-targets-2
 mul-targets-2 c = search needs
@@ -67,7 +72,7 @@ element-write-targets-2 : tie.Need-element-write-targets-2
 element-write-targets-2 c = search needs
 
 returns-3 : tie.Need-returns-3
-returns-3 c = held-none _ _ _ _ (c .if1 .left) (c .before .slave-count .ensures)
+returns-3 c = held-none _ _ _ _ _ (c .if1 .left) (c .before .slave-count .ensures)
 
 pub held-at-spec : {M : Type 1} → statement M
 held-at-spec =
@@ -83,6 +88,7 @@ held-at-spec =
     slave-at-requires
     master-at-requires
     transfer-refusal-by-requires
+    latency-of-requires
     returns
     returns-2
     mul-targets-2

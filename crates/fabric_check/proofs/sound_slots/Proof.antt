@@ -54,7 +54,7 @@ owner-known c = omega (arith, owner-in c, accepted-legal _ (starting c .pre .boa
 
 -- from the test of the slot back to where its parts begin to be read
 abbrev known : tie.After-sound-slot-by Inv-loop μ-loop → tie.After-struct-known2 Inv-loop μ-loop
-known c = c .before .before .before .before .before .before
+known c = c .before .before .before .before .before .before .before
 
 -- what the code tests is the slot's rule
 tested : (c : tie.After-sound-slot-by Inv-loop μ-loop) → let start = starting (known c) in
@@ -62,12 +62,13 @@ tested : (c : tie.After-sound-slot-by Inv-loop μ-loop) → let start = starting
 tested c =
     let k = known c in
     let start = starting k in
-    let read = c .before .before .before .before in
+    let moved = c .before .before .before in
+    let read = moved .before .before in
     c .sound-slot-by .ensures
     ∙ slot-parts (board start) (state start) _ (k .before .before .before .slot-at .ensures)
     (turn k .before .before .before .master-count .ensures) (start .args .targets .now) (start .pre) (transfers-length _)
     (slave-in (turn k)) (k .before .if1 .left) (read .before .shares-at .ensures) (read .master-at .ensures)
-    (c .before .before .before .slave-at .ensures) (c .before .before .transfer-at .ensures)
+    (moved .before .slave-at .ensures) (moved .transfer-at .ensures) (c .before .before .late-at .ensures)
 
 master-count-requires : tie.Need-master-count-requires Inv-loop μ-loop
 master-count-requires c κs = search needs
@@ -106,20 +107,25 @@ slave-at-requires c κs = place-in (turn (c .before .before))
 transfer-at-requires : tie.Need-transfer-at-requires Inv-loop μ-loop
 transfer-at-requires c κs = owner-known (c .before .before .before)
 
-mul-sound-slot-by : tie.Need-mul-sound-slot-by Inv-loop μ-loop
-mul-sound-slot-by c = omega (arith, owner-known (c .before .before .before .before))
+late-at-requires : tie.Need-late-at-requires Inv-loop μ-loop
+late-at-requires c κs = owner-known (c .before .before .before .before)
 
-element-copy-out-sound-slot-by : tie.Need-element-copy-out-sound-slot-by Inv-loop μ-loop
-element-copy-out-sound-slot-by c = owner-known (c .before .before .before .before)
+mul-target : tie.Need-mul-target Inv-loop μ-loop
+mul-target c = omega (arith, owner-known (c .before .before .before .before .before))
+
+element-copy-out-target : tie.Need-element-copy-out-target Inv-loop μ-loop
+element-copy-out-target c = owner-known (c .before .before .before .before .before)
 
 sound-slot-by-requires : tie.Need-sound-slot-by-requires Inv-loop μ-loop
 sound-slot-by-requires c κs =
-    let master = c .before .before .before in
+    let read = c .before .before in
+    let master = read .before .before in
     let k = master .before .before in
     let start = starting k in
     λ q.
-    slot-posted (board start) (state start) (start .args .targets .now) (start .pre) (transfers-length _) _ _ (slave-in (turn k))
-    (owner-in k) q (master .master-at .ensures) (c .before .before .slave-at .ensures) (c .before .transfer-at .ensures)
+    slot-posted (board start) (state start) (start .args .targets .now) (start .pre) (transfers-length _) _ _ (c .before .late-at .result)
+    (slave-in (turn k))
+    (owner-in k) q (master .master-at .ensures) (read .before .slave-at .ensures) (read .transfer-at .ensures)
 
 returns-2 : tie.Need-returns-2 Inv-loop μ-loop
 returns-2 c =
@@ -162,8 +168,9 @@ sound-slots-spec =
     master-at-requires
     slave-at-requires
     transfer-at-requires
-    mul-sound-slot-by
-    element-copy-out-sound-slot-by
+    late-at-requires
+    mul-target
+    element-copy-out-target
     sound-slot-by-requires
     returns-2
     add-s

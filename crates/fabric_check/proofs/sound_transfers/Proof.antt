@@ -29,7 +29,7 @@ abbrev μ-loop : tie.MeasureT-loop
 
 -- the turn of a master, and the function's start
 abbrev turn : tie.After-held-at Inv-loop μ-loop → tie.In-loop Inv-loop μ-loop
-turn c = c .before .before .before
+turn c = c .before .before .before .before
 
 abbrev starting : tie.In-loop Inv-loop μ-loop → tie.Start Inv-loop μ-loop
 starting c = c .before .before .before .before .before
@@ -37,7 +37,8 @@ starting c = c .before .before .before .before .before
 -- what the code tests is the transfer's rule
 tested : (c : tie.After-held-at Inv-loop μ-loop) → let a = starting (turn c) .args in
     c .held-at .result ≡ soundTransfer (boardIn (a .board .now)) (stateIn (a .st .now)) (turn c .before .loop .m)
-tested c = c .held-at .ensures .sound ∙ read-sound _ _ _ (c .before .before .transfer-at .ensures)
+tested c =
+    c .held-at .ensures .sound ∙ read-sound _ _ _ (c .before .before .before .transfer-at .ensures) (c .before .before .late-at .ensures)
 
 count-requires : tie.Need-count-requires Inv-loop μ-loop
 count-requires c κs = search needs
@@ -48,6 +49,9 @@ loop-holds c = (omega arith, refl, filled-none _ _ 8 0 _ (search needs) (λ k h.
 
 transfer-at-requires : tie.Need-transfer-at-requires Inv-loop μ-loop
 transfer-at-requires c κs = search needs
+
+late-at-requires : tie.Need-late-at-requires Inv-loop μ-loop
+late-at-requires c κs = search needs
 
 held-at-requires : tie.Need-held-at-requires Inv-loop μ-loop
 held-at-requires c κs = search needs
@@ -70,7 +74,7 @@ loop-again c =
     let l = turn (c .before) .before .loop in
     let passed : c .before .held-at .result ≡ true = not-false _ (c .if1 .left) in
     let st = stateIn (starting (turn (c .before)) .args .st .now) in
-    let read = c .before .before .before .transfer-at .ensures in (
+    let read = c .before .before .before .before .transfer-at .ensures in (
       omega arith,
       every-next _ _ (l .inv .1) (sym (tested (c .before)) ∙ passed),
       targets-next _ st _ read _ (c .before .held-at .ensures) passed (l .inv .2),
@@ -93,6 +97,7 @@ sound-transfers-spec =
     count-requires
     loop-holds
     transfer-at-requires
+    late-at-requires
     held-at-requires
     returns
     add-m

@@ -2,10 +2,9 @@
 -- The parts: a transfer, all of them, the state, the board and the state.
 -- Assumes nothing.
 use mathlib.Core.Path.{_≡_}
-use mathlib.Core.Bool.{Bool, true, cond, _&&_}
+use mathlib.Core.Bool.{Bool, true}
 use mathlib.Core.List.{List}
 use Prim.Native.Nat.{ℕ}
-use lib.Dec.{ltb, eqb}
 use lib.ListN.{set}
 use Rattle.common_laws.specs.Lists.{every}
 use Rattle.description_board.specs.declared.Board.{Board}
@@ -13,17 +12,12 @@ use Rattle.description_board.specs.Items.{boardRefusal}
 use Rattle.fabric_accesses.specs.declared.Transfer.{Transfer}
 use Rattle.fabric_state.specs.declared.State.{State}
 use Rattle.fabric_check.specs.declared.Checked.{Checked}
-use Rattle.fabric_state.specs.Posting.{transferRefusal}
 use Rattle.fabric_state.specs.Soundness as soundness
 use Rattle.fabric_check.specs.Code.Targets.{heldTarget, targetsIn}
 
--- `soundTransfer` of master m's transfer t
-unfoldable pub soundHeld : Board → ℕ → Transfer → Bool
-soundHeld b m t = cond (t .held) (ltb m (b .«master_count») && eqb (transferRefusal b m t) 0) true
-
--- whether t breaks no rule; where it breaks none, its slave is put at index m
-pub record Held (b : Board) (m : ℕ) (t : Transfer) (r : Bool) (before after : List ℕ) : Type 0 where
-  pub sound : r ≡ soundHeld b m t
+-- whether t breaks no rule with so many latency clocks to pass; where it breaks none, its slave is put at index m
+pub record Held (b : Board) (m : ℕ) (t : Transfer) (late : ℕ) (r : Bool) (before after : List ℕ) : Type 0 where
+  pub sound : r ≡ soundness.soundHeld b m t late
   pub target : r ≡ true → after ≡ set before m (heldTarget b m t)
 
 -- whether `rule` holds; where it does, ts are the slaves of the state's transfers

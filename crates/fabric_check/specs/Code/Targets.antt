@@ -1,5 +1,5 @@
 -- Gives the code of fabric_check and fabric_cycle its shape: the slave of each held transfer, and requests as a mask.
--- Both are worked out once a call. The code's form of `requests` (rule 4.3).
+-- Both are worked out once a call, and stand as long as no transfer ends. The code's form of `holdsFor` (rule 3.6).
 -- Assumes nothing.
 use mathlib.Core.Bool.{cond}
 use mathlib.Core.List.{List}

@@ -13,7 +13,11 @@ use Rattle.fabric_state.specs.Records.{noLine, noSlot}
 
 -- a state with one slot set. With a transfer set: `Posting.withTransfer`
 unfoldable pub withSlot : State → ℕ → Slot → State
-withSlot st s x = record { transfers = st .transfers; slots = set (st .slots) s x }
+withSlot st s x = record { transfers = st .transfers; slots = set (st .slots) s x; late = st .late }
+
+-- and with the latency clocks of one master
+unfoldable pub withLate : State → ℕ → ℕ → State
+withLate st m n = record { transfers = st .transfers; slots = st .slots; late = set (st .late) m n }
 
 -- of a clock's 16 lines, those from n on show nothing
 unfoldable pub firstLines : ℕ → List Line → List Line
