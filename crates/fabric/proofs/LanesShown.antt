@@ -29,7 +29,7 @@ use Rattle.fabric_state.proofs.SoundLaws.{sound-facts, grant-sound}
 use Rattle.fabric_state.proofs.StateLaws.{line-after}
 use Rattle.fabric_state.proofs.StepLaws.{lineNow, Outcome, rests, waiting, works, ends, outcome}
 use Rattle.fabric_layout.specs.Layout.{stateIn}
-use Rattle.fabric_layout.proofs.StatePutLaws.{transfers-length, slots-length}
+use Rattle.fabric_layout.proofs.StatePutLaws.{transfers-length, slots-length, lates-length}
 use Rattle.fabric.specs.Calls.{clockRefusal, clock}
 use Rattle.fabric.specs.LanesShown.{lineShown, LanesShown}
 use Rattle.fabric.proofs.PostLaws.{passed-number}
@@ -82,6 +82,7 @@ module _ (b : Board) (before : List ℕ) (d : Store) where
       go s below sized true e =
           let p = taken-parts (eqb-true _ _ e) in
           let legal = accepted-legal b (p .0) in
-          let x = sound-facts b (stateIn before) (transfers-length before) (slots-length before) (legal .fewSlaves) (p .1) in
+          let x = sound-facts b (stateIn before) (transfers-length before) (slots-length before) (lates-length before)
+          (legal .fewSlaves) (p .1) in
           rw (e, line-after b (stateIn before) s below (legal .fewSlaves))
           (step-laned b legal (stateIn before) x s below sized)

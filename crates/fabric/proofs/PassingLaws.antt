@@ -14,7 +14,7 @@ use Rattle.fabric_state.specs.declared.State.{State}
 use Rattle.fabric_state.specs.declared.Line.{Line}
 use Rattle.fabric_state.specs.Records.{noLine}
 use Rattle.fabric_layout.specs.Layout.{stateIn, linesIn}
-use Rattle.fabric_layout.proofs.StatePutLaws.{transfers-length, slots-length}
+use Rattle.fabric_layout.proofs.StatePutLaws.{transfers-length, slots-length, lates-length}
 use Rattle.fabric_check.specs.Code.Targets.{targetsIn, requestMask}
 use Rattle.fabric_cycle.specs.Code.Cycles.{Passes, Clocks as Cycled}
 use Rattle.fabric_cycle.proofs.AgainLaws.{same-requests}
@@ -26,7 +26,7 @@ use Rattle.fabric.proofs.RunOfClocks.{Sized, reached, accepted-board, k
 use Rattle.fabric.proofs.RunOfClocks.{refusal-again, on-next, on-spent, on-finished}
 
 pub sized : (l : List ℕ) → Sized (stateIn l)
-sized l = record { transfers = transfers-length l; slots = slots-length l }
+sized l = record { transfers = transfers-length l; slots = slots-length l; lates = lates-length l }
 
 -- a run of clocks that is refused
 pub run-refused : (b : Board) (most : ℕ) (before lines : List ℕ) (d : Store) {n : ℕ} → n ≡ clockRefusal b (stateIn before) d

@@ -21,7 +21,7 @@ use Rattle.fabric_state.specs.declared.Line.{Line}
 use Rattle.fabric_state.specs.Carrying.{storeAfter}
 use Rattle.fabric_state.specs.Clocking.{clockedOf}
 use Rattle.fabric_state.proofs.SoundLaws.{sound-test, sound-facts, clock-sound}
-use Rattle.fabric_state.proofs.StateLaws.{transfers-after, slots-after}
+use Rattle.fabric_state.proofs.StateLaws.{transfers-after, slots-after, lates-after}
 use Rattle.fabric_state.proofs.StoreLengths.{store-length}
 use Rattle.fabric.specs.Calls.{clockRefusal, clock, storeAfterClock, afterClock}
 use Rattle.fabric.specs.Running.{Run, clockMore, clockOn}
@@ -32,6 +32,7 @@ use Rattle.fabric.proofs.ClockLaws.{not-refused, exact-lengths}
 pub record Sized (st : State) : Type 0 where
   pub transfers : length (st .transfers) ≡ 8
   pub slots : length (st .slots) ≡ 16
+  pub lates : length (st .late) ≡ 8
 
 module _ (b : Board) (st : State) (d : Store) (e : clockRefusal b st d ≡ 0) where
   pub accepted-board : boardRefusal b ≡ 0
@@ -59,14 +60,14 @@ module _ (b : Board) (st : State) (d : Store) (e : clockRefusal b st d ≡ 0) wh
   pub refusal-again : Sized st → clockRefusal b (stateAfter b st) (storeAfter b st d) ≡ 0
   refusal-again z =
       let legal = accepted-legal b accepted-board in
-      let x = sound-facts b st (z .transfers) (z .slots) (legal .fewSlaves) keeps-rules in
+      let x = sound-facts b st (z .transfers) (z .slots) (z .lates) (legal .fewSlaves) keeps-rules in
       let n = store-length b st d in
       let m = exact-lengths b st d e in
       not-refused b (stateAfter b st) (storeAfter b st d) accepted-board (n .0 ∙ m .0) (n .1 ∙ m .1)
       (sound-test b (stateAfter b st) legal (clock-sound b st legal x))
 
 pub sized-after : (b : Board) (st : State) → Sized (stateAfter b st)
-sized-after b st = record { transfers = transfers-after b st; slots = slots-after b st }
+sized-after b st = record { transfers = transfers-after b st; slots = slots-after b st; lates = lates-after b st }
 
 -- how far a run of clocks has come after n of them, of which the last answered mask and lines and left st and d
 abbrev pub reached : ℕ → ℕ → List Line → State → Store → Run

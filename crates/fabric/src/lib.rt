@@ -210,9 +210,9 @@ pub fn clock(
             mask: 0,
         };
     }
-    let mut requests = [0u32; SLAVES];
-    fabric_check::request_masks(&targets, &mut requests);
-    let mask = fabric_cycle::cycle(board, state, &requests, lines, memory, buffer);
+    let mut holders = [0u32; SLAVES];
+    fabric_check::request_masks(&targets, &mut holders);
+    let mask = fabric_cycle::cycle(board, state, &holders, lines, memory, buffer);
     Answer {
         number: 0,
         mask: mask,
@@ -258,11 +258,11 @@ pub fn run(
     if number != 0 {
         return run_answer(number, 0, 0);
     }
-    let mut requests = [0u32; SLAVES];
-    fabric_check::request_masks(&targets, &mut requests);
+    let mut holders = [0u32; SLAVES];
+    fabric_check::request_masks(&targets, &mut holders);
     let mut left = most;
     while 0 < left {
-        let mask = fabric_cycle::cycle(board, state, &requests, lines, memory, buffer);
+        let mask = fabric_cycle::cycle(board, state, &holders, lines, memory, buffer);
         left -= 1;
         if mask != 0 {
             return run_answer(0, most - left, mask);

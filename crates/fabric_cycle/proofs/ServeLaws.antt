@@ -64,18 +64,18 @@ line-found ma sl t slot phase e o l r p = rw (o, l, r, p, e)
 
 module _ (ma : Master) (sl : Slave) (t : Transfer) (slot : Slot) {line : Line} where
   pub step-waiting : slot .waited < waitOf sl t → line ≡ lineOf ma sl t slot 1
-      → _≡_ {A = Step} (record { slot = slotWaiting slot; line = line; finished = false }) (served ma sl t slot)
+      → _≡_ {A = Step} (record { slot = slotWaiting slot; line = line; last = false }) (served ma sl t slot)
   unfolding served waits
   step-waiting h f = rw (f, lt-ltb (slot .waited) (waitOf sl t) h)
 
   module _ {n : ℕ} (h : waitOf sl t ≤ slot .waited) (f : line ≡ lineOf ma sl t slot 2) (g : n ≡ accesses ma sl t) where
     pub step-working : slot .done + 1 < n
-        → _≡_ {A = Step} (record { slot = slotAccessed slot; line = line; finished = false }) (served ma sl t slot)
+        → _≡_ {A = Step} (record { slot = slotAccessed slot; line = line; last = false }) (served ma sl t slot)
     unfolding served waits
     step-working l = rw (f, le-ltb (slot .waited) (waitOf sl t) h, lt-ltb (slot .done + 1) (accesses ma sl t) (rw g at l))
 
     pub step-ending : n ≤ slot .done + 1
-        → _≡_ {A = Step} (record { slot = slotFinished slot; line = line; finished = true }) (served ma sl t slot)
+        → _≡_ {A = Step} (record { slot = slotFinished slot; line = line; last = true }) (served ma sl t slot)
     unfolding served waits
     step-ending l = rw (f, le-ltb (slot .waited) (waitOf sl t) h, le-ltb (slot .done + 1) (accesses ma sl t) (rw g at l))
 
@@ -85,7 +85,7 @@ module _ (ma : Master) (sl : Slave) (t : Transfer) (slot : Slot) where
   from-serving e = rw e
 
   pub from-resting : slot .serving ≡ false
-      → _≡_ {A = Step} (record { slot = slot; line = noLine; finished = false }) (stepFrom ma sl t slot)
+      → _≡_ {A = Step} (record { slot = slot; line = noLine; last = false }) (stepFrom ma sl t slot)
   unfolding stepFrom
   from-resting e = rw e
 

@@ -1,11 +1,11 @@
 -- One slave's clock: what each path of the code gives.
 -- Assumes nothing.
 use mathlib.Core.Path.{_≡_, refl, sym, ap, _∙_}
-use mathlib.Core.Bool.{Bool, true, false, cond}
+use mathlib.Core.Bool.{Bool, true, false, cond, _&&_}
 use mathlib.Core.List.{List}
 use Prim.Native.Nat.{ℕ, _^_, _<_}
 use lib.ListN.{set}
-use lib.Dec.{ltb}
+use lib.Dec.{ltb, eqb}
 use borrow.Author.Tests.{ltb-true, ltb-false}
 use Rattle.common_laws.specs.Bits.{bit}
 use Rattle.common_laws.proofs.BitLaws.{bit-above}
@@ -15,6 +15,7 @@ use Rattle.description_board.specs.declared.Slave.{Slave}
 use Rattle.description_board.specs.declared.Board.{Board}
 use Rattle.description_board.specs.Records.{masterAt, slaveAt, sharesAt}
 use Rattle.fabric_accesses.specs.declared.Transfer.{Transfer}
+use Rattle.fabric_accesses.specs.Accesses.{latencyOf}
 use Rattle.fabric_arbiter.specs.declared.Arbiter.{Arbiter}
 use Rattle.fabric_arbiter.specs.declared.Winner.{Winner}
 use Rattle.fabric_arbiter.specs.declared.Winner.the-variants.{Again, First, NoOne}
@@ -33,7 +34,7 @@ use Rattle.fabric_state.specs.Control.{slotGranted}
 use Rattle.fabric_layout.specs.Code.Puts.{withSlot}
 use Rattle.fabric_cycle.specs.Code.Serving.{stepFrom, Serves, Served}
 use Rattle.fabric_cycle.proofs.ServeLaws.{from-resting, carried-resting}
-use Rattle.fabric_cycle.specs.Code.SlaveClocks.{slotAsked, stepAt, carriedAt}
+use Rattle.fabric_cycle.specs.Code.SlaveClocks.{slotAsked, stepAt, carriedAt, latencyBehind}
 use Rattle.fabric_cycle.specs.Code.SlaveClocks.{endedTransfer, stateStepped, Serving, SlaveClocked}
 
 -- ---- rule 1
@@ -103,7 +104,7 @@ module _ (b : Board) (before after : State) (s : ℕ) (x : Slot) (start : ℕ) (
   stepped-resting off e f =
       let ma = masterAt b (x .owner) in
       let t = transferAt before (x .owner) in
-      let q : _≡_ {A = Step} (record { slot = x; line = noLine; finished = false }) (stepFrom ma (slaveAt b s) t x)
+      let q : _≡_ {A = Step} (record { slot = x; line = noLine; last = false }) (stepFrom ma (slaveAt b s) t x)
       = from-resting ma (slaveAt b s) t x off in
       record {
         state = e ∙ rw (← q);
@@ -121,16 +122,18 @@ module _ (b : Board) (before : State) (s : ℕ) (x : Slot) (start : ℕ) (d : St
     (e : ma ≡ masterAt b (x .owner)) (f : sl ≡ slaveAt b s) (g : t ≡ transferAt before (x .owner)) where
   pub stepped-serving : (mid after : State) (lines shown : List Line) (y : Step) {r : ℕ} (c : Store)
       → Served ma sl t x start d c y
-      → mid ≡ withSlot before s (y .slot) → shown ≡ set lines s (y .line) → after ≡ endedTransfer mid (x .owner) (y .finished)
-      → r ≡ cond (y .finished) (2 ^ x .owner) 0 → SlaveClocked b before after s x start lines shown r d c
-  unfolding stateStepped stepAt carriedAt
-  stepped-serving mid after lines shown y c p u v w z =
+      → mid ≡ withSlot before s (y .slot) → shown ≡ set lines s (y .line) → {n : ℕ}
+      → n ≡ latencyOf sl t
+      → after ≡ endedTransfer mid (x .owner) (y .last) n → r ≡ cond (y .last && eqb n 0) (2 ^ x .owner) 0
+      → SlaveClocked b before after s x start lines shown r d c
+  unfolding stateStepped stepAt carriedAt latencyBehind
+  stepped-serving mid after lines shown y c p u v k w z =
       let q : y ≡ stepFrom (masterAt b (x .owner)) (slaveAt b s) (transferAt before (x .owner)) x
       = p .step ∙ rw (e, f, g) in
       record {
-        state = w ∙ rw (u, q);
+        state = w ∙ rw (u, q, k, f, g);
         shows = v ∙ rw q;
-        weight = z ∙ rw q;
+        weight = z ∙ rw (q, k, f, g);
         store = p .store ∙ rw (e, f, g);
       }
 

@@ -1,4 +1,4 @@
-// One clock of an accepted board in a state that breaks no rule, slave by slave (rules 4.3 to 4.9, 4.11).
+// One clock of an accepted board in a state that breaks no rule, slave by slave (rules 4.3 to 4.9, 4.11, 4.16).
 // The state is changed where it stands.
 mod slave;
 
@@ -14,13 +14,15 @@ ghost use mathlib.Core.Path.{_≡_};
 ghost use mathlib.Core.Bool.{false};
 ghost use Prim.Native.Nat.{_<_};
 ghost use lib.ListN.{length};
-ghost use Rattle.common_laws.specs.Lists.{table};
+ghost use Rattle.common_laws.specs.Lists.{table, sum};
 ghost use Rattle.description_board.specs.Records.{memoryLength};
 ghost use Rattle.fabric_bytes.specs.Bytes.{bufferLength};
+ghost use Rattle.fabric_state.specs.Records.{lateAt};
 ghost use Rattle.description_layout.specs.Layout.{boardIn};
 ghost use Rattle.fabric_layout.specs.Layout.{stateIn, linesIn};
 ghost use Rattle.fabric_check.specs.Code.Targets.{targetsIn, requestMask};
 ghost use Rattle.fabric_cycle.specs.Code.Cycles.{Passes, Clocks};
+ghost use Rattle.fabric_cycle.specs.Code.Latency.{countedAt, Counted};
 ghost use Rattle.fabric_cycle.specs.Code.SlaveClocks.{slotAsked, endedTransfer, Ready, Serving, SlaveClocked};
 
 // Rule 1 at slave s (rules 4.3 to 4.7), by a mask of who requests it: shares and beats are read once it is known whose.
@@ -51,18 +53,83 @@ fn slot_asked(board: &[u32; BOARD_NUMBERS], st: &[u32; STATE_NUMBERS], s: usize,
     }
 }
 
-// The transfer of a finished master ends (rule 4.9).
-fn end_transfer(st: &mut [u32; STATE_NUMBERS], m: usize, finished: bool)
+// Who has no latency clocks to pass, and who passes its last one in a clock (rule 4.16): bit m for master m.
+pub struct Latent {
+    pub free: u32,
+    pub finished: u32,
+}
+
+// One of its n latency clocks passes for master m (rule 4.16); with the last one its transfer ends.
+fn count_late(st: &mut [u32; STATE_NUMBERS], m: usize, n: u32)
     requires { ⌜ m < 8 ⌝ }
-    ensures { λ _. ⌜ stateIn (now (st .exit)) ≡ endedTransfer (stateIn (now (st .entry))) m finished ⌝ }
+    ensures { λ _. ⌜ stateIn (now (st .exit)) ≡ countedAt (stateIn (now (st .entry))) m n ⌝ }
 {
-    if finished {
+    if n == 0 {
+        return;
+    }
+    if n == 1 {
+        fabric_layout::put_late(st, m, 0);
         fabric_layout::put_transfer(st, m, NO_TRANSFER);
+        return;
+    }
+    fabric_layout::put_late(st, m, n - 1);
+}
+
+// The latency clocks that all masters together have to pass (rule 4.16).
+fn late_clocks(st: &[u32; STATE_NUMBERS]) -> u64
+    ensures { λ r. ⌜ r ≡ sum (lateAt (stateIn (now (st .entry)))) 8 ⌝ }
+{
+    let mut total: u64 = 0;
+    let mut m: usize = 0;
+    while m < 8 {
+        total += fabric_layout::late_at(st, m) as u64;
+        m += 1;
+    }
+    total
+}
+
+// One latency clock passes for each master that has some (rule 4.16). Mostly none has: then no master is looked at by itself.
+fn pass_latency(st: &mut [u32; STATE_NUMBERS]) -> Latent
+    ensures { λ r. ⌜ Counted (stateIn (now (st .entry))) (stateIn (now (st .exit))) 8 r ⌝ }
+{
+    if late_clocks(st) == 0 {
+        return Latent {
+            free: 255,
+            finished: 0,
+        };
+    }
+    let mut free: u32 = 0;
+    let mut finished: u32 = 0;
+    let mut m: u32 = 0;
+    while m < 8 {
+        let late = fabric_layout::late_at(st, m as usize);
+        count_late(st, m as usize, late);
+        free += fabric_check::weight_of(late == 0, m);
+        finished += fabric_check::weight_of(late == 1, m);
+        m += 1;
+    }
+    Latent {
+        free: free,
+        finished: finished,
+    }
+}
+
+// Behind the last access of master m its transfer ends (rule 4.9), or its latency begins (rule 4.16).
+fn end_transfer(st: &mut [u32; STATE_NUMBERS], m: usize, last: bool, latency: u32)
+    requires { ⌜ m < 8 ⌝ }
+    ensures { λ _. ⌜ stateIn (now (st .exit)) ≡ endedTransfer (stateIn (now (st .entry))) m last latency ⌝ }
+{
+    if last {
+        if latency == 0 {
+            fabric_layout::put_transfer(st, m, NO_TRANSFER);
+            return;
+        }
+        fabric_layout::put_late(st, m, latency);
     }
 }
 
 // Rules 2 and 3 (rules 4.8, 4.9) at slave s, which serves: `slot` is its slot after rule 1. Answers the bit of its owner, where
-// it is finished (rule 4.13).
+// it is finished (rules 4.13, 4.16).
 fn serve_at(
     board: &[u32; BOARD_NUMBERS],
     st: &mut [u32; STATE_NUMBERS],
@@ -90,8 +157,9 @@ fn serve_at(
     let line = step.line;
     fabric_layout::put_slot(st, s, next);
     fabric_layout::put_line(lines, s, line);
-    end_transfer(st, o, step.finished);
-    fabric_check::weight_of(step.finished, slot.owner)
+    let latency = fabric_accesses::latency_of(sl, t);
+    end_transfer(st, o, step.last, latency);
+    fabric_check::weight_of(step.last & (latency == 0), slot.owner)
 }
 
 // Slave s in one clock (rules 4.3 to 4.9); its span starts at `start`. Answers the bit of the master that it finishes. A slave
@@ -123,31 +191,42 @@ fn clock_slave(
     0
 }
 
-// A clock that is not refused (rules 4.1, 4.3 to 4.14), in one pass over the slaves; `requests` are the masks of who requests
-// each of them before the clock. A slave's slot is read in its own clock only, and a transfer that a slave is to serve is for
-// that slave alone: so what a slave reads in the state that is being changed stood there before the clock. Answers the mask of
-// masters finished.
+// A clock that is not refused (rules 4.1, 4.3 to 4.14, 4.16): the latency clocks, then one pass over the slaves; `holders` are the
+// masks of who holds a transfer for each of them before the clock, and of these the masters without latency clocks request it. A
+// slave's slot is read in its own clock only, and a transfer that a slave is to serve is for that slave alone, and in no latency: so
+// what a slave reads in the state that is being changed stood there before the clock. Answers the mask of masters finished.
 pub fn cycle(
     board: &[u32; BOARD_NUMBERS],
     st: &mut [u32; STATE_NUMBERS],
-    requests: &[u32; SLAVES],
+    holders: &[u32; SLAVES],
     lines: &mut [u32; LINES_NUMBERS],
     memory: &mut [u8],
     buffer: &mut [u8],
 ) -> u32
     requires { ⌜ Passes (boardIn (now board)) (stateIn (now st))
-        × (now requests ≡ table (requestMask (targetsIn (boardIn (now board)) (stateIn (now st) .transfers))) 16)
+        × (now holders ≡ table (requestMask (targetsIn (boardIn (now board)) (stateIn (now st) .transfers))) 16)
         × (length (now memory) ≡ memoryLength (boardIn (now board))) × (length (now buffer) ≡ bufferLength) ⌝ }
     ensures { λ r. ⌜ Clocks (boardIn (now (board .entry))) (stateIn (now (st .entry))) (stateIn (now (st .exit)))
         (linesIn (now (lines .exit))) r (record { memory = now (memory .entry); buffer = now (buffer .entry) })
         (record { memory = now (memory .exit); buffer = now (buffer .exit) }) ⌝ }
 {
     let count = description_layout::slave_count(board) as usize;
-    let mut finished: u32 = 0;
+    let latent = pass_latency(st);
+    let free = latent.free;
+    let mut finished: u32 = latent.finished;
     let mut start: usize = 0;
     let mut s: usize = 0;
     while s < count {
-        finished += clock_slave(board, st, s, requests[s], start, lines, memory, buffer);
+        finished += clock_slave(
+            board,
+            st,
+            s,
+            holders[s] & free,
+            start,
+            lines,
+            memory,
+            buffer,
+        );
         let sl = description_layout::slave_at(board, s);
         start += sl.span as usize;
         s += 1;

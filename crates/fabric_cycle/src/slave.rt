@@ -101,7 +101,7 @@ fn served(ma: Master, sl: Slave, t: Transfer, slot: Slot, total: u64, a: u32, wa
         return Step {
             slot: after,
             line: shown,
-            finished: false,
+            last: false,
         };
     }
     let line = line_of(ma, sl, t, slot, total, a, 2);
@@ -112,7 +112,7 @@ fn served(ma: Master, sl: Slave, t: Transfer, slot: Slot, total: u64, a: u32, wa
         return Step {
             slot: after,
             line: line,
-            finished: false,
+            last: false,
         };
     }
     after.serving = false;
@@ -120,7 +120,7 @@ fn served(ma: Master, sl: Slave, t: Transfer, slot: Slot, total: u64, a: u32, wa
     Step {
         slot: after,
         line: line,
-        finished: true,
+        last: true,
     }
 }
 

@@ -1,34 +1,41 @@
--- `fabric_cycle::cycle` meets its contract: the pass over the slaves, then the lines of no slave.
+-- `fabric_cycle::cycle` meets its contract: the latency clocks, the pass over the slaves, then the lines of no slave. The loop's
+-- invariant is said of every state that can have stood before the latency clocks passed.
 -- Assumes nothing.
-use mathlib.Core.Path.{_≡_}
-use Prim.Native.Nat.{_-_, _<_}
+use mathlib.Core.Path.{_≡_, ap, _∙_}
+use Prim.Native.Nat.{ℕ, _-_, _<_}
 use native.Mathlib.Omega.{arith}
+use lib.Bits.{bitAnd}
+use lib.Dec.{eqb}
 use lib.ListN.{getD}
 use borrow.Author.Needs.{needs}
+use Rattle.common_laws.proofs.TableLaws.{mask}
 use Rattle.description_board.specs.declared.Board.{Board}
+use Rattle.description_board.specs.Legal.{Legal}
 use Rattle.fabric_state.specs.declared.State.{State}
+use Rattle.fabric_state.specs.Records.{lateAt}
 use Rattle.description_layout.specs.Layout.{boardIn}
 use Rattle.fabric_layout.specs.Layout.{stateIn, linesIn}
-use Rattle.fabric_layout.proofs.StatePutLaws.{transfers-length, slots-length, lines-length}
+use Rattle.fabric_layout.proofs.StatePutLaws.{transfers-length, slots-length, lates-length, lines-length}
 use Rattle.fabric_check.specs.Code.Targets.{targetsIn, requestMask}
 use Rattle.fabric_check.proofs.TargetLaws.{mask-at}
-use Rattle.fabric_cycle.proofs.PassLaws.{Pass, runs-legal, pass-begin, pass-ready}
+use Rattle.fabric_cycle.proofs.PassLaws.{Pass, Begun, runs-legal, pass-begin, pass-ready}
 use Rattle.fabric_cycle.proofs.PassLaws.{pass-fits, start-fits, pass-next, pass-end}
 use Rattle.fabric_cycle.proofs.cycle.Statement.{statement}
 use Rattle.fabric_cycle.proofs.cycle.Tie as tie
 
 abbrev Inv-loop : tie.InvT-loop
-Inv-loop board st₀ requests lines₀ memory₀ buffer₀ count finished₀ start₀ s₀ st lines memory buffer finished start s =
-    Pass (boardIn board) (stateIn st₀) (stateIn st) s start (linesIn lines₀) (linesIn lines) finished
+Inv-loop board st₀ holders lines₀ memory₀ buffer₀ count free finished₀ start₀ s₀ st lines memory buffer finished start s =
+    (u : State) → Begun (boardIn board) u (stateIn st₀) holders (record { free = free; finished = finished₀ })
+    → Pass (boardIn board) u (stateIn st) s start (linesIn lines₀) (linesIn lines) finished
     (record { memory = memory₀; buffer = buffer₀ }) (record { memory = memory; buffer = buffer })
 
 abbrev μ-loop : tie.MeasureT-loop
-μ-loop board st₀ requests lines₀ memory₀ buffer₀ count finished₀ start₀ s₀ st lines memory buffer finished start s =
+μ-loop board st₀ holders lines₀ memory₀ buffer₀ count free finished₀ start₀ s₀ st lines memory buffer finished start s =
     boardIn board .«slave_count» - s
 
 -- from a pass back to the function's start, from the call of its clock back to its beginning, and from its end back to that call
 abbrev start : tie.In-loop Inv-loop μ-loop → tie.Start Inv-loop μ-loop
-start c = c .before .before .before .before .before
+start c = c .before .before .before .before .before .before .before
 
 abbrev stepped : tie.After-struct-known Inv-loop μ-loop → tie.After-clock-slave Inv-loop μ-loop
 stepped c = c .before .before .before .before .before .before
@@ -42,17 +49,40 @@ board c = boardIn (c .args .board .now)
 abbrev before : tie.Start Inv-loop μ-loop → State
 before c = stateIn (c .args .st .now)
 
--- the slave of a pass is one of the board, and its mask is that of its requests
+-- the slave of a pass is one of the board
 slave-in : (c : tie.In-loop Inv-loop μ-loop) → c .before .loop .s < board (start c) .«slave_count»
-slave-in c = omega (arith, c .loop-test .taken, c .before .before .slave-count .ensures)
+slave-in c = omega (arith, c .loop-test .taken, c .before .before .before .before .slave-count .ensures)
+
+legal : (c : tie.Start Inv-loop μ-loop) → Legal (board c)
+legal c = runs-legal _ _ (transfers-length _) (slots-length _) (lates-length _) (c .pre .0)
 
 place-in : (c : tie.In-loop Inv-loop μ-loop) → c .before .loop .s < 16
-place-in c = omega (arith, slave-in c, runs-legal _ _ (transfers-length _) (slots-length _) (start c .pre .0) .fewSlaves)
+place-in c = omega (arith, slave-in c, legal (start c) .fewSlaves)
 
-mask-is : (c : tie.In-loop Inv-loop μ-loop)
-    → getD (start c .args .requests .now) (c .before .loop .s) 0
-    ≡ requestMask (targetsIn (board (start c)) (before (start c) .transfers)) (c .before .loop .s)
-mask-is c = mask-at _ _ (place-in c) (start c .pre .1)
+-- what stood before the clock is what the function was handed
+begun : (c : tie.After-pass-latency Inv-loop μ-loop) → let o = c .before .before .before .before .before in
+    Begun (board o) (before o) (stateIn (c .pass-latency .last .0)) (o .args .holders .now) (c .pass-latency .result)
+begun c =
+    let o = c .before .before .before .before .before in
+    record {
+      passes = o .pre .0;
+      transfers = transfers-length _;
+      slots = slots-length _;
+      lates = lates-length _;
+      counted = c .pass-latency .ensures;
+      masks = o .pre .1;
+    }
+
+-- the mask of a slave's requests
+module _ (c : tie.In-loop Inv-loop μ-loop) (u : State)
+    (w : Begun (board (start c)) u (stateIn (c .before .before .pass-latency .last .0)) (start c .args .holders .now)
+    (c .before .before .pass-latency .result)) where
+  mask-is : bitAnd (getD (start c .args .holders .now) (c .before .loop .s) 0) (c .before .before .pass-latency .result .free)
+      ≡ bitAnd (requestMask (targetsIn (board (start c)) (u .transfers)) (c .before .loop .s))
+      (mask (λ m. eqb (lateAt u m) 0) 8)
+  mask-is =
+      ap (λ (x : ℕ). bitAnd x (c .before .before .pass-latency .result .free)) (mask-at _ _ (place-in c) (w .masks))
+      ∙ ap (bitAnd (requestMask (targetsIn (board (start c)) (u .transfers)) (c .before .loop .s))) (w .counted .free)
 
 slave-count-requires : tie.Need-slave-count-requires Inv-loop μ-loop
 slave-count-requires c κs = search needs
@@ -60,8 +90,12 @@ slave-count-requires c κs = search needs
 cast-count : tie.Need-cast-count Inv-loop μ-loop
 cast-count c = search needs
 
+pass-latency-requires : tie.Need-pass-latency-requires Inv-loop μ-loop
+pass-latency-requires c κs = search needs
+
 loop-holds : tie.Need-loop-holds Inv-loop μ-loop
-loop-holds c = pass-begin _ _ _ _ (transfers-length _) (slots-length _) (lines-length _)
+loop-holds c u w =
+    pass-begin _ _ (w .transfers) (w .slots) (w .lates) (w .passes) (w .counted) _ _ (lines-length _)
 
 mul-clock-slave : tie.Need-mul-clock-slave Inv-loop μ-loop
 mul-clock-slave c = search needs
@@ -72,16 +106,18 @@ element-copy-out-clock-slave c = place-in (c .before)
 clock-slave-requires : tie.Need-clock-slave-requires Inv-loop μ-loop
 clock-slave-requires c κs = let a = top c in
     let o = start a in
-    pass-ready _ _ (transfers-length _) (slots-length _) (o .pre .0) _ (slave-in a) _ _ (a .before .loop .inv) _ (mask-is a)
-    (o .pre .2) (o .pre .3)
+    let w = begun (a .before .before) in
+    pass-ready _ _ (w .transfers) (w .slots) (w .lates) (w .passes) _ (slave-in a) _ _ (a .before .loop .inv _ w) _
+    (mask-is a _ w) (o .pre .2) (o .pre .3)
 
 add-finished : tie.Need-add-finished Inv-loop μ-loop
 add-finished c = let t = c .before .before .before .before in
     let a = top (t .before) in
+    let w = begun (a .before .before) in
     omega (
       arith,
-      pass-fits _ _ (transfers-length _) (slots-length _) (start a .pre .0) _ (slave-in a) _ _ (a .before .loop .inv) _
-          (mask-is a) _ (t .clock-slave .ensures),
+      pass-fits _ _ (w .transfers) (w .slots) (w .lates) (w .passes) _ (slave-in a) _ _ (a .before .loop .inv _ w) _
+          (mask-is a _ w) _ (t .clock-slave .ensures),
     )
 
 slave-at-requires : tie.Need-slave-at-requires Inv-loop μ-loop
@@ -92,10 +128,11 @@ cast-start c = search needs
 
 add-start : tie.Need-add-start Inv-loop μ-loop
 add-start c = let a = top (stepped c .before) in
+    let w = begun (a .before .before) in
     omega (
       arith,
-      start-fits _ _ (transfers-length _) (slots-length _) (start a .pre .0) _ (slave-in a) _ _ (a .before .loop .inv) _
-          (mask-is a) (c .before .slave-at .ensures),
+      start-fits _ _ (w .transfers) (w .slots) (w .lates) (w .passes) _ (slave-in a) _ _ (a .before .loop .inv _ w) _
+          (mask-is a _ w) (c .before .slave-at .ensures),
     )
 
 add-s : tie.Need-add-s Inv-loop μ-loop
@@ -105,27 +142,29 @@ loop-less : tie.Need-loop-less Inv-loop μ-loop
 loop-less c = omega (arith, slave-in (top (stepped c .before)))
 
 loop-again : tie.Need-loop-again Inv-loop μ-loop
-loop-again c = let t = stepped c in
+loop-again c u w = let t = stepped c in
     let a = top (t .before) in
     let k = t .clock-slave .kept .1 .1 .1 .1 .1 .1 in
-    pass-next _ _ (transfers-length _) (slots-length _) (start a .pre .0) _ (slave-in a) _ _ (a .before .loop .inv) _ (mask-is a)
+    pass-next _ _ (w .transfers) (w .slots) (w .lates) (w .passes) _ (slave-in a) _ _ (a .before .loop .inv u w) _ (mask-is a u w)
     _ (t .clock-slave .ensures) (c .before .slave-at .ensures) (k .0) (k .1 .0)
 
 first-lines-requires : tie.Need-first-lines-requires Inv-loop μ-loop
 first-lines-requires c κs = search needs
 
 same-length : tie.Need-same-length Inv-loop μ-loop
-same-length c = c .before .before .before .loop .inv .memory
+same-length c = let a = c .before .before .before in a .loop .inv _ (begun (a .before)) .memory
 
 same-length-2 : tie.Need-same-length-2 Inv-loop μ-loop
-same-length-2 c = c .before .before .before .loop .inv .buffer
+same-length-2 c = let a = c .before .before .before in a .loop .inv _ (begun (a .before)) .buffer
 
 returns : tie.Need-returns Inv-loop μ-loop
 returns c = let a = c .before .before .before in
-    let n = a .before .slave-count .ensures in
-    let b = boardIn (a .before .before .before .before .args .board .now) in
-    let e : a .loop .s ≡ b .«slave_count» = omega (arith, n, c .before .before .loop-test .left, a .loop .inv .within) in
-    pass-end _ _ _ _ _ _ _ _ _ _ (a .loop .inv) e n (c .first-lines .ensures)
+    let w = begun (a .before) in
+    let p = a .loop .inv _ w in
+    let n = a .before .before .before .slave-count .ensures in
+    let b = boardIn (a .before .before .before .before .before .before .args .board .now) in
+    let e : a .loop .s ≡ b .«slave_count» = omega (arith, n, c .before .before .loop-test .left, p .within) in
+    pass-end _ _ (w .transfers) (w .slots) (w .lates) (w .passes) _ _ _ _ _ _ _ _ p e n (c .first-lines .ensures)
 
 pub cycle-spec : {M : Type 1} → statement M
 cycle-spec =
@@ -135,6 +174,7 @@ cycle-spec =
     μ-loop
     slave-count-requires
     cast-count
+    pass-latency-requires
     loop-holds
     mul-clock-slave
     element-copy-out-clock-slave

@@ -1,6 +1,7 @@
--- `fabric_cycle::end_transfer` meets its contract: a transfer ended, or kept.
+-- `fabric_cycle::end_transfer` meets its contract: a transfer ended, one whose latency begins, or one kept.
 -- Assumes nothing.
 use mathlib.Core.Path.{_∙_}
+use borrow.Author.Tests.{eq-eqb, ne-eqb}
 use borrow.Author.Needs.{needs}
 use Rattle.fabric_cycle.specs.Code.SlaveClocks.{endedTransfer}
 use Rattle.fabric_cycle.proofs.end_transfer.Statement.{statement}
@@ -11,11 +12,18 @@ put-transfer-requires c κs = search needs
 
 returns : tie.Need-returns
 unfolding endedTransfer
-returns c = c .put-transfer .ensures ∙ rw (c .before .before .if1 .taken)
+returns c = let test = c .before .before in c .put-transfer .ensures ∙ rw (test .before .if1 .taken, eq-eqb _ 0 (test .if2 .taken))
+
+put-late-requires : tie.Need-put-late-requires
+put-late-requires c κs = search needs
 
 returns-2 : tie.Need-returns-2
 unfolding endedTransfer
-returns-2 c = rw (c .if1 .left)
+returns-2 c = let test = c .before .before in c .put-late .ensures ∙ rw (test .before .if1 .taken, ne-eqb _ 0 (test .if2 .left))
+
+returns-3 : tie.Need-returns-3
+unfolding endedTransfer
+returns-3 c = rw (c .if1 .left)
 
 pub end-transfer-spec : {M : Type 1} → statement M
-end-transfer-spec = tie.close (tie.spec put-transfer-requires returns returns-2)
+end-transfer-spec = tie.close (tie.spec put-transfer-requires returns put-late-requires returns-2 returns-3)

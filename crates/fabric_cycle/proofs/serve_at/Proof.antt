@@ -13,7 +13,7 @@ abbrev stepped : tie.After-put-slot-arg → tie.After-serve
 stepped c = c .before .before .before .before .before .before .before
 
 abbrev put : tie.After-end-transfer → tie.After-put-slot
-put c = c .before .before .before .before
+put c = c .before .before .before .before .before
 
 cast-o : tie.Need-cast-o
 cast-o c = search needs
@@ -39,11 +39,14 @@ put-slot-requires c κs = start (stepped c) .pre .slave
 put-line-requires : tie.Need-put-line-requires
 put-line-requires c κs = start (stepped (c .before .before)) .pre .slave
 
+latency-of-requires : tie.Need-latency-of-requires
+latency-of-requires c κs = search needs
+
 end-transfer-requires : tie.Need-end-transfer-requires
-end-transfer-requires c κs = start (stepped (c .before .before .before .before)) .pre .owner
+end-transfer-requires c κs = start (stepped (c .before .before .before .before .before)) .pre .owner
 
 weight-of-requires : tie.Need-weight-of-requires
-weight-of-requires c κs = start (stepped (put c .before)) .pre .owner
+weight-of-requires c κs = start (stepped (put (c .before) .before)) .pre .owner
 
 same-length : tie.Need-same-length
 same-length c = search needs
@@ -53,12 +56,14 @@ same-length-2 c = search needs
 
 returns : tie.Need-returns
 returns c =
-    let slot = put (c .before) in
+    let ended = c .before .before in
+    let slot = put ended in
+    let read = ended .before .before in
     let step = stepped (slot .before) in
     let t = step .before .before .before in
     stepped-serving _ _ _ _ _ _ (t .before .before .before .master-at .ensures) (t .before .before .slave-at .ensures)
     (t .transfer-at .ensures) _ _ _ _ _ _ (step .serve .ensures) (slot .put-slot .ensures)
-    (c .before .before .before .put-line .ensures) (c .before .end-transfer .ensures) (c .weight-of .ensures)
+    (read .before .put-line .ensures) (read .latency-of .ensures) (ended .end-transfer .ensures) (c .weight-of .ensures)
 
 pub serve-at-spec : {M : Type 1} → statement M
 serve-at-spec =
@@ -71,6 +76,7 @@ serve-at-spec =
     serve-requires
     put-slot-requires
     put-line-requires
+    latency-of-requires
     end-transfer-requires
     weight-of-requires
     same-length

@@ -33,7 +33,7 @@ pub record Placed (ma : Master) (sl : Slave) (t : Transfer) (k a : ℕ) : Type 0
 -- rules 2 and 3 (rules 4.8, 4.9) after rule 1: of the owner, the slave and the owner's transfer
 unfoldable pub stepFrom : Master → Slave → Transfer → Slot → Step
 stepFrom ma sl t slot =
-    cond (slot .serving) (served ma sl t slot) (record { slot = slot; line = noLine; finished = false })
+    cond (slot .serving) (served ma sl t slot) (record { slot = slot; line = noLine; last = false })
 
 -- the bytes of the same slave, whose span starts at `start`
 unfoldable pub carriedFrom : Master → Slave → Transfer → Slot → ℕ → Store → Store

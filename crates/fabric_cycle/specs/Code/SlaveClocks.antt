@@ -2,14 +2,15 @@
 -- What it is handed, and what it leaves, from what stands in that state.
 -- Assumes nothing.
 use mathlib.Core.Path.{_≡_}
-use mathlib.Core.Bool.{Bool, true, cond}
+use mathlib.Core.Bool.{Bool, true, cond, _&&_}
 use mathlib.Core.List.{List}
 use Prim.Native.Nat.{ℕ, _^_, _<_}
+use lib.Dec.{eqb}
 use lib.ListN.{set}
 use Rattle.common_laws.specs.Bits.{bit}
 use Rattle.description_board.specs.declared.Board.{Board}
 use Rattle.description_board.specs.Records.{masterAt, slaveAt, sharesAt}
-use Rattle.fabric_accesses.specs.Accesses.{noTransfer}
+use Rattle.fabric_accesses.specs.Accesses.{noTransfer, latencyOf}
 use Rattle.fabric_arbiter.specs.Granting.{granted}
 use Rattle.fabric_bytes.specs.Bytes.{Store}
 use Rattle.fabric_state.specs.declared.Slot.{Slot}
@@ -19,7 +20,7 @@ use Rattle.fabric_state.specs.declared.Step.{Step}
 use Rattle.fabric_state.specs.Records.{transferAt, slotAt, arbiterOf}
 use Rattle.fabric_state.specs.Posting.{withTransfer}
 use Rattle.fabric_state.specs.Control.{slotGranted}
-use Rattle.fabric_layout.specs.Code.Puts.{withSlot}
+use Rattle.fabric_layout.specs.Code.Puts.{withSlot, withLate}
 use Rattle.fabric_cycle.specs.Code.Serving.{stepFrom, carriedFrom, Serves}
 
 -- slave s after rule 1 (rules 4.3 to 4.7), by a mask of who requests it
@@ -37,13 +38,19 @@ stepAt b st s x = stepFrom (masterAt b (x .owner)) (slaveAt b s) (transferAt st 
 unfoldable pub carriedAt : Board → State → ℕ → Slot → ℕ → Store → Store
 carriedAt b st s x start d = carriedFrom (masterAt b (x .owner)) (slaveAt b s) (transferAt st (x .owner)) x start d
 
--- the state with the transfer of master m ended where it is finished (rule 4.9)
-unfoldable pub endedTransfer : State → ℕ → Bool → State
-endedTransfer st m finished = cond finished (withTransfer st m noTransfer) st
+-- its latency (rule 4.16)
+unfoldable pub latencyBehind : Board → State → ℕ → Slot → ℕ
+latencyBehind b st s x = latencyOf (slaveAt b s) (transferAt st (x .owner))
+
+-- the state behind an access of master m (rules 4.9, 4.16): where it is the last one, the transfer ends, or its latency begins
+unfoldable pub endedTransfer : State → ℕ → Bool → ℕ → State
+endedTransfer st m last latency =
+    cond last (cond (eqb latency 0) (withTransfer st m noTransfer) (withLate st m latency)) st
 
 -- the state with slave s after its step from x
 unfoldable pub stateStepped : Board → State → ℕ → Slot → State
-stateStepped b st s x = endedTransfer (withSlot st s (stepAt b st s x .slot)) (x .owner) (stepAt b st s x .finished)
+stateStepped b st s x =
+    endedTransfer (withSlot st s (stepAt b st s x .slot)) (x .owner) (stepAt b st s x .last) (latencyBehind b st s x)
 
 -- a slave that serves after rule 1
 pub record Serving (b : Board) (st : State) (s : ℕ) (x : Slot) (start : ℕ) (d : Store) : Type 0 where
@@ -62,5 +69,5 @@ pub record SlaveClocked (b : Board) (before after : State) (s : ℕ) (x : Slot) 
     (d e : Store) : Type 0 where
   pub state : after ≡ stateStepped b before s x
   pub shows : shown ≡ set lines s (stepAt b before s x .line)
-  pub weight : r ≡ cond (stepAt b before s x .finished) (2 ^ x .owner) 0
+  pub weight : r ≡ cond (stepAt b before s x .last && eqb (latencyBehind b before s x) 0) (2 ^ x .owner) 0
   pub store : e ≡ carriedAt b before s x start d
