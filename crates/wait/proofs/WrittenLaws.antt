@@ -18,7 +18,7 @@ use Rattle.description.specs.declared.Parsed.{Parsed}
 use Rattle.description.specs.Reader.{readText}
 use Rattle.description.specs.Writer.{writeText}
 use Rattle.description.proofs.Trip.{read-written}
-use Rattle.wait_turns.specs.Waits.{longestAccess, otherTurn, turnsOf, quotedWait, serveOf}
+use Rattle.wait_turns.specs.Waits.{longestAccess, singleAccess, otherTurn, turnsOf, quotedWait, serveOf}
 use Rattle.wait.specs.declared.Quoted.{Quoted}
 use Rattle.wait.specs.Answers.{pairRefusal}
 use Rattle.wait.specs.Calls.{quoteRefusal, quoteOf}
@@ -42,9 +42,9 @@ module _ (b : Board) (legal : Legal b) where
       go false e = refl
 
   module _ (s : ℕ) (hs : s < b .«slave_count») where
-    turn-trimmed : (v m k : ℕ) → k < b .«master_count» → otherTurn (trimmed b) v m s k ≡ otherTurn b v m s k
+    turn-trimmed : (a v m k : ℕ) → k < b .«master_count» → otherTurn (trimmed b) a v m s k ≡ otherTurn b a v m s k
     unfolding otherTurn
-    turn-trimmed v m k hk =
+    turn-trimmed a v m k hk =
         rw (
           connected-trimmed k s hk,
           trimmed-master b (legal .fewMasters) k hk,
@@ -56,7 +56,7 @@ module _ (b : Board) (legal : Legal b) where
     unfolding quotedWait turnsOf trimmed
     wait-trimmed m =
         rw (trimmed-slave b (legal .fewSlaves) s hs)
-        (sum-same _ _ (b .«master_count») (turn-trimmed (longestAccess (slaveAt b s)) m))
+        (sum-same _ _ (b .«master_count») (turn-trimmed (singleAccess (slaveAt b s)) (longestAccess (slaveAt b s)) m))
 
     pub serve-trimmed : (m : ℕ) → m < b .«master_count» → serveOf (trimmed b) m s ≡ serveOf b m s
     unfolding serveOf

@@ -1,4 +1,4 @@
--- The lines of the table: one pair's, and line after line; v and turns of slave after slave.
+-- The lines of the table: one pair's, and line after line; what is kept of slave after slave.
 -- Assumes nothing.
 use mathlib.Core.Path.{_≡_}
 use mathlib.Core.List.{List, []}
@@ -64,20 +64,36 @@ module _ (b : Board) where
   lines-room m {s = s} x h l = piece-room (pairLine b m) s x (b .«slave_count») h l
 
   -- no slave yet, and one more
-  pub summed-none : {longest sums : List ℕ} → Summed b 0 longest sums
+  pub summed-none : {singles longest sums : List ℕ} → Summed b 0 singles longest sums
   summed-none = record { at = λ s h. absurd (omega arith) }
 
-  pub summed-next : (s : ℕ) {longest sums : List ℕ} {t : Turns} → Summed b s longest sums → t ≡ slaveTurns b s
-      → s < length longest → s < length sums → Summed b (s + 1) (set longest s (t .v)) (set sums s (t .sum))
-  summed-next s {longest} {sums} {t} x e h l = record { at = λ k d. go k d (ℕ-discrete k s) }
+  pub summed-next : (s : ℕ) {singles longest sums : List ℕ} {t : Turns} → Summed b s singles longest sums → t ≡ slaveTurns b s
+      → s < length singles → s < length longest → s < length sums
+      → Summed b (s + 1) (set singles s (t .single)) (set longest s (t .v)) (set sums s (t .sum))
+  summed-next s {singles} {longest} {sums} {t} x e g h l = record { at = λ k d. go k d (ℕ-discrete k s) }
     where
       go : (k : ℕ) → k < s + 1 → Dec (k ≡ s)
-          → record { v = getD (set longest s (t .v)) k 0; sum = getD (set sums s (t .sum)) k 0 } ≡ slaveTurns b k
-      go k d (yes q) = rw (q, getD-set-same longest s (t .v) 0 h, getD-set-same sums s (t .sum) 0 l) e
+          → record {
+            single = getD (set singles s (t .single)) k 0;
+            v = getD (set longest s (t .v)) k 0;
+            sum = getD (set sums s (t .sum)) k 0;
+          } ≡ slaveTurns b k
+      go k d (yes q) =
+          rw (
+            q,
+            getD-set-same singles s (t .single) 0 g,
+            getD-set-same longest s (t .v) 0 h,
+            getD-set-same sums s (t .sum) 0 l,
+          )
+          e
       go k d (no q) =
-          rw (getD-set-other longest s k (t .v) 0 q, getD-set-other sums s k (t .sum) 0 q)
+          rw (
+            getD-set-other singles s k (t .single) 0 q,
+            getD-set-other longest s k (t .v) 0 q,
+            getD-set-other sums s k (t .sum) 0 q,
+          )
           (x .at k (omega arith))
 
-  pub summed-all : {longest sums : List ℕ} {s : ℕ} → Summed b s longest sums → s ≡ b .«slave_count»
-      → Summed b (b .«slave_count») longest sums
+  pub summed-all : {singles longest sums : List ℕ} {s : ℕ} → Summed b s singles longest sums → s ≡ b .«slave_count»
+      → Summed b (b .«slave_count») singles longest sums
   summed-all x e = rw e at x

@@ -10,10 +10,10 @@ use Rattle.description_board.specs.declared.Board.{Board}
 unfoldable pub longestTable : ℕ
 longestTable = 24 + 8 * (10 * 19 + 6 * 20)
 
--- an accepted board whose table has so many: the widest masters with the longest bursts and the most shares, at the narrowest
--- slaves with bus sizing and the longest waits
-unfoldable pub largest : Board
-largest = record {
+-- an accepted board whose table has so many, and whose figures are the largest: the widest masters with the longest bursts and the
+-- most shares, at the narrowest slaves with bus sizing and the longest waits, whatever their latency
+unfoldable pub largestWith : ℕ → Board
+largestWith clocks = record {
   «master_count» = 8;
   «slave_count» = 16;
   masters = replicate 8 (record { width = 8; burst = 64 });
@@ -25,6 +25,10 @@ largest = record {
     «read_wait» = 255;
     «write_wait» = 255;
     native = 0;
+    latency = clocks;
   }) 16;
   shares = replicate 128 100;
 }
+
+abbrev pub largest : Board
+largest = largestWith 0

@@ -52,18 +52,27 @@ fn put_pair(
     put_quote(&mut *out, at, m, s, q)
 }
 
-// v and the turns of each slave (rules 5.1, 5.7), once for all masters. What stands behind the board's slaves stays.
-fn add_turns(board: &[u32; BOARD_NUMBERS], longest: &mut [u32; SLAVES], sums: &mut [u64; SLAVES])
-    requires { ⌜ Legal (boardIn (now board)) × (length (now longest) ≡ 16) × (length (now sums) ≡ 16) ⌝ }
+// The clocks of a single's access, v and the turns of each slave (rules 5.1, 5.6, 5.7), once for all masters. What stands behind the
+// board's slaves stays.
+fn add_turns(
+    board: &[u32; BOARD_NUMBERS],
+    singles: &mut [u32; SLAVES],
+    longest: &mut [u32; SLAVES],
+    sums: &mut [u64; SLAVES],
+)
+    requires { ⌜ Legal (boardIn (now board)) × (length (now singles) ≡ 16) × (length (now longest) ≡ 16)
+        × (length (now sums) ≡ 16) ⌝ }
     ensures { λ _. ⌜ Summed (boardIn (now (board .entry))) (boardIn (now (board .entry)) .«slave_count»)
-        (now (longest .exit)) (now (sums .exit)) ⌝ }
+        (now (singles .exit)) (now (longest .exit)) (now (sums .exit)) ⌝ }
 {
     let n = description_layout::slave_count(board);
     let mut s: u32 = 0;
     while s < n {
         let t = wait_turns::slave_turns(board, s);
+        let single = t.single;
         let v = t.v;
         let sum = t.sum;
+        singles[s as usize] = single;
         longest[s as usize] = v;
         sums[s as usize] = sum;
         s += 1;
@@ -75,12 +84,13 @@ fn put_master_lines(
     out: &mut [u8],
     at: usize,
     board: &[u32; BOARD_NUMBERS],
+    singles: &[u32; SLAVES],
     longest: &[u32; SLAVES],
     sums: &[u64; SLAVES],
     m: u32,
 ) -> usize
     requires { ⌜ Legal (boardIn (now board)) × (m < boardIn (now board) .«master_count») ⌝ }
-    requires { ⌜ Summed (boardIn (now board)) (boardIn (now board) .«slave_count») (now longest) (now sums) ⌝ }
+    requires { ⌜ Summed (boardIn (now board)) (boardIn (now board) .«slave_count») (now singles) (now longest) (now sums) ⌝ }
     requires { ⌜ at + length (masterLines (boardIn (now board)) m) ≤ length (now out) ⌝ }
     ensures { λ r. ⌜ Put (now (out .entry)) at (masterLines (boardIn (now (board .entry))) m) (now (out .exit)) r ⌝ }
 {
@@ -88,9 +98,14 @@ fn put_master_lines(
     let mut next = at;
     let mut s: u32 = 0;
     while s < n {
+        let single = singles[s as usize];
         let v = longest[s as usize];
         let sum = sums[s as usize];
-        let t = Turns { v: v, sum: sum };
+        let t = Turns {
+            single: single,
+            v: v,
+            sum: sum,
+        };
         next = put_pair(&mut *out, next, board, t, m, s);
         s += 1;
     }
@@ -103,14 +118,15 @@ fn put_pairs(out: &mut [u8], at: usize, board: &[u32; BOARD_NUMBERS]) -> usize
     requires { ⌜ at + length (pairLines (boardIn (now board))) ≤ length (now out) ⌝ }
     ensures { λ r. ⌜ Put (now (out .entry)) at (pairLines (boardIn (now (board .entry)))) (now (out .exit)) r ⌝ }
 {
+    let mut singles = [0u32; SLAVES];
     let mut longest = [0u32; SLAVES];
     let mut sums = [0u64; SLAVES];
-    add_turns(board, &mut longest, &mut sums);
+    add_turns(board, &mut singles, &mut longest, &mut sums);
     let count = description_layout::master_count(board);
     let mut next = at;
     let mut m: u32 = 0;
     while m < count {
-        next = put_master_lines(&mut *out, next, board, &longest, &sums, m);
+        next = put_master_lines(&mut *out, next, board, &singles, &longest, &sums, m);
         m += 1;
     }
     next

@@ -17,9 +17,10 @@ use Rattle.description_board.specs.Legal.{LegalMaster, Legal}
 use Rattle.description_board.proofs.RuleLaws.{width-bound, burst-bound}
 use Rattle.fabric_accesses.specs.Alignment.{ratio}
 use Rattle.fabric_accesses.proofs.AlignmentLaws.{ratio-le}
-use Rattle.wait_turns.specs.Waits.{longestAccess, mostBeats, single, serve, turn, quotedWait, serveOf}
+use Rattle.wait_turns.specs.Waits.{longestAccess, singleAccess, mostBeats, single, serve, turn, quotedWait, serveOf}
 use Rattle.wait_turns.specs.Sums.{turnAt, turnsAt, Once}
 use Rattle.wait_turns.proofs.SumLaws.{sum-le}
+use Rattle.wait_turns.proofs.AccessLaws.{single-within}
 use Rattle.wait_turns.proofs.OwnTurn.{others-and-own}
 
 -- a legal master: a width is at most 8, a burst 64
@@ -41,16 +42,21 @@ module _ (ma : Master) (legal : LegalMaster ma) (sl : Slave) where
     unfolding serve
     serve-le = product-le _ _ (64 * 8) l accesses-small hv
 
-    -- with at most n singles before the longest transfer
-    pub turn-le : (n shares : ℕ) → shares ≤ n + 1 → turn ma sl shares v ≤ n * (8 * l) + 64 * 8 * l
-    unfolding turn
-    turn-le n shares h = add-le-add (product-le _ _ n (8 * l) (omega arith) single-le) serve-le
+  -- with at most n singles before the longest transfer
+  pub turn-le : (a v l : ℕ) → a ≤ l → v ≤ l → (n shares : ℕ) → shares ≤ n + 1
+      → turn ma sl shares a v ≤ n * (8 * l) + 64 * 8 * l
+  unfolding turn
+  turn-le a v l ha hv n shares h =
+      add-le-add (product-le _ _ n (8 * l) (omega arith) (single-le a l ha)) (serve-le v l hv)
 
 -- a legal board: an access lasts at most 256 clocks, a pair has at most 100 shares
 module _ (b : Board) (legal : Legal b) (s : ℕ) (hs : s < b .«slave_count») where
-  v-le : longestAccess (slaveAt b s) ≤ 256
+  pub v-le : longestAccess (slaveAt b s) ≤ 256
   unfolding longestAccess
   v-le = let l = legal .slave s hs in omega (arith, l .readWait, l .writeWait)
+
+  pub a-le : singleAccess (slaveAt b s) ≤ 256
+  a-le = omega (arith, single-within (slaveAt b s), v-le)
 
   pub shares-le : (k : ℕ) → k < b .«master_count» → sharesAt b k s ≤ 100
   shares-le k h = go (eqb (sharesAt b k s) 0) refl
@@ -62,26 +68,32 @@ module _ (b : Board) (legal : Legal b) (s : ℕ) (hs : s < b .«slave_count») w
           omega (arith, legal .shares (16 * k + s) i (eqb-false _ _ e) .0)
 
   -- for accesses of at most l clocks: one turn, and the first k
-  module _ (v l : ℕ) (hv : v ≤ l) where
-    at-le : (k : ℕ) → k < b .«master_count» → turnAt b v s k ≤ 99 * (8 * l) + 64 * 8 * l
+  module _ (a v l : ℕ) (ha : a ≤ l) (hv : v ≤ l) where
+    at-le : (k : ℕ) → k < b .«master_count» → turnAt b a v s k ≤ 99 * (8 * l) + 64 * 8 * l
     unfolding turnAt
     at-le k h = go (connected b k s)
       where
-        go : (t : Bool) → cond t (turn (masterAt b k) (slaveAt b s) (sharesAt b k s) v) 0 ≤ 99 * (8 * l) + 64 * 8 * l
+        go : (t : Bool) → cond t (turn (masterAt b k) (slaveAt b s) (sharesAt b k s) a v) 0 ≤ 99 * (8 * l) + 64 * 8 * l
         go true =
-            turn-le (masterAt b k) (legal .master k h) (slaveAt b s) v l hv 99 (sharesAt b k s) (omega (arith, shares-le k h))
+            turn-le (masterAt b k) (legal .master k h) (slaveAt b s) a v l ha hv 99 (sharesAt b k s) (omega (arith, shares-le k h))
         go false = omega arith
 
-    pub turns-le : (k : ℕ) → k ≤ b .«master_count» → sum (turnAt b v s) k ≤ k * (99 * (8 * l) + 64 * 8 * l)
-    turns-le k h = sum-le (turnAt b v s) (99 * (8 * l) + 64 * 8 * l) k (λ i d. at-le i (omega arith))
+    pub turns-le : (k : ℕ) → k ≤ b .«master_count» → sum (turnAt b a v s) k ≤ k * (99 * (8 * l) + 64 * 8 * l)
+    turns-le k h = sum-le (turnAt b a v s) (99 * (8 * l) + 64 * 8 * l) k (λ i d. at-le i (omega arith))
 
   module _ (m : ℕ) (hm : m < b .«master_count») where
     -- a wait has at most 7 digits
     pub wait-small : quotedWait b m s < 10 ^ 7
     unfolding quotedWait turnsAt
     wait-small =
+        let a = singleAccess (slaveAt b s) in
         let v = longestAccess (slaveAt b s) in
-        omega (arith, others-and-own b v s m hm, turns-le v 256 v-le (b .«master_count») (omega arith), legal .fewMasters)
+        omega (
+          arith,
+          others-and-own b a v s m hm,
+          turns-le a v 256 a-le v-le (b .«master_count») (omega arith),
+          legal .fewMasters,
+        )
 
     -- a serve 6
     pub serve-small : serveOf b m s < 10 ^ 6
@@ -93,8 +105,12 @@ module _ (b : Board) (legal : Legal b) (s : ℕ) (hs : s < b .«slave_count») w
   pub turns-once : Once b s
   unfolding quotedWait turnsAt
   turns-once = record {
-    fits = λ v h.
-        omega (arith, turns-le v 4294967296 (omega arith) (b .«master_count») (omega arith), legal .fewMasters);
-    others = λ v. others-and-own b v s;
-    waits = others-and-own b (longestAccess (slaveAt b s)) s;
+    fits = λ a v g h.
+        omega (
+          arith,
+          turns-le a v 4294967296 (omega arith) (omega arith) (b .«master_count») (omega arith),
+          legal .fewMasters,
+        );
+    others = λ a v. others-and-own b a v s;
+    waits = others-and-own b (singleAccess (slaveAt b s)) (longestAccess (slaveAt b s)) s;
   }

@@ -1,3 +1,4 @@
 pub mod Waits
 pub mod Sums
+pub mod Largest
 pub mod Code

@@ -6,7 +6,7 @@ ghost use mathlib.Core.Path.{_≡_};
 ghost use Prim.Native.Nat.{_≤_, _<_};
 ghost use Rattle.description_board.specs.Legal.{LegalMaster, LegalSlave, Legal};
 ghost use Rattle.description_layout.specs.Layout.{boardIn};
-ghost use Rattle.wait_turns.specs.Waits.{longestAccess, mostBeats, single, serve, turn};
+ghost use Rattle.wait_turns.specs.Waits.{longestAccess, singleAccess, mostBeats, single, serve, turn};
 ghost use Rattle.wait_turns.specs.Sums.{turnAt, turnsAt};
 ghost use Rattle.wait_turns.specs.Code.Pairs.{LegalBoth, SlaveOf, PairOf, figuresOf, slaveTurns};
 
@@ -16,8 +16,9 @@ pub struct Quote {
     pub serve: u64,
 }
 
-// v of a slave, and the turns of all masters there (rules 5.1, 5.7).
+// The clocks of a single's access at a slave, its v, and the turns of all masters there (rules 5.1, 5.6, 5.7).
 pub struct Turns {
+    pub single: u32,
     pub v: u32,
     pub sum: u64,
 }
@@ -33,6 +34,18 @@ pub fn longest_access(sl: Slave) -> u32
     1 + sl.read_wait
 }
 
+// The clocks of one access of a single that is not the last transfer of a turn (rule 5.6). Where the slave has latency a read ends
+// its master's turn, so that such a single is a write.
+pub fn single_access(sl: Slave) -> u32
+    requires { ⌜ LegalSlave sl ⌝ }
+    ensures { λ r. ⌜ r ≡ singleAccess sl ⌝ }
+{
+    if sl.latency == 0 {
+        return longest_access(sl);
+    }
+    1 + sl.write_wait
+}
+
 // n, the most beats of one transfer (rule 5.3).
 pub fn most_beats(ma: Master, sl: Slave) -> u32
     requires { ⌜ LegalMaster ma ⌝ }
@@ -45,12 +58,13 @@ pub fn most_beats(ma: Master, sl: Slave) -> u32
     words
 }
 
-// The clocks of a transfer of one beat (rule 5.5). A ratio is at most 8, a burst 64 and v has 32 bits: no product here wraps.
-pub fn single(ma: Master, sl: Slave, v: u32) -> u64
+// The clocks of a transfer of one beat, by those of an access (rules 5.5, 5.6). A ratio is at most 8, a burst 64, and a and v have
+// 32 bits: no product here wraps.
+pub fn single(ma: Master, sl: Slave, a: u32) -> u64
     requires { ⌜ LegalBoth ma sl ⌝ }
-    ensures { λ r. ⌜ r ≡ single ma sl v ⌝ }
+    ensures { λ r. ⌜ r ≡ single ma sl a ⌝ }
 {
-    (fabric_accesses::ratio(ma, sl) as u64) * (v as u64)
+    (fabric_accesses::ratio(ma, sl) as u64) * (a as u64)
 }
 
 // The clocks of the longest transfer, the serve (rule 5.5).
@@ -63,23 +77,23 @@ pub fn serve(ma: Master, sl: Slave, v: u32) -> u64
     beats * each * (v as u64)
 }
 
-// The clocks of a turn (rule 5.6): a single for every share but one, and the longest transfer.
-pub fn turn(ma: Master, sl: Slave, shares: u32, v: u32) -> u64
+// The clocks of a turn (rule 5.6): a single for every share but one, with accesses of a clocks, and the longest transfer.
+pub fn turn(ma: Master, sl: Slave, shares: u32, a: u32, v: u32) -> u64
     requires { ⌜ LegalBoth ma sl × (shares ≤ 100) ⌝ }
-    ensures { λ r. ⌜ r ≡ turn ma sl shares v ⌝ }
+    ensures { λ r. ⌜ r ≡ turn ma sl shares a v ⌝ }
 {
     let longest = serve(ma, sl, v);
     if shares == 0 {
         return longest;
     }
-    let singles = ((shares - 1) as u64) * single(ma, sl, v);
+    let singles = ((shares - 1) as u64) * single(ma, sl, a);
     singles + longest
 }
 
 // The turn of master k at slave s (rule 5.6); 0 where they are not connected. The slave is handed on: it is read once.
-fn turn_at(board: &[u32; BOARD_NUMBERS], sl: Slave, v: u32, s: u32, k: u32) -> u64
+fn turn_at(board: &[u32; BOARD_NUMBERS], sl: Slave, a: u32, v: u32, s: u32, k: u32) -> u64
     requires { ⌜ SlaveOf (boardIn (now board)) sl s × (k < boardIn (now board) .«master_count») ⌝ }
-    ensures { λ r. ⌜ r ≡ turnAt (boardIn (now (board .entry))) v s k ⌝ }
+    ensures { λ r. ⌜ r ≡ turnAt (boardIn (now (board .entry))) a v s k ⌝ }
 {
     let shares = description_layout::shares_at(board, k as usize, s as usize);
     if shares == 0 {
@@ -89,36 +103,40 @@ fn turn_at(board: &[u32; BOARD_NUMBERS], sl: Slave, v: u32, s: u32, k: u32) -> u
         description_layout::master_at(board, k as usize),
         sl,
         shares,
+        a,
         v,
     )
 }
 
-// The turns at slave s, added up over its masters (rule 5.7). v is handed in, and the sum is right whatever it is: with 32 bits a turn
-// is below 2 ^ 50, so that 8 of them fit.
-fn turns_at(board: &[u32; BOARD_NUMBERS], sl: Slave, v: u32, s: u32) -> u64
+// The turns at slave s, added up over its masters (rule 5.7). The clocks a of a single's access and v are handed in, and the sum is
+// right whatever they are: with 32 bits a turn is below 2 ^ 50, so that 8 of them fit.
+fn turns_at(board: &[u32; BOARD_NUMBERS], sl: Slave, a: u32, v: u32, s: u32) -> u64
     requires { ⌜ SlaveOf (boardIn (now board)) sl s ⌝ }
-    ensures { λ r. ⌜ r ≡ turnsAt (boardIn (now (board .entry))) v s ⌝ }
+    ensures { λ r. ⌜ r ≡ turnsAt (boardIn (now (board .entry))) a v s ⌝ }
 {
     let n = description_layout::master_count(board);
     let mut sum: u64 = 0;
     let mut k: u32 = 0;
     while k < n {
-        sum += turn_at(board, sl, v, s, k);
+        sum += turn_at(board, sl, a, v, s, k);
         k += 1;
     }
     sum
 }
 
-// v of slave s, and the turns there (rules 5.1, 5.7). Which wait is the longer one is asked here, and not again for each master.
+// The clocks of a single's access at slave s, its v, and the turns there (rules 5.1, 5.6, 5.7). Whether the slave has latency and
+// which wait is the longer one is asked here, and not again for each master.
 pub fn slave_turns(board: &[u32; BOARD_NUMBERS], s: u32) -> Turns
     requires { ⌜ Legal (boardIn (now board)) × (s < boardIn (now board) .«slave_count») ⌝ }
     ensures { λ r. ⌜ r ≡ slaveTurns (boardIn (now (board .entry))) s ⌝ }
 {
     let sl = description_layout::slave_at(board, s as usize);
+    let a = single_access(sl);
     let v = longest_access(sl);
     Turns {
+        single: a,
         v: v,
-        sum: turns_at(board, sl, v, s),
+        sum: turns_at(board, sl, a, v, s),
     }
 }
 
@@ -128,7 +146,7 @@ pub fn figures_by(board: &[u32; BOARD_NUMBERS], t: Turns, m: u32, s: u32) -> Quo
     ensures { λ q. ⌜ q ≡ figuresOf (boardIn (now (board .entry))) m s ⌝ }
 {
     let sl = description_layout::slave_at(board, s as usize);
-    let own = turn_at(board, sl, t.v, s, m);
+    let own = turn_at(board, sl, t.single, t.v, s, m);
     let wait = t.sum - own;
     let ma = description_layout::master_at(board, m as usize);
     Quote {

@@ -1,4 +1,4 @@
--- `wait_table::add_turns` meets its contract. The loop's invariant: the lists hold v and the turns of the first s slaves.
+-- `wait_table::add_turns` meets its contract. The loop's invariant: the lists hold what is kept of the first s slaves.
 -- The measure is how many are left.
 -- Assumes nothing.
 use mathlib.Core.Path.{_≡_, _∙_}
@@ -13,17 +13,18 @@ use Rattle.wait_table.proofs.add_turns.Statement.{statement}
 use Rattle.wait_table.proofs.add_turns.Tie as tie
 
 abbrev Inv-loop : tie.InvT-loop
-Inv-loop board longest₀ sums₀ n s₀ longest sums s =
-    (s ≤ boardIn board .«slave_count») × (length longest ≡ 16) × (length sums ≡ 16) × Summed (boardIn board) s longest sums
+Inv-loop board singles₀ longest₀ sums₀ n s₀ singles longest sums s =
+    (s ≤ boardIn board .«slave_count») × (length singles ≡ 16) × (length longest ≡ 16) × (length sums ≡ 16)
+    × Summed (boardIn board) s singles longest sums
 
 abbrev μ-loop : tie.MeasureT-loop
-μ-loop board longest₀ sums₀ n s₀ longest sums s = boardIn board .«slave_count» - s
+μ-loop board singles₀ longest₀ sums₀ n s₀ singles longest sums s = boardIn board .«slave_count» - s
 
 slave-count-requires : tie.Need-slave-count-requires Inv-loop μ-loop
 slave-count-requires c κs = search needs
 
 loop-holds : tie.Need-loop-holds Inv-loop μ-loop
-loop-holds c = let pre = c .before .pre in (omega arith, pre .1, pre .2, summed-none _)
+loop-holds c = let pre = c .before .pre in (omega arith, pre .1, pre .2, pre .3, summed-none _)
 
 -- one of the board's slaves
 known : (c : tie.In-loop Inv-loop μ-loop)
@@ -36,6 +37,15 @@ known c =
 
 slave-turns-requires : tie.Need-slave-turns-requires Inv-loop μ-loop
 slave-turns-requires c κs = (c .before .before .before .pre .0, omega (arith, known c .0))
+
+cast-singles : tie.Need-cast-singles Inv-loop μ-loop
+cast-singles c = search needs
+
+mul-singles : tie.Need-mul-singles Inv-loop μ-loop
+mul-singles c = search needs
+
+element-write-singles : tie.Need-element-write-singles Inv-loop μ-loop
+element-write-singles c = let h = known (c .before) .1 in search needs
 
 cast-longest : tie.Need-cast-longest Inv-loop μ-loop
 cast-longest c = search needs
@@ -66,16 +76,17 @@ loop-again c =
     let l = c .before .before .loop in
     let h = known (c .before) in (
       omega (arith, h .0),
-      length-set (l .longest) (l .s) (c .slave-turns .result .v) ∙ l .inv .1,
-      length-set (l .sums) (l .s) (c .slave-turns .result .sum) ∙ l .inv .2,
-      summed-next _ (l .s) (l .inv .3) (c .slave-turns .ensures) (omega (arith, h .1, l .inv .1))
-          (omega (arith, h .1, l .inv .2)),
+      length-set (l .singles) (l .s) (c .slave-turns .result .single) ∙ l .inv .1,
+      length-set (l .longest) (l .s) (c .slave-turns .result .v) ∙ l .inv .2,
+      length-set (l .sums) (l .s) (c .slave-turns .result .sum) ∙ l .inv .3,
+      summed-next _ (l .s) (l .inv .4) (c .slave-turns .ensures) (omega (arith, h .1, l .inv .1))
+          (omega (arith, h .1, l .inv .2)) (omega (arith, h .1, l .inv .3)),
     )
 
 returns : tie.Need-returns Inv-loop μ-loop
 returns c =
     let l = c .before .loop in
-    summed-all _ (l .inv .3) (omega (arith, l .inv .0, c .loop-test .left, c .before .before .slave-count .ensures))
+    summed-all _ (l .inv .4) (omega (arith, l .inv .0, c .loop-test .left, c .before .before .slave-count .ensures))
 
 pub add-turns-spec : {M : Type 1} → statement M
 add-turns-spec =
@@ -86,6 +97,9 @@ add-turns-spec =
     slave-count-requires
     loop-holds
     slave-turns-requires
+    cast-singles
+    mul-singles
+    element-write-singles
     cast-longest
     mul-longest
     element-write-longest

@@ -14,11 +14,11 @@ use Rattle.wait_table.proofs.put_master_lines.Statement.{statement}
 use Rattle.wait_table.proofs.put_master_lines.Tie as tie
 
 abbrev Inv-loop : tie.InvT-loop
-Inv-loop out₀ at board longest sums m n next₀ s₀ out next s =
+Inv-loop out₀ at board singles longest sums m n next₀ s₀ out next s =
     (s ≤ boardIn board .«slave_count») × Put out₀ at (gather (pairLine (boardIn board) m) s) out next
 
 abbrev μ-loop : tie.MeasureT-loop
-μ-loop out₀ at board longest sums m n next₀ s₀ out next s = boardIn board .«slave_count» - s
+μ-loop out₀ at board singles longest sums m n next₀ s₀ out next s = boardIn board .«slave_count» - s
 
 slave-count-requires : tie.Need-slave-count-requires Inv-loop μ-loop
 slave-count-requires c κs = search needs
@@ -37,6 +37,15 @@ known c =
     omega (arith, c .loop-test .taken, count .slave-count .ensures) in
     (h, omega (arith, h, start .pre .0 .0 .fewSlaves))
 
+cast-single : tie.Need-cast-single Inv-loop μ-loop
+cast-single c = search needs
+
+mul-single : tie.Need-mul-single Inv-loop μ-loop
+mul-single c = search needs
+
+element-copy-out-single : tie.Need-element-copy-out-single Inv-loop μ-loop
+element-copy-out-single c = let h = known c .1 in search needs
+
 cast-v : tie.Need-cast-v Inv-loop μ-loop
 cast-v c = search needs
 
@@ -44,7 +53,7 @@ mul-v : tie.Need-mul-v Inv-loop μ-loop
 mul-v c = search needs
 
 element-copy-out-v : tie.Need-element-copy-out-v Inv-loop μ-loop
-element-copy-out-v c = let h = known c .1 in search needs
+element-copy-out-v c = let h = known (c .before) .1 in search needs
 
 cast-sum : tie.Need-cast-sum Inv-loop μ-loop
 cast-sum c = search needs
@@ -53,11 +62,11 @@ mul-sum : tie.Need-mul-sum Inv-loop μ-loop
 mul-sum c = search needs
 
 element-copy-out-sum : tie.Need-element-copy-out-sum Inv-loop μ-loop
-element-copy-out-sum c = let h = known (c .before) .1 in search needs
+element-copy-out-sum c = let h = known (c .before .before) .1 in search needs
 
 put-pair-requires : tie.Need-put-pair-requires Inv-loop μ-loop
 put-pair-requires c κs =
-    let in-loop = c .before .before .before in
+    let in-loop = c .before .before .before .before in
     let l = in-loop .before .loop in
     let pre = in-loop .before .before .before .before .pre in
     let h = known in-loop .0 in (
@@ -74,7 +83,7 @@ loop-less c = search needs
 loop-again : tie.Need-loop-again Inv-loop μ-loop
 loop-again c =
     let put = c .before .before in
-    let in-loop = put .before .before .before .before in
+    let in-loop = put .before .before .before .before .before in
     let l = in-loop .before .loop in
     (omega (arith, known in-loop .0), piece-next _ (l .s) (l .inv .1) (put .put-pair .ensures))
 
@@ -94,6 +103,9 @@ put-master-lines-spec =
     μ-loop
     slave-count-requires
     loop-holds
+    cast-single
+    mul-single
+    element-copy-out-single
     cast-v
     mul-v
     element-copy-out-v

@@ -14,11 +14,11 @@ use Rattle.wait_table.proofs.put_pairs.Statement.{statement}
 use Rattle.wait_table.proofs.put_pairs.Tie as tie
 
 abbrev Inv-loop : tie.InvT-loop
-Inv-loop out₀ at board longest sums count next₀ m₀ out next m =
+Inv-loop out₀ at board singles longest sums count next₀ m₀ out next m =
     (m ≤ boardIn board .«master_count») × Put out₀ at (gather (masterLines (boardIn board)) m) out next
 
 abbrev μ-loop : tie.MeasureT-loop
-μ-loop out₀ at board longest sums count next₀ m₀ out next m = boardIn board .«master_count» - m
+μ-loop out₀ at board singles longest sums count next₀ m₀ out next m = boardIn board .«master_count» - m
 
 add-turns-requires : tie.Need-add-turns-requires Inv-loop μ-loop
 add-turns-requires c κs = search needs
@@ -30,17 +30,20 @@ loop-holds : tie.Need-loop-holds Inv-loop μ-loop
 unfolding gather
 loop-holds c = (omega arith, put-none _ _)
 
+-- the facts at the function's start
+abbrev start : tie.In-loop Inv-loop μ-loop → tie.Start Inv-loop μ-loop
+start c = c .before .before .before .before .before .before .before .before
+
 -- one of the board's masters
-known : (c : tie.In-loop Inv-loop μ-loop)
-    → c .before .loop .m < boardIn (c .before .before .before .before .before .before .before .args .board .now) .«master_count»
+known : (c : tie.In-loop Inv-loop μ-loop) → c .before .loop .m < boardIn (start c .args .board .now) .«master_count»
 known c = omega (arith, c .loop-test .taken, c .before .before .master-count .ensures)
 
 put-master-lines-requires : tie.Need-put-master-lines-requires Inv-loop μ-loop
 put-master-lines-requires c κs =
-    let in-loop = c .before .before .before in
+    let in-loop = c .before .before .before .before in
     let l = in-loop .before .loop in
     let turns = in-loop .before .before .before in
-    let pre = turns .before .before .before .before .pre in
+    let pre = start in-loop .pre in
     let h = known in-loop in
     ((pre .0, h), (turns .add-turns .ensures, pairs-room _ (l .inv .1) h (pre .1)))
 
@@ -53,7 +56,7 @@ loop-less c = search needs
 loop-again : tie.Need-loop-again Inv-loop μ-loop
 loop-again c =
     let put = c .before .before in
-    let in-loop = put .before .before .before .before in
+    let in-loop = put .before .before .before .before .before in
     let l = in-loop .before .loop in
     (omega (arith, known in-loop), piece-next _ (l .m) (l .inv .1) (put .put-master-lines .ensures))
 

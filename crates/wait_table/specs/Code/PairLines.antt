@@ -19,6 +19,7 @@ quoteLine m s q = lineText (digits m) (s ∷ q .wait ∷ q .serve ∷ [])
 unfoldable pub masterLines : Board → ℕ → List ℕ
 masterLines b m = gather (pairLine b m) (b .«slave_count»)
 
--- two lists hold v and the turns of the first n slaves (rules 5.1, 5.7)
-pub record Summed (b : Board) (n : ℕ) (longest sums : List ℕ) : Type 0 where
-  pub at : (s : ℕ) → s < n → record { v = getD longest s 0; sum = getD sums s 0 } ≡ slaveTurns b s
+-- three lists hold the clocks of a single's access, v and the turns of the first n slaves (rules 5.1, 5.6, 5.7)
+pub record Summed (b : Board) (n : ℕ) (singles longest sums : List ℕ) : Type 0 where
+  pub at : (s : ℕ) → s < n
+      → record { single = getD singles s 0; v = getD longest s 0; sum = getD sums s 0 } ≡ slaveTurns b s

@@ -20,11 +20,11 @@ mul-result : tie.Need-mul-result
 mul-result c =
     let start = c .before in
     let e = ratio-small (start .args .ma) (start .pre .master) (start .args .sl) in
-    omega (arith, product-le (c .ratio .result) (start .args .v) 8 4294967296 (omega arith) (omega arith))
+    omega (arith, product-le (c .ratio .result) (start .args .a) 8 4294967296 (omega arith) (omega arith))
 
 returns : tie.Need-returns
 unfolding single
-returns c = ap (λ (x : ℕ). x * c .before .args .v) (c .ratio .ensures)
+returns c = ap (λ (x : ℕ). x * c .before .args .a) (c .ratio .ensures)
 
 pub single-spec : {M : Type 1} → statement M
 single-spec = tie.close (tie.spec ratio-requires cast-result mul-result returns)

@@ -16,12 +16,12 @@ serve-requires : tie.Need-serve-requires
 serve-requires c κs = search needs
 
 -- no shares, no singles
-none : (ma : Master) (sl : Slave) (shares v : ℕ) {r : ℕ} → r ≡ serve ma sl v → shares ≡ 0 → r ≡ turn ma sl shares v
+none : (ma : Master) (sl : Slave) (shares a v : ℕ) {r : ℕ} → r ≡ serve ma sl v → shares ≡ 0 → r ≡ turn ma sl shares a v
 unfolding turn
-none ma sl shares v e h = rw h (omega (arith, e))
+none ma sl shares a v e h = rw h (omega (arith, e))
 
 returns : tie.Need-returns
-returns c = none _ _ _ _ (c .before .serve .ensures) (c .if1 .taken)
+returns c = none _ _ _ _ _ (c .before .serve .ensures) (c .if1 .taken)
 
 sub-singles : tie.Need-sub-singles
 sub-singles c = search needs
@@ -39,7 +39,7 @@ small c =
     let start = c .before .before .before in
     let a = start .args in
     let legal = start .pre .0 .master in
-    let l = single-le (a .ma) legal (a .sl) (a .v) 4294967296 (omega arith) in
+    let l = single-le (a .ma) legal (a .sl) (a .a) 4294967296 (omega arith) in
     let p = product-le (a .shares - 1) (c .single .result) 99 (8 * 4294967296) (omega arith) (omega arith) in
     (omega arith, omega (arith, serve-le (a .ma) legal (a .sl) (a .v) 4294967296 (omega arith)))
 

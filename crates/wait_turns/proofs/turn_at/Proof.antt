@@ -9,7 +9,7 @@ shares-at-requires : tie.Need-shares-at-requires
 shares-at-requires c κs = search needs
 
 returns : tie.Need-returns
-returns c = turn-none _ _ _ _ (c .before .shares-at .ensures) (c .if1 .taken)
+returns c = turn-none _ _ _ _ _ (c .before .shares-at .ensures) (c .if1 .taken)
 
 master-at-requires : tie.Need-master-at-requires
 master-at-requires c κs = search needs
@@ -23,7 +23,7 @@ turn-requires c κs =
 returns-2 : tie.Need-returns-2
 returns-2 c =
     let some = c .before .before in
-    turn-some _ _ _ _ (some .before .shares-at .ensures) (some .before .before .pre .0) (some .if1 .left)
+    turn-some _ _ _ _ _ (some .before .shares-at .ensures) (some .before .before .pre .0) (some .if1 .left)
     (c .before .master-at .ensures) (c .turn .ensures)
 
 pub turn-at-spec : {M : Type 1} → statement M
