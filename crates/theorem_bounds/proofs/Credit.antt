@@ -50,6 +50,15 @@ kept-zero beats = go (ltb 1 beats)
     go true = refl
     go false = refl
 
+-- what is kept was there
+pub kept-some : (beats r : ℕ) → 1 ≤ kept beats r → 1 ≤ r
+unfolding kept
+kept-some beats r = go (ltb 1 beats)
+  where
+    go : (b : Bool) → 1 ≤ cond b 0 r → 1 ≤ r
+    go true h = absurd (omega arith)
+    go false h = h
+
 module _ (single serve beats : ℕ) where
   -- the last grant: nothing is kept behind it
   last-kept : credit single serve 1 ≡ serve + credit single serve (kept beats 0)

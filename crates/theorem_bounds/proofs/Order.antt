@@ -171,6 +171,53 @@ within-step n k o m ho hm e w =
     round : 0 ≢ m → suc o ≡ n → (m ≤ o) × (m + n ≤ o + suc k) → Within n k 0 m
     round d p b = inl (omega arith, omega arith)
 
+-- j is passed on the way up from o to m
+abbrev pub Passed : ℕ → ℕ → ℕ → Type 0
+Passed o m j = ((o < m) × (o < j) × (j < m)) ⊎ ((m ≤ o) × ((o < j) ⊎ (j < m)))
+
+-- the next master is, unless it is m; and so is who is passed on the way up from the next one
+passed-next : (n o m : ℕ) → o < n → m < n → nextMaster n o ≢ m → Passed o m (nextMaster n o)
+passed-next n o m ho hm e =
+    ⊎-elim
+    (λ a. rw (a .1) (low (λ q. e (a .1 ∙ q)) (ltb o m) refl))
+    (λ a. rw (a .1) (round (λ q. e (a .1 ∙ q)) (omega arith)))
+    (next-cases n o)
+  where
+    low : suc o ≢ m → (c : Bool) → ltb o m ≡ c → Passed o m (suc o)
+    low d true q = let l = ltb-true o m q in inl (l, omega arith, omega arith)
+    low d false q = inr (ltb-false o m q, inl (omega arith))
+
+    round : 0 ≢ m → m ≤ o → Passed o m 0
+    round d l = inr (l, inr (omega arith))
+
+passed-on : (n o m j : ℕ) → o < n → m < n → nextMaster n o ≢ m → Passed (nextMaster n o) m j → Passed o m j
+passed-on n o m j ho hm e p =
+    ⊎-elim
+    (λ a. low (λ q. e (a .1 ∙ q)) (rw (a .1) at p))
+    (λ a. round (λ q. e (a .1 ∙ q)) (omega arith) (rw (a .1) at p))
+    (next-cases n o)
+  where
+    low : suc o ≢ m → Passed (suc o) m j → Passed o m j
+    low d =
+        ⊎-elim (λ a. inl (omega arith, omega arith, omega arith))
+        (λ a. inr (omega arith, ⊎-elim (λ b. inl (omega arith)) (λ b. inr b) (a .1)))
+
+    round : 0 ≢ m → m ≤ o → Passed 0 m j → Passed o m j
+    round d l = ⊎-elim (λ a. inr (l, inr (omega arith))) (λ a. absurd (omega arith))
+
+-- nobody is passed on the way up from itself
+pub passed-self : (o m : ℕ) → Passed o m o → ⊥
+passed-self o m = ⊎-elim (λ a. omega arith) (λ a. ⊎-elim (λ h. omega arith) (λ h. omega arith) (a .1))
+
+-- who is passed behind one that is passed
+pub passed-behind : (o m i j : ℕ) → Passed o m i → Passed i m j → Passed o m j
+passed-behind o m i j =
+    ⊎-elim
+    (λ a. ⊎-elim (λ b. inl (omega arith, omega arith, omega arith)) (λ b. absurd (omega arith)))
+    (λ a.
+    ⊎-elim (λ h. ⊎-elim (λ b. inr (a .0, inr (omega arith))) (λ b. inr (a .0, ⊎-elim (λ l. inl (omega arith)) (λ l. inr l) (b .1))))
+    (λ h. ⊎-elim (λ b. inr (a .0, inr (b .2))) (λ b. absurd (omega arith))) (a .1))
+
 -- The first requester upward from o, where m requests: m itself, or another before it. `skipped` is what the masters passed over
 -- cost.
 pub record Found (requests : ℕ → Bool) (cost : ℕ → ℕ) (n o m : ℕ) (x : Choice) : Type 0 where
@@ -179,7 +226,8 @@ pub record Found (requests : ℕ → Bool) (cost : ℕ → ℕ) (n o m : ℕ) (x
   pub asks : requests master ≡ true
   pub low : master < n
   pub skipped : ℕ
-  pub none : ((j : ℕ) → j < n → requests j ≡ false → cost j ≡ 0) → skipped ≡ 0
+  pub none : ((j : ℕ) → j < n → Passed o m j → requests j ≡ false → cost j ≡ 0) → skipped ≡ 0
+  pub passed : master ≢ m → Passed o m master
   pub before : ((master ≡ m) × (between cost n o m ≡ skipped))
       ⊎ ((master ≢ m) × (skipped + cost master + between cost n master m ≡ between cost n o m))
 
@@ -194,6 +242,7 @@ module _ (requests : ℕ → Bool) (cost : ℕ → ℕ) (n m : ℕ) (hm : m < n)
         low = above-lt n o (omega arith);
         skipped = 0;
         none = λ f. refl;
+        passed = λ q. passed-next n o m ho hm q;
         before = go (ℕ-discrete (nextMaster n o) m);
       }
     where
@@ -213,7 +262,13 @@ module _ (requests : ℕ → Bool) (cost : ℕ → ℕ) (n m : ℕ) (hm : m < n)
         asks = c .asks;
         low = c .low;
         skipped = cost (nextMaster n o) + c .skipped;
-        none = λ f. omega (arith, c .none f, f (nextMaster n o) (above-lt n o (omega arith)) e);
+        none = λ f.
+            omega (
+              arith,
+              c .none (λ j h p. f j h (passed-on n o m j ho hm q p)),
+              f (nextMaster n o) (above-lt n o (omega arith)) (passed-next n o m ho hm q) e,
+            );
+        passed = λ d. passed-on n o m (c .master) ho hm q (c .passed d);
         before =
             ⊎-elim
             (λ a. inl (a .0, omega (arith, between-step cost n o m ho hm q)))

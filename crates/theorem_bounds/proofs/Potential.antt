@@ -16,7 +16,8 @@ use Rattle.fabric_arbiter.specs.declared.Grant.{Grant}
 use Rattle.fabric_arbiter.specs.declared.Grant.the-variants.{Granted, Silent}
 use Rattle.fabric_arbiter.specs.Choosing.{firstRequester}
 use Rattle.fabric_arbiter.specs.Granting.{kept, grantTo, granted}
-use Rattle.theorem_bounds.proofs.Order.{between, between-all, between-owner, sum-except, Found, requester-found}
+use Rattle.theorem_bounds.proofs.Order.{between, between-all, between-owner, sum-except, Passed, Found}
+use Rattle.theorem_bounds.proofs.Order.{requester-found}
 use Rattle.theorem_bounds.proofs.Credit.{credit, credit-zero, credit-le, spend}
 
 -- ---- how a grant comes about
@@ -170,6 +171,12 @@ module _ (n : ℕ) (shares single serve : ℕ → ℕ) where
           fresh : FirstFound n requests shares o r j (next .left) → suc (next .left) ≤ shares j
           fresh h = omega (arith, h .fresh, asks j (grant-asks .0) (grant-asks .1) .0)
 
+      -- it is the last owner again, or is passed on the way up to m
+      pub grant-passes : j ≢ m → (j ≡ o) ⊎ Passed o m j
+      grant-passes d =
+          ⊎-elim (λ h. inl (h .same))
+          (λ h. let e = fresh-master (h .first) in inr (rw e at (f .passed (λ q. d (sym e ∙ q))))) (next .how)
+
       -- What m may have to wait for, before the grant and after it. `unused` are the clocks that nobody uses: the turns of
       -- masters passed over, and the grants that a last owner loses. Where m is granted, nothing else was to wait for; where
       -- another is granted, that one's grants were.
@@ -223,25 +230,26 @@ module _ (n : ℕ) (shares single serve : ℕ → ℕ) where
       grant-falls d a =
           ⊎-elim (λ c. absurd (d (c .0))) (λ c. omega (arith, grant-spend, c .1)) (change a .goes)
 
-      -- where everybody connected requests, and a request uses up its master's grants, no clock goes unused: m is granted only
-      -- with nothing left to wait for
-      pub grant-exactly : ((i : ℕ) → i < n → 1 ≤ shares i → requests i ≡ true)
+      -- where everybody connected on the way up to m requests, and the last owner as long as it has grants, and a request uses up
+      -- its master's grants, no clock goes unused: m is granted only with nothing left to wait for
+      pub grant-exactly : ((i : ℕ) → i < n → Passed o m i → 1 ≤ shares i → requests i ≡ true)
+          → (1 ≤ r → requests o ≡ true)
           → ((x : Next n requests shares beats o r j k) → long j + afford j k ≡ afford j (suc (x .left)))
-          → (o ≡ m → r ≡ 0) → (r ≡ 0) ⊎ (r < shares o)
+          → (o ≡ m → r ≡ 0)
           → ((j ≡ m) × (afford o r + between turn n o m ≡ 0))
           ⊎ ((j ≢ m) × (long j + afford j k + between turn n j m ≡ afford o r + between turn n o m))
-      grant-exactly full uses a l =
-          let z = change a .none no-skip (no-grants l) in
+      grant-exactly full own uses a =
+          let z = change a .none no-skip (no-grants r refl) in
           ⊎-elim (λ c. inl (c .0, c .1 ∙ z)) (λ c. inr (c .0, omega (arith, c .1, z, uses next))) (change a .goes)
         where
           no-skip : f .skipped ≡ 0
-          no-skip = f .none (λ i h q. quiet i h q (shares i) refl)
+          no-skip = f .none (λ i h p q. quiet i h p q (shares i) refl)
             where
-              quiet : (i : ℕ) → i < n → requests i ≡ false → (c : ℕ) → shares i ≡ c → turn i ≡ 0
-              quiet i h q zero e = credit-zero (single i) (serve i) (shares i) e
-              quiet i h q (suc c) e = absurd (false≢true (sym q ∙ full i h (omega arith)))
+              quiet : (i : ℕ) → i < n → Passed o m i → requests i ≡ false → (c : ℕ) → shares i ≡ c → turn i ≡ 0
+              quiet i h p q zero e = credit-zero (single i) (serve i) (shares i) e
+              quiet i h p q (suc c) e = absurd (false≢true (sym q ∙ full i h p (omega arith)))
 
-          no-grants : (r ≡ 0) ⊎ (r < shares o) → (r ≡ 0) ⊎ (requests o ≡ false) → r ≡ 0
-          no-grants x (inl h) = h
-          no-grants (inl x) (inr h) = x
-          no-grants (inr x) (inr h) = absurd (false≢true (sym h ∙ full o ho (omega arith)))
+          no-grants : (c : ℕ) → r ≡ c → (r ≡ 0) ⊎ (requests o ≡ false) → r ≡ 0
+          no-grants c e (inl h) = h
+          no-grants zero e (inr h) = e
+          no-grants (suc c) e (inr h) = absurd (false≢true (sym h ∙ own (omega arith)))

@@ -15,7 +15,7 @@ use Rattle.fabric.specs.Running.{Run, standing, clockMore, clockOn, run}
 use Rattle.fabric.proofs.RunOfClocks.{Sized, sized-after, clock-is, store-is, refusal-again}
 use Rattle.fabric_state.specs.Posting.{Request, transferOf}
 use Rattle.fabric_state.specs.Resetting.{resetState, stateAtReset}
-use Rattle.fabric_state.proofs.StateLaws.{transfers-with, slots-with}
+use Rattle.fabric_state.proofs.StateLaws.{transfers-with, slots-with, lates-with}
 use Rattle.fabric_accesses.specs.Accesses.{noTransfer}
 use Rattle.common_laws.proofs.TableLaws.{length-table}
 use Rattle.theorem_history.specs.Claim.{clocks, numberAnswered, Handed, leaves, next, after, History, answers, Call, Start}
@@ -109,12 +109,14 @@ run-counts b w most z = go (eqb (clockRefusal b (w .state) (w .store)) 0) refl
 start-sized : (b : Board) (w : World) → Start b w → Sized (w .state)
 unfolding stateAtReset resetState
 start-sized b w x =
-    rw (start-state b w x) (record { transfers = length-replicate 8 noTransfer; slots = length-table _ 16 })
+    rw (start-state b w x)
+    (record { transfers = length-replicate 8 noTransfer; slots = length-table _ 16; lates = length-replicate {A = ℕ} 8 0 })
 
 post-sized : (w : World) (q : Request) → Sized (w .state) → Sized (withPost w q .state)
 post-sized w q z = record {
   transfers = transfers-with (w .state) (q .master) (transferOf q) ∙ z .transfers;
   slots = rw (slots-with (w .state) (q .master) (transferOf q)) (z .slots);
+  lates = rw (lates-with (w .state) (q .master) (transferOf q)) (z .lates);
 }
 
 pub run-in-history : (b : Board) (w : World) (calls : List Call) (most : ℕ) → Start b w → History b w calls

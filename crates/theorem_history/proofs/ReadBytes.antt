@@ -2,6 +2,8 @@
 pub mod LineOrders
 pub mod TransferBytes
 pub mod SlaveBytes
+pub mod ActiveTransfers
 pub mod FirstCycles
+pub mod LateBytes
 pub mod ClockBytes
 pub mod HistoryBytes

@@ -11,7 +11,7 @@ use Rattle.common_laws.specs.Bits.{bit}
 use Rattle.common_laws.specs.Lists.{some, table}
 use Rattle.description_board.specs.declared.Board.{Board}
 use Rattle.description_board.specs.Records.{masterAt, slaveAt, connected, startOf, memoryLength}
-use Rattle.fabric_accesses.specs.Accesses.{ownLength}
+use Rattle.fabric_accesses.specs.Accesses.{ownLength, latencyOf}
 use Rattle.fabric_accesses.specs.Decoding.{targetOf}
 use Rattle.fabric_bytes.specs.Moving.{move}
 use Rattle.fabric_bytes.specs.Bytes.{Store, bufferLength, partOf, memoryIndex, stores, byteRead}
@@ -119,6 +119,10 @@ waitFor b q = quotedWait b (q .master) (slaveFor b q)
 -- rule 5.4: how many clocks the request's transfer takes by itself
 unfoldable pub lengthOf : Board → Request → ℕ
 lengthOf b q = ownLength (masterAt b (q .master)) (slaveAt b (slaveFor b q)) (transferOf q)
+
+-- rule 4.16: how many clocks behind its last access it is finished
+unfoldable pub lateFor : Board → Request → ℕ
+lateFor b q = latencyOf (slaveAt b (slaveFor b q)) (transferOf q)
 
 -- ---- the byte memory (rules 6.7 and 6.8)
 
@@ -256,11 +260,11 @@ pub record Demand3 (b : Board) : Type 0 where
       → Accepted b (after w before) q → History b (afterPosting b (after w before) q) calls
       → waitFor b q + 1 ≤ length (answers calls)
       → any (shows (q .master)) (take (waitFor b q + 1) (answers calls)) ≡ true
-  -- rule 6.4: likewise the finish, at clock w + own length or before
+  -- rule 6.4: likewise the finish, at clock w + own length + latency or before
   pub finished : (w : World) (before : List Call) (q : Request) (calls : List Call) → Start b w → History b w before
       → Accepted b (after w before) q → History b (afterPosting b (after w before) q) calls
-      → waitFor b q + lengthOf b q ≤ length (answers calls)
-      → any (names (q .master)) (take (waitFor b q + lengthOf b q) (answers calls)) ≡ true
+      → waitFor b q + lengthOf b q + lateFor b q ≤ length (answers calls)
+      → any (names (q .master)) (take (waitFor b q + lengthOf b q + lateFor b q) (answers calls)) ≡ true
   -- rule 6.5: each connected pair has a transfer that waits exactly w
   pub exact : (w : World) (m s : ℕ) → Start b w → Lent b w → m < b .«master_count» → connected b m s ≡ true → Exact b w m s
   -- rule 6.6: the wait calls answer w, for every request that is accepted, wherever it is posted

@@ -1,3 +1,4 @@
 pub mod Claim
 pub mod WaitCall
 pub mod ClockRuns
+pub mod ReadLatency

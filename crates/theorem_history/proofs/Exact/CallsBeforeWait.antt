@@ -9,34 +9,36 @@ use native.Mathlib.Decide.{ℕ-discrete}
 use native.Mathlib.Nat.{le-refl}
 use native.Mathlib.Omega.{arith}
 use Rattle.description_board.specs.declared.Board.{Board}
-use Rattle.description_board.specs.Records.{sharesAt}
+use Rattle.description_board.specs.Records.{slaveAt, sharesAt}
 use Rattle.description_board.specs.Items.{boardRefusal}
 use Rattle.description_board.specs.Legal.{Legal}
 use Rattle.fabric_accesses.specs.declared.Transfer.{Transfer}
+use Rattle.fabric_accesses.specs.Accesses.{latencyOf}
 use Rattle.fabric_arbiter.specs.declared.Grant.the-variants.{Silent}
 use Rattle.fabric_arbiter.specs.Granting.{grantTo, granted, arbiterAfter}
 use Rattle.fabric_state.specs.declared.Slot.{Slot}
 use Rattle.fabric_state.specs.declared.State.{State}
 use Rattle.fabric_state.specs.declared.Step.{Step}
-use Rattle.fabric_state.specs.Records.{transferAt, slotAt}
+use Rattle.fabric_state.specs.Records.{transferAt, slotAt, lateAt}
 use Rattle.fabric_state.specs.Soundness.{requests}
 use Rattle.fabric_state.specs.Control.{grantAt, slotBy, slotGranted, slotAfterGrant, stateAfter}
 use Rattle.fabric_state.specs.Posting.{Request, withTransfer}
 use Rattle.fabric_state.specs.Resetting.{stateAtReset}
 use Rattle.fabric.specs.Calls.{World}
-use Rattle.fabric_state.proofs.StateLaws.{slot-after, transfer-with, transfer-with-other, transfer-reset, slot-reset}
+use Rattle.fabric_state.proofs.StateLaws.{slot-after, transfer-with, transfer-with-other, transfer-reset, slot-reset, late-with}
 use Rattle.fabric_state.proofs.StepLaws.{grant-serving, grant-given, step-rests}
-use Rattle.fabric_state.proofs.SoundLaws.{grant-sound}
-use Rattle.fabric_state.proofs.RequestLaws.{requests-not}
+use Rattle.fabric_state.proofs.SoundLaws.{grant-sound, clock-sound}
+use Rattle.fabric_state.proofs.RequestLaws.{requests-not, requests-held}
 use Rattle.theorem_bounds.proofs.Order.{requester-nobody}
 use Rattle.theorem_history.specs.Claim.{Start, Lent}
 use Rattle.theorem_history.proofs.OneClock.AfterGrant.{leftIn, leftAt, leftNow, ServesNow}
+use Rattle.theorem_history.proofs.OneClock.UsableGrants.{behindAt}
 use Rattle.theorem_history.proofs.OneClock.SlaveClock.{potAt, left-rests, acts, owner-after, left-after, nearer}
 use Rattle.theorem_history.proofs.OneClock.MasterClock.{free-after, acted}
 use Rattle.theorem_history.proofs.Histories.CallCases.{withPost, withClock}
 use Rattle.theorem_history.proofs.Histories.OnePost.{Taken}
 use Rattle.theorem_history.proofs.Histories.Standing.{Standing, start-state, start-stands, post-stands, clock-stands}
-use Rattle.theorem_history.proofs.Exact.DueRequests.{requestFor, transferFor, request-taken, request-asks}
+use Rattle.theorem_history.proofs.Exact.DueRequests.{requestFor, transferFor, first-plain, request-taken, request-asks}
 use Rattle.theorem_history.proofs.Exact.BuiltHistories.{Lead, lead-here, lead-post, lead-clock}
 
 -- nobody holds a transfer, and m was the last owner of slave s, with no grants
@@ -47,12 +49,13 @@ pub record Rested (b : Board) (s m : ℕ) (w : World) : Type 0 where
   pub owner : slotAt (w .state) s .owner ≡ m
   pub remaining : slotAt (w .state) s .remaining ≡ 0
 
--- m alone is served, or finished, with l clocks left
+-- m alone is served, with l clocks left and no latency behind them, or finished
 record Alone (b : Board) (s m l : ℕ) (w : World) : Type 0 where
   stands : Standing b w
   others : (j : ℕ) → j ≢ m → transferAt (w .state) j .held ≡ false
   owner : slotAt (w .state) s .owner ≡ m
   left : leftAt b (w .state) s ≡ l
+  plain : slotAt (w .state) s .serving ≡ true → behindAt b (w .state) s m ≡ 0
   how : (slotAt (w .state) s .serving ≡ true)
       ⊎ ((slotAt (w .state) s .serving ≡ false) × (transferAt (w .state) m .held ≡ false))
 
@@ -70,13 +73,20 @@ module _ (b : Board) (legal : Legal b) (s : ℕ) (hs : s < b .«slave_count») (
     st = w .state
 
     -- it serves m
-    alone-after : ((j : ℕ) → j ≢ m → transferAt st j .held ≡ false) → ServesNow b st s m
+    alone-after : ((j : ℕ) → j ≢ m → transferAt st j .held ≡ false) → ServesNow b st s m → behindAt b st s m ≡ 0
         → Alone b s m (leftNow b st s - 1) (withClock b w)
-    alone-after others now = record {
+    alone-after others now none = record {
       stands = clock-stands b legal w x;
       others = λ j d. free-after b legal st (x .sound) j (others j d);
       owner = owner-after b legal st (x .sound) s hs (now .on) ∙ now .owner;
       left = left-after b legal st (x .sound) s hs (now .on);
+      plain = λ q.
+          ⊎-elim (λ h. ap (latencyOf (slaveAt b s)) (h .2) ∙ none)
+          (λ h.
+          let a = clock-sound b st legal (x .sound) .serving s hs q .asks in
+          let o : slotAt (stateAfter b st) s .owner ≡ m = owner-after b legal st (x .sound) s hs (now .on) ∙ now .owner in
+          absurd (true≢false (sym (requests-held b (stateAfter b st) s m (rw o at a)) ∙ h .1 none)))
+          (acted b legal st (x .sound) s hs m now);
       how = go (slotAt (stateAfter b st) s .serving) refl;
     }
       where
@@ -85,7 +95,7 @@ module _ (b : Board) (legal : Legal b) (s : ℕ) (hs : s < b .«slave_count») (
             ⊎ ((slotAt (stateAfter b st) s .serving ≡ false) × (transferAt (stateAfter b st) m .held ≡ false))
         go true q = inl q
         go false q =
-            ⊎-elim (λ h. inr (q, h)) (λ h. absurd (true≢false (sym (h .0) ∙ q))) (acted b legal st (x .sound) s hs m now)
+            ⊎-elim (λ h. absurd (true≢false (sym (h .0) ∙ q))) (λ h. inr (q, h .1 none)) (acted b legal st (x .sound) s hs m now)
 
     -- nobody asks in it
     rested-after : ((j : ℕ) → transferAt st j .held ≡ false) → slotAt st s .serving ≡ false → slotAt st s .owner ≡ m
@@ -141,7 +151,7 @@ module _ (b : Board) (legal : Legal b) (s : ℕ) (hs : s < b .«slave_count») (
         let now : ServesNow b (w .state) s m =
         record { on = ap (λ (y : Slot). y .serving) k ∙ c; owner = ap (λ (y : Slot). y .owner) k ∙ x .owner } in
         let e : leftNow b (w .state) s - 1 ≡ l = omega (arith, x .left, left-now w (x .stands) c .1) in
-        lead-clock b legal ok w (x .stands) (f (rw e at (alone-after w (x .stands) (x .others) now))))
+        lead-clock b legal ok w (x .stands) (f (rw e at (alone-after w (x .stands) (x .others) now (x .plain c)))))
         (λ c. absurd (omega (arith, x .left, left-rests b (w .state) s (c .0))))
         (x .how)
 
@@ -181,11 +191,19 @@ module _ (b : Board) (legal : Legal b) (s : ℕ) (hs : s < b .«slave_count») (
       unfolding requestFor transferFor
       others j d = ap (λ (t : Transfer). t .held) (transfer-with-other (w .state) m (transferFor b s m 1) j d) ∙ all-free j
 
+      holds-m : transferAt (begun .state) m ≡ transferFor b s m 1
+      unfolding requestFor transferFor
+      holds-m =
+          transfer-with (w .state) m (transferFor b s m 1) (start .sound .transfers) (omega (arith, legal .fewMasters))
+
+      free-m : lateAt (begun .state) m ≡ 0
+      unfolding requestFor transferFor
+      free-m = late-with (w .state) m (transferFor b s m 1) m ∙ start .sound .free m (all-free m)
+
       asks : requests b (begun .state) s m ≡ true
       unfolding requestFor transferFor
       asks =
-          request-asks b legal s hs m hm has (begun .state) 1
-          (transfer-with (w .state) m (transferFor b s m 1) (start .sound .transfers) (omega (arith, legal .fewMasters)))
+          request-asks b legal s hs m hm has (begun .state) 1 free-m holds-m
 
       -- the first clock serves it
       serves : ServesNow b (begun .state) s m
@@ -203,4 +221,6 @@ module _ (b : Board) (legal : Legal b) (s : ℕ) (hs : s < b .«slave_count») (
       pub lead : Lead b (Rested b s m) w
       lead =
           lead-post b legal ok w single start taken
-          (lead-clock b legal ok begun begins (alone-lead _ (withClock b begun) (alone-after begun begins others serves)))
+          (lead-clock b legal ok begun begins (alone-lead _ (withClock b begun)
+          (alone-after begun begins others serves
+          (ap (latencyOf (slaveAt b s)) holds-m ∙ first-plain b legal s hs m hm 1 (le-refl 1)))))

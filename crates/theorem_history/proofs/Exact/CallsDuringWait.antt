@@ -23,7 +23,7 @@ use Rattle.fabric_state.proofs.StateLaws.{transfer-with, transfer-with-other}
 use Rattle.theorem_history.specs.Claim.{shows}
 use Rattle.theorem_history.proofs.OneClock.MasterClock.{hidden, shown}
 use Rattle.theorem_history.proofs.Histories.CallCases.{withPost, withClock}
-use Rattle.theorem_history.proofs.Histories.OnePost.{pot-with, asks-with}
+use Rattle.theorem_history.proofs.Histories.OnePost.{ahead-with, pot-with, asks-with}
 use Rattle.theorem_history.proofs.Histories.Standing.{Standing, post-stands, clock-stands}
 use Rattle.theorem_history.proofs.Exact.DueRequests.{requestFor, transferFor, request-taken}
 use Rattle.theorem_history.proofs.Exact.DueClock.{dueAt, Has, Tracked, Ready, serves-mine, serves-other, tracked-after}
@@ -43,14 +43,16 @@ module _
       abbrev then : State
       then = withTransfer st i due
 
-      posted-has : Has b s then i
+      posted-has : Has b s m then i
       unfolding withTransfer
-      posted-has = inr (transfer-with st i due (x .sound .transfers) (omega (arith, legal .fewMasters)))
+      posted-has =
+          inr (inl (x .sound .free i free, transfer-with st i due (x .sound .transfers) (omega (arith, legal .fewMasters))))
 
-      other-has : (j : ℕ) → j ≢ i → Has b s st j → Has b s then j
+      other-has : (j : ℕ) → j ≢ i → Has b s m st j → Has b s m then j
       unfolding withTransfer
       other-has j d (inl h) = inl h
-      other-has j d (inr e) = inr (transfer-with-other st i due j d ∙ e)
+      other-has j d (inr (inl h)) = inr (inl (h .0, transfer-with-other st i due j d ∙ h .1))
+      other-has j d (inr (inr h)) = inr (inr h)
 
       tracked-with : Sound b then → Tracked b s m D then
       unfolding withTransfer
@@ -60,11 +62,12 @@ module _
         aside = x .aside;
         count = pot-with b st (x .sound) i due free s m hs ∙ x .count;
         owes = λ j hj shared. go j hj shared (ℕ-discrete j i);
+        plain = λ some. ahead-with b st (x .sound) i due free s hs ∙ x .plain some;
       }
         where
           go : (j : ℕ) → j < b .«master_count» → 1 ≤ sharesAt b j s → Dec (j ≡ i)
-              → (transferAt then j .held ≡ false) ⊎ Has b s then j
-          go j hj shared (yes q) = inr (subst (Has b s then) (sym q) posted-has)
+              → (transferAt then j .held ≡ false) ⊎ Has b s m then j
+          go j hj shared (yes q) = inr (subst (Has b s m then) (sym q) posted-has)
           go j hj shared (no q) =
               ⊎-elim
               (λ f. inl (ap (λ (t : Transfer). t .held) (transfer-with-other st i due j q) ∙ f))
@@ -75,14 +78,14 @@ module _
 
     -- everybody connected, from master i on, has what is due
     abbrev HaveFrom : ℕ → State → Type 0
-    HaveFrom i st = (j : ℕ) → i ≤ j → j < b .«master_count» → 1 ≤ sharesAt b j s → Has b s st j
+    HaveFrom i st = (j : ℕ) → i ≤ j → j < b .«master_count» → 1 ≤ sharesAt b j s → Has b s m st j
 
-    have-more : (i : ℕ) (st : State) → (i < b .«master_count» → 1 ≤ sharesAt b i s → Has b s st i) → HaveFrom (suc i) st
+    have-more : (i : ℕ) (st : State) → (i < b .«master_count» → 1 ≤ sharesAt b i s → Has b s m st i) → HaveFrom (suc i) st
         → HaveFrom i st
     have-more i st h g j l hj has = pick (ℕ-discrete i j)
       where
-        pick : Dec (i ≡ j) → Has b s st j
-        pick (yes q) = subst (Has b s st) q (h (omega arith) (rw q has))
+        pick : Dec (i ≡ j) → Has b s m st j
+        pick (yes q) = subst (Has b s m st) q (h (omega arith) (rw q has))
         pick (no q) = g j (omega arith) hj has
 
     -- m is shown after k clocks from w on, if it is so from wherever everybody has posted; those from master i on have

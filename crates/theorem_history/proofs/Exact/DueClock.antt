@@ -1,36 +1,42 @@
 -- One clock where everybody connected to slave s asks for as long as it may: m is served if nothing is left to wait for, and
--- otherwise exactly one clock less is left.
+-- otherwise exactly one clock less is left. Who passes its latency has had its turn: it is not on the way from the last owner up to m.
 -- Assumes nothing.
-use mathlib.Core.Path.{_≡_, sym, ap, ap₂, _∙_}
+use mathlib.Core.Path.{_≡_, refl, sym, ap, ap₂, subst, _∙_}
 use mathlib.Core.Bool.{true, false, cond, _&&_, true≢false, false≢true}
 use mathlib.Core.Logic.{_⊎_, inl, inr, ⊎-elim, _≢_}
-use Prim.Native.Nat.{ℕ, suc, _+_, _-_, _≤_, _<_}
+use Prim.Native.Nat.{ℕ, zero, suc, _+_, _-_, _≤_, _<_}
 use native.Mathlib.Decide.{ℕ-discrete}
 use native.Mathlib.Nat.{le-of-eq}
 use native.Mathlib.Omega.{arith}
 use lib.Dec.{ltb, eqb}
 use borrow.Author.Tests.{eq-eqb, ne-eqb, lt-ltb}
 use Rattle.description_board.specs.declared.Board.{Board}
-use Rattle.description_board.specs.Records.{sharesAt}
+use Rattle.description_board.specs.Records.{masterAt, slaveAt, sharesAt}
 use Rattle.description_board.specs.Legal.{Legal}
-use Rattle.fabric_arbiter.specs.Granting.{kept}
+use Rattle.fabric_accesses.specs.declared.Transfer.{Transfer}
+use Rattle.fabric_accesses.specs.Accesses.{latencyOf, ownLength}
 use Rattle.fabric_state.specs.declared.Slot.{Slot}
 use Rattle.fabric_state.specs.declared.State.{State}
-use Rattle.fabric_state.specs.Records.{transferAt, slotAt}
+use Rattle.fabric_state.specs.Records.{transferAt, slotAt, lateAt}
 use Rattle.fabric_state.specs.Soundness.{requests}
 use Rattle.fabric_state.specs.Control.{grantAt, slotAfterGrant, stateAfter}
 use Rattle.fabric_state.proofs.Sound.{Sound}
-use Rattle.fabric_state.proofs.SoundLaws.{grant-facts, clock-sound, requests-same}
+use Rattle.fabric_state.proofs.RequestLaws.{requests-free}
+use Rattle.fabric_state.proofs.SoundLaws.{grant-facts, clock-sound}
 use Rattle.fabric_state.proofs.StepLaws.{grant-serving}
-use Rattle.theorem_bounds.proofs.Credit.{spend-all}
-use Rattle.theorem_bounds.proofs.Potential.{Next, grant-exactly}
+use Rattle.theorem_bounds.proofs.Credit.{spend-all, kept-some}
+use Rattle.theorem_bounds.proofs.Potential.{Next, grant-next, grant-passes, grant-exactly}
+use Rattle.theorem_bounds.proofs.Order.{Passed, passed-behind, passed-self}
 use Rattle.theorem_history.proofs.OneClock.PairFigures.{sharesOf, singleOf, longestOf, creditOf, turnsBetween}
 use Rattle.theorem_history.proofs.OneClock.AfterGrant.{longAt, ServesNow, Begins, AfterGrant, goesOn, begins, silent}
 use Rattle.theorem_history.proofs.OneClock.AfterGrant.{after-grant}
 use Rattle.theorem_history.proofs.OneClock.SlaveClock.{potIn, potAt, left-rests, pot-begins, pot-after, asks-fit}
-use Rattle.theorem_history.proofs.OneClock.SlaveClock.{owner-after, remaining-after, put-aside, nearer}
-use Rattle.theorem_history.proofs.OneClock.MasterClock.{acted, kept-after}
-use Rattle.theorem_history.proofs.Exact.DueRequests.{transferFor, last-serve, first-single, request-asks}
+use Rattle.theorem_history.proofs.OneClock.SlaveClock.{owner-after, remaining-after, ahead-after, put-aside, nearer}
+use Rattle.theorem_history.proofs.OneClock.UsableGrants.{aheadIn, usableAt, behindAt, beatsAt, usableBehind, ahead-serving}
+use Rattle.theorem_history.proofs.OneClock.UsableGrants.{ahead-resting, usable-all, usable-none, beats-plain, grant-usable}
+use Rattle.theorem_history.proofs.OneClock.MasterClock.{acted, kept-after, asks-after, late-freed}
+use Rattle.theorem_history.proofs.Exact.DueRequests.{transferFor, last-serve, first-single, first-plain}
+use Rattle.theorem_history.proofs.Exact.DueRequests.{request-asks}
 
 -- the grants that come after the next one of a master j with a shares, where o owns the slave with r grants
 unfoldable pub spareOf : ℕ → ℕ → ℕ → ℕ → ℕ
@@ -52,23 +58,30 @@ spare-new a j o r f = go (ℕ-discrete j o)
 abbrev pub dueAt : Board → ℕ → State → ℕ → ℕ
 dueAt b s st j = spareOf (sharesAt b j s) j (slotAt st s .owner) (slotAt st s .remaining)
 
--- master j is in service, or holds what is due
-abbrev pub Has : Board → ℕ → State → ℕ → Type 0
-Has b s st j =
-    ((slotAt st s .serving ≡ true) × (slotAt st s .owner ≡ j)) ⊎ (transferAt st j ≡ transferFor b s j (dueAt b s st j))
+-- master j passes its latency, and is not on the way up to m
+abbrev pub Spent : ℕ → ℕ → State → ℕ → Type 0
+Spent s m st j = (lateAt st j ≢ 0) × (Passed (slotAt st s .owner) m j → ⊥)
 
--- m waits, with D clocks to wait for; whoever is connected holds nothing, is in service or holds what is due
+-- master j is in service, or asks for what is due, or has had its turn
+abbrev pub Has : Board → ℕ → ℕ → State → ℕ → Type 0
+Has b s m st j =
+    ((slotAt st s .serving ≡ true) × (slotAt st s .owner ≡ j))
+    ⊎ (((lateAt st j ≡ 0) × (transferAt st j ≡ transferFor b s j (dueAt b s st j))) ⊎ Spent s m st j)
+
+-- m waits, with D clocks to wait for; whoever is connected holds nothing, is in service, asks for what is due or has had its turn. What
+-- serves with grants remaining has no latency behind it, and who has grants remaining has none to pass
 pub record Tracked (b : Board) (s m D : ℕ) (st : State) : Type 0 where
   pub sound : Sound b st
   pub asks : requests b st s m ≡ true
   pub aside : slotAt st s .owner ≡ m → (slotAt st s .serving ≡ false) × (slotAt st s .remaining ≡ 0)
   pub count : potAt b st s m ≡ D
-  pub owes : (j : ℕ) → j < b .«master_count» → 1 ≤ sharesAt b j s → (transferAt st j .held ≡ false) ⊎ Has b s st j
+  pub owes : (j : ℕ) → j < b .«master_count» → 1 ≤ sharesAt b j s → (transferAt st j .held ≡ false) ⊎ Has b s m st j
+  pub plain : 1 ≤ slotAt st s .remaining → aheadIn b st s (slotAt st s) ≡ 0
 
 -- and now nobody connected holds nothing
 pub record Ready (b : Board) (s m D : ℕ) (st : State) : Type 0 where
   pub tracked : Tracked b s m D st
-  pub full : (j : ℕ) → j < b .«master_count» → 1 ≤ sharesAt b j s → Has b s st j
+  pub full : (j : ℕ) → j < b .«master_count» → 1 ≤ sharesAt b j s → Has b s m st j
 
 module _
     (b : Board) (legal : Legal b) (s : ℕ) (hs : s < b .«slave_count») (m : ℕ) (hm : m < b .«master_count») (D : ℕ) (st : State)
@@ -82,6 +95,14 @@ module _
 
     abbrev remaining : ℕ
     remaining = slotAt st s .remaining
+
+    -- all of which its owner can use
+    usable-is : usableAt b st s ≡ remaining
+    usable-is = go remaining refl
+      where
+        go : (r : ℕ) → remaining ≡ r → usableAt b st s ≡ remaining
+        go zero e = usable-none b st s (slotAt st s) e ∙ sym e
+        go (suc r) e = usable-all b st s (slotAt st s) (x .tracked .plain (omega arith))
 
     abbrev now : Slot
     now = slotAfterGrant b st s
@@ -98,46 +119,104 @@ module _
     -- ---- a grant in this clock
 
     module _ (g : Begins b st s) where
-      all-due : (j : ℕ) → j < b .«master_count» → 1 ≤ sharesAt b j s → transferAt st j ≡ transferFor b s j (dueAt b s st j)
-      all-due j hj has = ⊎-elim (λ h. absurd (true≢false (sym (h .0) ∙ g .rested))) (λ e. e) (x .full j hj has)
+      -- who asks holds what is due
+      due-asks : (j : ℕ) → j < b .«master_count» → requests b st s j ≡ true
+          → transferAt st j ≡ transferFor b s j (dueAt b s st j)
+      due-asks j hj q =
+          ⊎-elim (λ h. absurd (true≢false (sym (h .0) ∙ g .rested)))
+          (⊎-elim (λ e. e .1) (λ h. absurd (h .0 (requests-free b st s j q))))
+          (x .full j hj (asks-fit b legal st safe s hs j hj q .0))
 
-      all-ask : (j : ℕ) → j < b .«master_count» → 1 ≤ sharesAt b j s → requests b st s j ≡ true
-      all-ask j hj has = request-asks b legal s hs j hj has st (dueAt b s st j) (all-due j hj has)
+      -- and who is connected on the way up to m, or has grants, asks
+      asks-due : (j : ℕ) → j < b .«master_count» → 1 ≤ sharesAt b j s → (Spent s m st j → ⊥) → requests b st s j ≡ true
+      asks-due j hj has off =
+          ⊎-elim (λ h. absurd (true≢false (sym (h .0) ∙ g .rested)))
+          (⊎-elim (λ e. request-asks b legal s hs j hj has st (dueAt b s st j) (e .0) (e .1)) (λ h. absurd (off h)))
+          (x .full j hj has)
+
+      owner-asks : 1 ≤ usableAt b st s → requests b st s owner ≡ true
+      owner-asks some =
+          let more : 1 ≤ remaining = omega (arith, usable-is, some) in
+          let free : lateAt st owner ≡ 0 = sym (ahead-resting b st s (slotAt st s) (g .rested)) ∙ x .tracked .plain more in
+          let has : 1 ≤ sharesAt b owner s =
+          ⊎-elim (λ z. absurd (omega (arith, z, more))) (λ l. omega (arith, l)) (safe .remaining s hs) in
+          asks-due owner (safe .owner s hs) has (λ h. h .0 free)
 
       -- it uses up its master's grants
       all-used : (j k : ℕ) → j < b .«master_count» → requests b st s j ≡ true
-          → (n : Next (b .«master_count») (requests b st s) (sharesOf b s) (λ i. transferAt st i .beats) owner remaining j k)
+          → (n : Next (b .«master_count») (requests b st s) (sharesOf b s) (beatsAt b st s) owner (usableAt b st s) j k)
           → longAt b st s j + creditOf b s j k ≡ creditOf b s j (suc (n .left))
       all-used j k hj q n =
           let p = n .left in
-          let e = all-due j hj (asks-fit b legal st safe s hs j hj q .0) ∙ ap (transferFor b s j) due in
-          let used : longAt b st s j + creditOf b s j (kept (transferAt st j .beats) p) ≡ creditOf b s j (suc p) =
-          rw e
-          (spend-all (singleOf b s j) (longestOf b s j) (transferFor b s j p .beats) _ p (last-serve b legal s hs j hj p)
-          (first-single b legal s hs j hj p)) in
-          ap (λ (z : ℕ). longAt b st s j + creditOf b s j z) (n .remains) ∙ used
+          let e = due-asks j hj q ∙ ap (transferFor b s j) due in
+          ap (λ (z : ℕ). longAt b st s j + creditOf b s j z) (n .remains)
+          ∙ spend-all (singleOf b s j) (longestOf b s j) (beatsAt b st s j) (longAt b st s j) p
+          (λ z. ap (ownLength (masterAt b j) (slaveAt b s)) e ∙ last-serve b legal s hs j hj p z)
+          (λ h.
+          let one = first-single b legal s hs j hj p h in
+          let none = ap (latencyOf (slaveAt b s)) e ∙ first-plain b legal s hs j hj p h in (
+            ap (ownLength (masterAt b j) (slaveAt b s)) e ∙ one .0,
+            omega (arith, beats-plain b st s j none, ap (λ (t : Transfer). t .beats) e, one .1),
+          ))
         where
           due : dueAt b s st j ≡ n .left
           due =
               ⊎-elim
-              (λ h. spare-again (sharesAt b j s) j owner remaining (n .left) (h .same) (h .had))
+              (λ h. spare-again (sharesAt b j s) j owner remaining (n .left) (h .same) (sym usable-is ∙ h .had))
               (λ h.
               spare-new (sharesAt b j s) j owner remaining
-              (λ e. ⊎-elim (λ z. z) (λ z. absurd (false≢true (sym z ∙ ap (requests b st s) (sym e) ∙ q))) (h .lost))
+              (λ e.
+              ⊎-elim (λ z. sym usable-is ∙ z) (λ z. absurd (false≢true (sym z ∙ ap (requests b st s) (sym e) ∙ q))) (h .lost))
               ∙ sym (h .fresh))
               (n .how)
 
-      granted-exactly : ((g .master ≡ m) × (creditOf b s owner remaining + turnsBetween b s owner m ≡ 0))
+      granted-exactly : ((g .master ≡ m) × (creditOf b s owner (usableAt b st s) + turnsBetween b s owner m ≡ 0))
           ⊎ ((g .master ≢ m)
-          × (longAt b st s (g .master) + creditOf b s (g .master) (g .grants) + turnsBetween b s (g .master) m
-          ≡ creditOf b s owner remaining + turnsBetween b s owner m))
-      unfolding grantAt
+          × (longAt b st s (g .master) + creditOf b s (g .master) (usableBehind b st s (g .master) (g .grants))
+          + turnsBetween b s (g .master) m
+          ≡ creditOf b s owner (usableAt b st s) + turnsBetween b s owner m))
       granted-exactly =
           let a = grant-facts b st legal safe s hs (g .master) (g .grants) (g .given) in
           grant-exactly (b .«master_count») (sharesOf b s) (singleOf b s) (longestOf b s) (requests b st s)
-          (λ j. transferAt st j .beats) (longAt b st s) (asks-fit b legal st safe s hs)
-          m owner remaining hm (safe .owner s hs) (x .tracked .asks) (g .master) (g .grants) (g .given) all-ask
-          (all-used (g .master) (g .grants) (a .within) (a .asks)) (λ e. x .tracked .aside e .1) (safe .remaining s hs)
+          (beatsAt b st s) (longAt b st s) (asks-fit b legal st safe s hs)
+          m owner (usableAt b st s) hm (safe .owner s hs) (x .tracked .asks) (g .master)
+          (usableBehind b st s (g .master) (g .grants)) (grant-usable b st s (g .rested) (g .master) (g .grants) (g .given))
+          (λ i hi p has. asks-due i hi has (λ h. h .1 p)) owner-asks
+          (all-used (g .master) (usableBehind b st s (g .master) (g .grants)) (a .within) (a .asks))
+          (λ e. usable-none b st s (slotAt st s) (x .tracked .aside e .1))
+
+      -- the granted master is the last owner again, or passed on the way up to m
+      granted-passes : g .master ≢ m → (g .master ≡ owner) ⊎ Passed owner m (g .master)
+      granted-passes =
+          grant-passes (b .«master_count») (sharesOf b s) (singleOf b s) (longestOf b s) (requests b st s)
+          (beatsAt b st s) (longAt b st s) (asks-fit b legal st safe s hs)
+          m owner (usableAt b st s) hm (safe .owner s hs) (x .tracked .asks) (g .master)
+          (usableBehind b st s (g .master) (g .grants)) (grant-usable b st s (g .rested) (g .master) (g .grants) (g .given))
+
+      -- a transfer with grants left behind it has no latency
+      granted-plain : 1 ≤ g .grants → behindAt b st s (g .master) ≡ 0
+      unfolding grantAt
+      granted-plain some =
+          let a = grant-facts b st legal safe s hs (g .master) (g .grants) (g .given) in
+          let n = grant-next (b .«master_count») (requests b st s) (sharesOf b s) (λ i. transferAt st i .beats) owner remaining
+          (g .master) (g .grants) (g .given) in
+          let e = due-asks (g .master) (a .within) (a .asks) in
+          let left : 1 ≤ n .left = kept-some (transferAt st (g .master) .beats) (n .left) (omega (arith, n .remains, some)) in
+          ap (latencyOf (slaveAt b s)) e
+          ∙ first-plain b legal s hs (g .master) (a .within) (dueAt b s st (g .master)) (omega (arith, due n, left))
+        where
+          due : (n : Next (b .«master_count») (requests b st s) (sharesOf b s) (λ i. transferAt st i .beats) owner remaining
+              (g .master) (g .grants)) → dueAt b s st (g .master) ≡ n .left
+          due n =
+              let a = grant-facts b st legal safe s hs (g .master) (g .grants) (g .given) in
+              ⊎-elim
+              (λ h. spare-again (sharesAt b (g .master) s) (g .master) owner remaining (n .left) (h .same) (h .had))
+              (λ h.
+              spare-new (sharesAt b (g .master) s) (g .master) owner remaining
+              (λ e.
+              ⊎-elim (λ z. z) (λ z. absurd (false≢true (sym z ∙ ap (requests b st s) (sym e) ∙ a .asks))) (h .lost))
+              ∙ sym (h .fresh))
+              (n .how)
 
     -- ---- what is left to wait for
 
@@ -175,11 +254,24 @@ module _
 
     -- ---- what is due after the clock
 
+    -- who is not on the way up to m stays so: the owner goes up
+    passed-after : now .owner ≢ m → (j : ℕ) → Passed (slotAt (stateAfter b st) s .owner) m j → Passed owner m j
+    passed-after d j p =
+        go (after-grant b st s) (subst (λ (o : ℕ). Passed o m j) (owner-after b legal st safe s hs on) p)
+      where
+        go : AfterGrant b st s → Passed (now .owner) m j → Passed owner m j
+        go (goesOn c k) h = subst (λ (o : ℕ). Passed o m j) (ap (λ (y : Slot). y .owner) k) h
+        go (begins g) h =
+            let h′ : Passed (g .master) m j = subst (λ (o : ℕ). Passed o m j) (g .owner) h in
+            ⊎-elim (λ e. subst (λ (o : ℕ). Passed o m j) e h′) (λ p. passed-behind owner m (g .master) j p h′)
+            (granted-passes g (λ e. d (g .owner ∙ e)))
+        go (silent rest c none _) h = absurd (true≢false (sym on ∙ none))
+
     -- from who is not served: the same
-    module _ (j : ℕ) (hj : j < b .«master_count») (has : 1 ≤ sharesAt b j s) (q : now .owner ≢ j)
+    module _ (j : ℕ) (hj : j < b .«master_count») (has : 1 ≤ sharesAt b j s) (q : now .owner ≢ j) (free : lateAt st j ≡ 0)
         (e : transferAt st j ≡ transferFor b s j (dueAt b s st j)) where
       asks-here : requests b st s j ≡ true
-      asks-here = request-asks b legal s hs j hj has st (dueAt b s st j) e
+      asks-here = request-asks b legal s hs j hj has st (dueAt b s st j) free e
 
       due-same : dueAt b s (stateAfter b st) j ≡ dueAt b s st j
       due-same = go (after-grant b st s)
@@ -198,28 +290,70 @@ module _
               ∙ sym (spare-new (sharesAt b j s) j owner remaining (λ z. aside (sym z)))
           go (silent rest c none _) = absurd (true≢false (sym on ∙ none))
 
-      keeps-due : transferAt (stateAfter b st) j ≡ transferFor b s j (dueAt b s (stateAfter b st) j)
-      keeps-due =
-          kept-after b legal st safe s hs j asks-here (λ _. q) hj ∙ e ∙ ap (transferFor b s j) (sym due-same)
+      keeps-due : (lateAt (stateAfter b st) j ≡ 0)
+          × (transferAt (stateAfter b st) j ≡ transferFor b s j (dueAt b s (stateAfter b st) j))
+      keeps-due = (
+        requests-free b (stateAfter b st) s j (asks-after b legal st safe s hs j asks-here (λ _. q)),
+        kept-after b legal st safe s hs j asks-here (λ _. q) ∙ e ∙ ap (transferFor b s j) (sym due-same),
+      )
 
-    owes-after : (j : ℕ) → j < b .«master_count» → 1 ≤ sharesAt b j s
-        → (transferAt (stateAfter b st) j .held ≡ false) ⊎ Has b s (stateAfter b st) j
-    owes-after j hj has = go (ℕ-discrete (now .owner) j)
+    -- from who passes its latency: nothing as long as it does
+    spent-after : now .owner ≢ m → (j : ℕ) → Spent s m st j
+        → (transferAt (stateAfter b st) j .held ≡ false) ⊎ Has b s m (stateAfter b st) j
+    spent-after d j h = go (ℕ-discrete (lateAt (stateAfter b st) j) 0)
       where
-        go : Dec (now .owner ≡ j) → (transferAt (stateAfter b st) j .held ≡ false) ⊎ Has b s (stateAfter b st) j
-        go (yes q) = ⊎-elim inl (λ h. inr (inl h)) (acted b legal st safe s hs j (record { on = on; owner = q }))
+        go : Dec (lateAt (stateAfter b st) j ≡ 0)
+            → (transferAt (stateAfter b st) j .held ≡ false) ⊎ Has b s m (stateAfter b st) j
+        go (yes z) = inl (late-freed b legal st safe j (h .0) z)
+        go (no z) = inr (inr (inr (z, (λ p. h .1 (passed-after d j p)))))
+
+    -- from who is served and has its last access: nothing, if it has no latency
+    ended-owes : (j : ℕ) → now .owner ≡ j → lateAt (stateAfter b st) j ≡ behindAt b st s j
+        → (behindAt b st s j ≡ 0 → transferAt (stateAfter b st) j .held ≡ false)
+        → (transferAt (stateAfter b st) j .held ≡ false) ⊎ Has b s m (stateAfter b st) j
+    ended-owes j q e f = go (ℕ-discrete (behindAt b st s j) 0)
+      where
+        go : Dec (behindAt b st s j ≡ 0) → (transferAt (stateAfter b st) j .held ≡ false) ⊎ Has b s m (stateAfter b st) j
+        go (yes z) = inl (f z)
+        go (no z) =
+            let o = owner-after b legal st safe s hs on ∙ q in
+            inr (inr (inr ((λ y. z (sym e ∙ y)), (λ p. passed-self j m (subst (λ (i : ℕ). Passed i m j) o p)))))
+
+    owes-after : now .owner ≢ m → (j : ℕ) → j < b .«master_count» → 1 ≤ sharesAt b j s
+        → (transferAt (stateAfter b st) j .held ≡ false) ⊎ Has b s m (stateAfter b st) j
+    owes-after d j hj has = go (ℕ-discrete (now .owner) j)
+      where
+        go : Dec (now .owner ≡ j) → (transferAt (stateAfter b st) j .held ≡ false) ⊎ Has b s m (stateAfter b st) j
+        go (yes q) =
+            ⊎-elim (λ h. inr (inl (h .0, h .1))) (λ h. ended-owes j q (h .0) (h .1))
+            (acted b legal st safe s hs j (record { on = on; owner = q }))
         go (no q) =
             ⊎-elim (λ h. absurd (q (ap (λ (y : Slot). y .owner) (grant-serving b st s (h .0)) ∙ h .1)))
-            (λ e. inr (inr (keeps-due j hj has q e))) (x .full j hj has)
+            (⊎-elim (λ h. inr (inr (inl (keeps-due j hj has q (h .0) (h .1))))) (λ h. spent-after d j h))
+            (x .full j hj has)
+
+    -- with grants remaining there is no latency before the owner
+    plain-now : 1 ≤ now .remaining → aheadIn b st s now ≡ 0
+    plain-now some = go (after-grant b st s)
+      where
+        go : AfterGrant b st s → aheadIn b st s now ≡ 0
+        go (goesOn c k) =
+            ap (aheadIn b st s) k ∙ x .tracked .plain (omega (arith, ap (λ (y : Slot). y .remaining) k, some))
+        go (begins g) =
+            ahead-serving b st s now on ∙ ap (behindAt b st s) (g .owner)
+            ∙ granted-plain g (omega (arith, g .remaining, some))
+        go (silent rest c none _) = absurd (true≢false (sym on ∙ none))
 
     pub tracked-after : (D′ : ℕ) → D ≡ suc D′ → Tracked b s m D′ (stateAfter b st)
     tracked-after D′ e =
         let d = serves-other (omega arith) in
-        let k = kept-after b legal st safe s hs m (x .tracked .asks) (λ _. d) hm in
         record {
           sound = clock-sound b st legal safe;
-          asks = requests-same b st (stateAfter b st) m s k ∙ x .tracked .asks;
+          asks = asks-after b legal st safe s hs m (x .tracked .asks) (λ _. d);
           aside = λ q. absurd (d (sym (owner-after b legal st safe s hs on) ∙ q));
           count = omega (arith, falls d);
-          owes = owes-after;
+          owes = owes-after d;
+          plain = λ some.
+              ahead-after b legal st safe s hs on
+              ∙ plain-now (omega (arith, remaining-after b legal st safe s hs on, some));
         }

@@ -1,12 +1,13 @@
 -- What a master posts at a slave to use up its grants there: singles while grants are to come, the longest transfer at the last.
--- Such a transfer is not refused and lasts exactly as long as is quoted.
+-- Such a transfer is not refused and lasts exactly as long as is quoted; a single has no latency behind it.
 -- Assumes nothing.
-use mathlib.Core.Path.{_≡_, refl, ap, _∙_}
+use mathlib.Core.Path.{_≡_, refl, sym, ap, _∙_}
 use mathlib.Core.Bool.{Bool, true, false, cond, or-true}
 use Prim.Native.Nat.{ℕ, zero, suc, _+_, _*_, _/_, _%_, _≤_, _<_, max}
 use native.Mathlib.Nat.{one-mul, le-refl, le-trans, mul-le-mul, div-mul-le-self, min-le-left, min-le-right}
+use native.Mathlib.Decide.{ℕ-discrete}
 use native.Mathlib.Omega.{arith}
-use lib.Dec.{leb}
+use lib.Dec.{leb, eqb}
 use lib.Count.{ones, onesIn, trailingZeros}
 use lib.ListN.{length, replicate, length-replicate}
 use borrow.Author.Tests.{le-ltb, eq-eqb, ne-eqb, leb-true, leb-false}
@@ -22,18 +23,19 @@ use Rattle.fabric_accesses.specs.declared.Transfer.{Transfer}
 use Rattle.fabric_lanes.specs.Lanes.{allLanes, lowest, adjacent, legalLanes, postLanes}
 use Rattle.fabric_accesses.specs.Decoding.{selects, targetOf}
 use Rattle.fabric_accesses.specs.Alignment.{ratio}
-use Rattle.fabric_accesses.specs.Accesses.{waitOf, ownLength}
+use Rattle.fabric_accesses.specs.Accesses.{waitOf, latencyOf, ownLength}
 use Rattle.fabric_accesses.proofs.PowerLaws.{legal-widths}
 use Rattle.fabric_accesses.proofs.NumberLaws.{accesses-full}
 use Rattle.fabric_accesses.proofs.AccessLaws.{base-aligned}
 use Rattle.fabric_accesses.proofs.SelectLaws.{selects-of, selects-target}
 use Rattle.fabric_state.specs.declared.State.{State}
-use Rattle.fabric_state.specs.Records.{transferAt}
+use Rattle.fabric_state.specs.Records.{transferAt, lateAt}
 use Rattle.fabric_state.specs.Soundness.{requests}
 use Rattle.fabric_state.specs.Posting.{Request, transferOf, wrongBeats, unaligned, wrongLanes, unmapped, passesEnd}
 use Rattle.fabric_state.specs.Posting.{transferRefusalBy, transferRefusal}
 use Rattle.fabric_state.proofs.RequestLaws.{requests-of}
 use Rattle.wait_turns.specs.Waits as waits
+use Rattle.wait_turns.proofs.AccessLaws.{single-access-plain, single-access-late}
 use Rattle.theorem_history.specs.Claim.{slaveFor}
 use Rattle.theorem_history.proofs.OneClock.PairFigures.{singleOf, longestOf, most-some}
 use Rattle.theorem_history.proofs.Histories.OnePost.{Taken}
@@ -43,19 +45,20 @@ unfoldable pub beatsFor : Board → ℕ → ℕ → ℕ → ℕ
 beatsFor b s j zero = waits.mostBeats (masterAt b j) (slaveAt b s)
 beatsFor b s j (suc a) = 1
 
--- in the direction of the longer wait
-unfoldable pub writes : Slave → Bool
-writes sl = leb (sl .«read_wait») (sl .«write_wait»)
+-- in the direction of the longer wait; a single at a slave with latency is a write
+unfoldable pub writes : Slave → ℕ → Bool
+writes sl zero = leb (sl .«read_wait») (sl .«write_wait»)
+writes sl (suc a) = cond (eqb (sl .latency) 0) (leb (sl .«read_wait») (sl .«write_wait»)) true
 
 -- what master j posts at slave s, with a grants to come after it
 unfoldable pub requestFor : Board → ℕ → ℕ → ℕ → Request
 requestFor b s j a = record {
   master = j;
-  write = writes (slaveAt b s);
+  write = writes (slaveAt b s) a;
   address = slaveAt b s .base;
   lanes = allLanes (masterAt b j .width);
   beats = beatsFor b s j a;
-  words = replicate (cond (writes (slaveAt b s)) (beatsFor b s j a * masterAt b j .width) 0) 0;
+  words = replicate (cond (writes (slaveAt b s) a) (beatsFor b s j a * masterAt b j .width) 0) 0;
 }
 
 unfoldable pub transferFor : Board → ℕ → ℕ → ℕ → Transfer
@@ -64,7 +67,7 @@ transferFor b s j a = transferOf (requestFor b s j a)
 words-right : (b : Board) (s j a : ℕ) → length (requestFor b s j a .words)
     ≡ cond (requestFor b s j a .write) (requestFor b s j a .beats * masterAt b j .width) 0
 unfolding requestFor
-words-right b s j a = length-replicate (cond (writes (slaveAt b s)) (beatsFor b s j a * masterAt b j .width) 0) 0
+words-right b s j a = length-replicate (cond (writes (slaveAt b s) a) (beatsFor b s j a * masterAt b j .width) 0) 0
 
 -- a full word is a legal one
 full-lanes : (w : ℕ) → member w widths ≡ true → legalLanes w (allLanes w) ≡ true
@@ -94,43 +97,76 @@ not-refused b j s t some few aligned lanes target within end =
 
 -- ---- its length
 
-wait-is : (sl : Slave) (t : Transfer) → t .write ≡ writes sl → 1 + waitOf sl t ≡ waits.longestAccess sl
-unfolding waitOf waits.longestAccess writes
-wait-is sl t e = rw e (go (leb (sl .«read_wait») (sl .«write_wait»)) refl)
+-- the clocks of one of its accesses
+accessFor : Slave → ℕ → ℕ
+accessFor sl zero = waits.longestAccess sl
+accessFor sl (suc a) = waits.singleAccess sl
+
+longer : (sl : Slave) (t : Transfer) → t .write ≡ leb (sl .«read_wait») (sl .«write_wait»)
+    → 1 + waitOf sl t ≡ waits.longestAccess sl
+unfolding waitOf waits.longestAccess
+longer sl t e = rw e (go (leb (sl .«read_wait») (sl .«write_wait»)) refl)
   where
     go : (c : Bool) → leb (sl .«read_wait») (sl .«write_wait») ≡ c
         → 1 + cond c (sl .«write_wait») (sl .«read_wait») ≡ 1 + max (sl .«read_wait») (sl .«write_wait»)
     go true q = omega (arith, leb-true (sl .«read_wait») (sl .«write_wait») q)
     go false q = omega (arith, leb-false (sl .«read_wait») (sl .«write_wait») q)
 
+wait-is : (sl : Slave) (t : Transfer) (a : ℕ) → t .write ≡ writes sl a → 1 + waitOf sl t ≡ accessFor sl a
+unfolding waitOf writes accessFor
+wait-is sl t zero e = longer sl t e
+wait-is sl t (suc a) e = go (ℕ-discrete (sl .latency) 0)
+  where
+    go : Dec (sl .latency ≡ 0) → 1 + waitOf sl t ≡ waits.singleAccess sl
+    go (yes z) = longer sl t (e ∙ rw (eq-eqb (sl .latency) 0 z)) ∙ sym (single-access-plain sl z)
+    go (no z) = let w : t .write ≡ true = e ∙ rw (ne-eqb (sl .latency) 0 z) in rw (w, single-access-late sl z)
+
+-- a single has no latency behind it
+single-plain : (sl : Slave) (t : Transfer) (a : ℕ) → 1 ≤ a → t .write ≡ writes sl a → latencyOf sl t ≡ 0
+unfolding latencyOf writes
+single-plain sl t zero h e = absurd (omega arith)
+single-plain sl t (suc a) h e = go (ℕ-discrete (sl .latency) 0)
+  where
+    go : Dec (sl .latency ≡ 0) → cond (t .write) 0 (sl .latency) ≡ 0
+    go (yes z) = rw z (none (t .write))
+      where
+        none : (c : Bool) → _≡_ {A = ℕ} (cond c 0 0) 0
+        none true = refl
+        none false = refl
+    go (no z) = let w : t .write ≡ true = e ∙ rw (ne-eqb (sl .latency) 0 z) in rw w
+
 module _ (b : Board) (legal : Legal b) (s : ℕ) (hs : s < b .«slave_count») (j : ℕ) (hj : j < b .«master_count») where
   -- every lane is enabled, so that no access is left out
   long-is : (a : ℕ) → ownLength (masterAt b j) (slaveAt b s) (transferFor b s j a)
-      ≡ beatsFor b s j a * ratio (masterAt b j) (slaveAt b s) * waits.longestAccess (slaveAt b s)
+      ≡ beatsFor b s j a * ratio (masterAt b j) (slaveAt b s) * accessFor (slaveAt b s) a
   unfolding ownLength transferFor requestFor
   long-is a =
       ap (λ (x : ℕ). x * (1 + waitOf (slaveAt b s) (transferFor b s j a)))
       (accesses-full (masterAt b j) (slaveAt b s) (transferFor b s j a)
       (legal-widths (masterAt b j) (slaveAt b s) (legal .master j hj) (legal .slave s hs)) refl)
       ∙ ap (λ (x : ℕ). beatsFor b s j a * ratio (masterAt b j) (slaveAt b s) * x)
-      (wait-is (slaveAt b s) (transferFor b s j a) refl)
+      (wait-is (slaveAt b s) (transferFor b s j a) a refl)
 
   pub last-serve : (a : ℕ) → a ≡ 0
       → ownLength (masterAt b j) (slaveAt b s) (transferFor b s j a) ≡ longestOf b s j
-  unfolding waits.serve beatsFor
+  unfolding waits.serve beatsFor accessFor
   last-serve zero e = long-is zero
   last-serve (suc a) e = absurd (omega arith)
 
   pub first-single : (a : ℕ) → 1 ≤ a
       → (ownLength (masterAt b j) (slaveAt b s) (transferFor b s j a) ≡ singleOf b s j)
       × (transferFor b s j a .beats ≤ 1)
-  unfolding waits.single beatsFor transferFor requestFor
+  unfolding waits.single beatsFor transferFor requestFor accessFor
   first-single zero h = absurd (omega arith)
   first-single (suc a) h = (
     long-is (suc a)
-        ∙ ap (λ (x : ℕ). x * waits.longestAccess (slaveAt b s)) (one-mul (ratio (masterAt b j) (slaveAt b s))),
+        ∙ ap (λ (x : ℕ). x * waits.singleAccess (slaveAt b s)) (one-mul (ratio (masterAt b j) (slaveAt b s))),
     le-refl 1,
   )
+
+  pub first-plain : (a : ℕ) → 1 ≤ a → latencyOf (slaveAt b s) (transferFor b s j a) ≡ 0
+  unfolding transferFor requestFor
+  first-plain a h = single-plain (slaveAt b s) (transferFor b s j a) a h refl
 
 -- ---- it is not refused
 
@@ -184,6 +220,7 @@ module _
         record { master = hj; free = free; fits = request-fits a; words = words-right b s j a }
 
     -- and who holds it asks
-    pub request-asks : (st : State) (a : ℕ) → transferAt st j ≡ transferFor b s j a → requests b st s j ≡ true
+    pub request-asks : (st : State) (a : ℕ) → lateAt st j ≡ 0 → transferAt st j ≡ transferFor b s j a
+        → requests b st s j ≡ true
     unfolding transferFor requestFor
-    request-asks st a e = requests-of b st s j (ap (λ (t : Transfer). t .held) e) (rw e base-selects)
+    request-asks st a z e = requests-of b st s j z (ap (λ (t : Transfer). t .held) e) (rw e base-selects)

@@ -13,16 +13,17 @@ use Rattle.description_board.specs.Legal.{Legal}
 use Rattle.description_board.proofs.PairLaws.{connected-pair}
 use Rattle.fabric_accesses.specs.declared.Transfer.{Transfer}
 use Rattle.fabric_state.specs.declared.State.{State}
-use Rattle.fabric_state.specs.Records.{transferAt, slotAt}
+use Rattle.fabric_state.specs.Records.{transferAt, slotAt, lateAt}
 use Rattle.fabric_state.specs.Posting.{Request, withTransfer}
 use Rattle.fabric.specs.Calls.{World, reset, post}
-use Rattle.fabric_state.proofs.StateLaws.{transfer-with, transfer-with-other}
+use Rattle.fabric_state.proofs.StateLaws.{transfer-with, transfer-with-other, late-with}
 use Rattle.wait_turns.specs.Waits.{quotedWait}
 use Rattle.theorem_bounds.proofs.Credit.{credit-zero}
 use Rattle.theorem_bounds.proofs.Potential.{quoted-between}
 use Rattle.theorem_history.specs.Claim.{Start, Lent, History, after, slaveFor, waitFor, Accepted, afterPosting, Exact}
 use Rattle.theorem_history.proofs.OneClock.PairFigures.{sharesOf, singleOf, longestOf, turnsBetween}
 use Rattle.theorem_history.proofs.OneClock.PairFigures.{wait-quoted}
+use Rattle.theorem_history.proofs.OneClock.UsableGrants.{usableAt, usable-none}
 use Rattle.theorem_history.proofs.OneClock.SlaveClock.{potAt, left-rests}
 use Rattle.theorem_history.proofs.Histories.CallCases.{withPost, post-leaves}
 use Rattle.theorem_history.proofs.Histories.OnePost.{Taken, pot-with}
@@ -68,7 +69,8 @@ module _
           arith,
           pot-with b (w .state) (x .stands .sound) m (transferFor b s m due) (x .free m) s m hs,
           left-rests b (w .state) s (x .serving),
-          credit-zero (singleOf b s o) (longestOf b s o) (slotAt (w .state) s .remaining) (x .remaining),
+          credit-zero (singleOf b s o) (longestOf b s o) (usableAt b (w .state) s)
+              (usable-none b (w .state) s (slotAt (w .state) s) (x .remaining)),
           ap (λ (i : ℕ). turnsBetween b s i m) (x .owner),
           quoted-between (b .«master_count») (sharesOf b s) (singleOf b s) (longestOf b s) m hm,
           wait-quoted b s hs m,
@@ -79,15 +81,19 @@ module _
     unfolding withTransfer requestFor transferFor
     starts = record {
       sound = stands .sound;
-      asks = request-asks b legal s hs m hm has (withPost w asked .state) due holds;
+      asks = request-asks b legal s hs m hm has (withPost w asked .state) due (free m) holds;
       aside = λ _. (x .serving, x .remaining);
       count = wait-whole;
       owes = λ j hj shared. go j (ℕ-discrete j m);
+      plain = λ some. absurd (omega (arith, x .remaining, some));
     }
       where
+        free : (j : ℕ) → lateAt (withPost w asked .state) j ≡ 0
+        free j = late-with (w .state) m (transferFor b s m due) j ∙ x .stands .sound .free j (x .free j)
+
         go : (j : ℕ) → Dec (j ≡ m)
-            → (transferAt (withPost w asked .state) j .held ≡ false) ⊎ Has b s (withPost w asked .state) j
-        go j (yes q) = inr (subst (Has b s (withPost w asked .state)) (sym q) (inr holds))
+            → (transferAt (withPost w asked .state) j .held ≡ false) ⊎ Has b s m (withPost w asked .state) j
+        go j (yes q) = inr (subst (Has b s m (withPost w asked .state)) (sym q) (inr (inl (free m, holds))))
         go j (no q) =
             inl (ap (λ (t : Transfer). t .held) (transfer-with-other (w .state) m (transferFor b s m due) j q) ∙ x .free j)
 

@@ -9,6 +9,7 @@ use lib.ListN.{length}
 use Rattle.description_board.specs.declared.Board.{Board}
 use Rattle.description_board.specs.Records.{masterAt, slaveAt}
 use Rattle.fabric_accesses.specs.declared.Transfer.{Transfer}
+use Rattle.fabric_accesses.specs.Accesses.{latencyOf}
 use Rattle.fabric_state.specs.declared.Slot.{Slot}
 use Rattle.fabric_state.specs.declared.State.{State}
 use Rattle.fabric_state.specs.Records.{transferAt, slotAt}
@@ -18,11 +19,12 @@ use Rattle.fabric.specs.Calls.{World, postRefusal}
 use Rattle.fabric.proofs.PostLaws as posts
 use Rattle.fabric_state.proofs.Sound.{Sound}
 use Rattle.fabric_state.proofs.CycleLaws.{leftOf, left-resting}
-use Rattle.fabric_state.proofs.StateLaws.{slot-with, transfer-with-other}
+use Rattle.fabric_state.proofs.StateLaws.{slot-with, late-with, transfer-with-other}
 use Rattle.fabric_state.proofs.RequestLaws.{requests-held}
 use Rattle.fabric_state.proofs.SoundLaws.{requests-same}
 use Rattle.theorem_history.proofs.OneClock.PairFigures.{potOf}
 use Rattle.theorem_history.proofs.OneClock.AfterGrant.{leftIn, leftAt}
+use Rattle.theorem_history.proofs.OneClock.UsableGrants.{aheadIn, usableIn, usableAt, ahead-serving, ahead-resting}
 use Rattle.theorem_history.proofs.OneClock.SlaveClock.{potAt}
 use Rattle.theorem_history.proofs.Histories.CallCases.{TakesPost}
 
@@ -56,15 +58,41 @@ module _ (b : Board) (st : State) (sound : Sound b st) (m : ℕ) (t : Transfer) 
           left-resting (masterAt b o) (slaveAt b s) _ (slotAt st s) e
           ∙ sym (left-resting (masterAt b o) (slaveAt b s) _ (slotAt st s) e)
 
+  -- nor the latency before an owner, nor the grants that it can use
+  pub ahead-with : (s : ℕ) → s < b .«slave_count»
+      → aheadIn b (withTransfer st m t) s (slotAt (withTransfer st m t) s) ≡ aheadIn b st s (slotAt st s)
+  ahead-with s hs = ap (aheadIn b (withTransfer st m t) s) (slot-with st m t s) ∙ ahead (slotAt st s .serving) refl
+    where
+      o : ℕ
+      o = slotAt st s .owner
+
+      ahead : (c : Bool) → slotAt st s .serving ≡ c
+          → aheadIn b (withTransfer st m t) s (slotAt st s) ≡ aheadIn b st s (slotAt st s)
+      ahead true e =
+          ahead-serving b (withTransfer st m t) s (slotAt st s) e
+          ∙ ap (latencyOf (slaveAt b s))
+          (transfer-with-other st m t o (asks-other b st s o m (sound .serving s hs e .asks) free))
+          ∙ sym (ahead-serving b st s (slotAt st s) e)
+      ahead false e =
+          ahead-resting b (withTransfer st m t) s (slotAt st s) e
+          ∙ late-with st m t o
+          ∙ sym (ahead-resting b st s (slotAt st s) e)
+
+  pub usable-with : (s : ℕ) → s < b .«slave_count» → usableAt b (withTransfer st m t) s ≡ usableAt b st s
+  unfolding usableIn
+  usable-with s hs = rw (ahead-with s hs, slot-with st m t s)
+
   -- so whoever waits has as much to wait for
   pub pot-with : (s j : ℕ) → s < b .«slave_count» → potAt b (withTransfer st m t) s j ≡ potAt b st s j
   pot-with s j hs =
-      ap (λ (y : Slot). potOf b s j (y .owner) (y .remaining) (leftAt b (withTransfer st m t) s)) (slot-with st m t s)
-      ∙ ap (potOf b s j (slotAt st s .owner) (slotAt st s .remaining)) (left-with s hs)
+      ap (λ (y : Slot). potOf b s j (y .owner) (usableAt b (withTransfer st m t) s) (leftAt b (withTransfer st m t) s))
+      (slot-with st m t s)
+      ∙ ap (λ (r : ℕ). potOf b s j (slotAt st s .owner) r (leftAt b (withTransfer st m t) s)) (usable-with s hs)
+      ∙ ap (potOf b s j (slotAt st s .owner) (usableAt b st s)) (left-with s hs)
 
   -- and keeps its transfer
   pub kept-with : (s i : ℕ) → requests b st s i ≡ true → transferAt (withTransfer st m t) i ≡ transferAt st i
   kept-with s i asks = transfer-with-other st m t i (asks-other b st s i m asks free)
 
   pub asks-with : (s i : ℕ) → requests b st s i ≡ true → requests b (withTransfer st m t) s i ≡ true
-  asks-with s i asks = requests-same b st (withTransfer st m t) i s (kept-with s i asks) ∙ asks
+  asks-with s i asks = requests-same b st (withTransfer st m t) i s (kept-with s i asks) (late-with st m t i) ∙ asks

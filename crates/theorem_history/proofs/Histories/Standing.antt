@@ -23,9 +23,10 @@ use Rattle.fabric_state.proofs.SoundLaws.{reset-sound, post-sound, clock-sound}
 use Rattle.theorem_bounds.proofs.Credit.{credit-zero}
 use Rattle.theorem_history.specs.Claim.{Call, Start, Lent, History, after}
 use Rattle.theorem_history.proofs.OneClock.PairFigures.{singleOf, longestOf}
+use Rattle.theorem_history.proofs.OneClock.UsableGrants.{usableAt, usable-none}
 use Rattle.theorem_history.proofs.OneClock.SlaveClock.{InTurn, Paced, left-rests, pace-after}
 use Rattle.theorem_history.proofs.Histories.CallCases.{withPost, withClock, keeps}
-use Rattle.theorem_history.proofs.Histories.OnePost.{Taken, post-taken, left-with}
+use Rattle.theorem_history.proofs.Histories.OnePost.{Taken, post-taken, left-with, usable-with}
 
 pub record Standing (b : Board) (w : World) : Type 0 where
   pub sound : Sound b (w .state)
@@ -52,7 +53,8 @@ module _ (b : Board) (legal : Legal b) where
         omega (
           arith,
           left-rests b (w .state) s (ap (λ (y : Slot). y .serving) e),
-          credit-zero (singleOf b s o) (longestOf b s o) (slotAt (w .state) s .remaining) (ap (λ (y : Slot). y .remaining) e),
+          credit-zero (singleOf b s o) (longestOf b s o) (usableAt b (w .state) s)
+              (usable-none b (w .state) s (slotAt (w .state) s) (ap (λ (y : Slot). y .remaining) e)),
         );
     lent = lent;
   }
@@ -65,7 +67,8 @@ module _ (b : Board) (legal : Legal b) where
     sound = post-sound b (w .state) (q .master) (transferOf q) legal (x .sound) (t .master) (t .free) (t .fits) refl;
     paced = λ s hs.
         let e = slot-with (w .state) (q .master) (transferOf q) s in
-        subst₃ (InTurn b s) (sym (ap (λ (y : Slot). y .owner) e)) (sym (ap (λ (y : Slot). y .remaining) e))
+        subst₃ (InTurn b s) (sym (ap (λ (y : Slot). y .owner) e))
+        (sym (usable-with b (w .state) (x .sound) (q .master) (transferOf q) (t .free) s hs))
         (sym (left-with b (w .state) (x .sound) (q .master) (transferOf q) (t .free) s hs)) (x .paced s hs);
     lent = record {
       memory = x .lent .memory;

@@ -4,6 +4,7 @@ use mathlib.Core.Path.{_≡_, refl, sym}
 use mathlib.Core.Bool.{Bool, true, false, cond, not, _&&_}
 use Prim.Native.Nat.{ℕ, zero, suc, _+_, _-_, _*_, _/_, _≤_, _<_, max}
 use native.Mathlib.Nat.{mul-le-mul, one-mul, le-div-iff-mul-le}
+use native.Mathlib.Decide.{ℕ-discrete}
 use native.Mathlib.Omega.{arith}
 use lib.Dec.{ltb, eqb}
 use borrow.Author.Tests.{lt-ltb}
@@ -16,10 +17,11 @@ use Rattle.description_board.specs.Legal.{Legal}
 use Rattle.description_board.proofs.RuleLaws.{width-bound, burst-bound, span-bound}
 use Rattle.fabric_accesses.specs.declared.Transfer.{Transfer}
 use Rattle.fabric_accesses.specs.Alignment.{ratio}
-use Rattle.fabric_accesses.specs.Accesses.{waitOf, ownLength}
+use Rattle.fabric_accesses.specs.Accesses.{waitOf, latencyOf, ownLength}
 use Rattle.fabric_accesses.proofs.AccessLaws.{accesses-le}
 use Rattle.fabric_state.proofs.RequestLaws.{Accepted}
 use Rattle.wait_turns.specs.Waits as waits
+use Rattle.wait_turns.proofs.AccessLaws.{single-access-plain, single-access-late}
 use Rattle.theorem_bounds.proofs.Order.{between}
 use Rattle.theorem_bounds.proofs.Credit.{credit, credit-zero, credit-suc}
 use Rattle.theorem_bounds.proofs.Potential.{quoted, pot}
@@ -53,20 +55,30 @@ accepted-long b legal j hj t s a =
     let f : t .beats * masterAt b j .width ≤ slaveAt b s .span = omega (arith, a .low, a .end) in
     long-serve (masterAt b j) (slaveAt b s) t (beats-most (masterAt b j) (slaveAt b s) (t .beats) (w .0) (a .few) f)
 
-pub long-single : (ma : Master) (sl : Slave) (t : Transfer) → t .beats ≤ 1
-    → ownLength ma sl t ≤ waits.single ma sl (waits.longestAccess sl)
+-- of a transfer with no latency behind it an access takes no longer than that of a single: a read, where the slave has none
+wait-single : (sl : Slave) (t : Transfer) → latencyOf sl t ≡ 0 → 1 + waitOf sl t ≤ waits.singleAccess sl
+unfolding latencyOf waitOf
+wait-single sl t none = go (ℕ-discrete (sl .latency) 0) (t .write) refl
+  where
+    go : Dec (sl .latency ≡ 0) → (c : Bool) → t .write ≡ c → 1 + waitOf sl t ≤ waits.singleAccess sl
+    go (yes z) c e = rw (single-access-plain sl z) (wait-longest sl t)
+    go (no z) true e = rw (single-access-late sl z, e) (omega arith)
+    go (no z) false e = absurd (z (rw e at none))
+
+pub long-single : (ma : Master) (sl : Slave) (t : Transfer) → latencyOf sl t ≡ 0 → t .beats ≤ 1
+    → ownLength ma sl t ≤ waits.single ma sl (waits.singleAccess sl)
 unfolding ownLength waits.single
-long-single ma sl t h =
-    mul-le-mul (omega (arith, accesses-le ma sl t 1 h, one-mul (ratio ma sl))) (wait-longest sl t)
+long-single ma sl t none h =
+    mul-le-mul (omega (arith, accesses-le ma sl t 1 h, one-mul (ratio ma sl))) (wait-single sl t none)
 
 -- ---- the figures of master j at slave s
 
 abbrev pub sharesOf : Board → ℕ → ℕ → ℕ
 sharesOf b s j = sharesAt b j s
 
--- the clocks of a single, and of the longest transfer (rule 5.5)
+-- the clocks of a single before the last transfer of a turn, and of the longest transfer (rules 5.5, 5.6)
 abbrev pub singleOf : Board → ℕ → ℕ → ℕ
-singleOf b s j = waits.single (masterAt b j) (slaveAt b s) (waits.longestAccess (slaveAt b s))
+singleOf b s j = waits.single (masterAt b j) (slaveAt b s) (waits.singleAccess (slaveAt b s))
 
 abbrev pub longestOf : Board → ℕ → ℕ → ℕ
 longestOf b s j = waits.serve (masterAt b j) (slaveAt b s) (waits.longestAccess (slaveAt b s))
@@ -97,7 +109,9 @@ most-some b legal s j hs hj =
 
 module _ (b : Board) (s : ℕ) (hs : s < b .«slave_count») where
   -- the turn of another master is its credit of all shares
-  other-turn : (m j : ℕ) → waits.otherTurn b (waits.longestAccess (slaveAt b s)) m s j ≡ cond (eqb j m) 0 (turnOf b s j)
+  other-turn : (m j : ℕ)
+      → waits.otherTurn b (waits.singleAccess (slaveAt b s)) (waits.longestAccess (slaveAt b s)) m s j
+      ≡ cond (eqb j m) 0 (turnOf b s j)
   unfolding waits.otherTurn connected waits.turn
   other-turn m j = rw (lt-ltb s (b .«slave_count») hs) (go (sharesAt b j s) (eqb j m))
     where

@@ -1,5 +1,5 @@
 -- One clock of one slave of a sound state: what it serves stays within its owner's turn, and for a waiting master, whom the clock
--- does not serve, at least one clock less is left to wait for.
+-- does not serve, at least one clock less is left to wait for. Grants count as far as their master can use them.
 -- Assumes nothing.
 use mathlib.Core.Path.{_≡_, refl, sym, ap, subst, subst₃, _∙_}
 use mathlib.Core.Bool.{Bool, true, false, not, false≢true}
@@ -11,18 +11,20 @@ use Rattle.description_board.specs.declared.Board.{Board}
 use Rattle.description_board.specs.Records.{masterAt, slaveAt}
 use Rattle.description_board.specs.Legal.{Legal}
 use Rattle.fabric_accesses.specs.declared.Transfer.{Transfer}
+use Rattle.fabric_accesses.specs.Accesses.{latencyOf}
 use Rattle.fabric_arbiter.specs.declared.Grant.the-variants.{Granted}
 use Rattle.fabric_state.specs.declared.Slot.{Slot}
 use Rattle.fabric_state.specs.declared.State.{State}
 use Rattle.fabric_state.specs.declared.Step.{Step}
-use Rattle.fabric_state.specs.Records.{transferAt, slotAt}
+use Rattle.fabric_state.specs.Records.{transferAt, slotAt, lateAt}
 use Rattle.fabric_state.specs.Soundness.{requests}
 use Rattle.fabric_state.specs.Control.{grantAt, slotAfterGrant, served, stepOf, stateAfter}
 use Rattle.fabric_state.proofs.Sound.{Sound}
 use Rattle.fabric_state.proofs.CycleLaws.{leftOf, left-resting, Cycle, cycle}
 use Rattle.fabric_state.proofs.StepLaws.{step-rests}
-use Rattle.fabric_state.proofs.StateLaws.{slot-after}
-use Rattle.fabric_state.proofs.RequestLaws.{Accepted, accepted-at, requests-held, requests-selects}
+use Rattle.fabric_state.proofs.StateLaws.{slot-after, late-after, late-ends, ended-here}
+use Rattle.fabric_state.proofs.RequestLaws.{Accepted, accepted-at, requests-held, requests-selects, requests-free}
+use Rattle.fabric_state.proofs.RequestLaws.{requests-latency}
 use Rattle.fabric_state.proofs.SoundLaws.{grant-sound, served-kept}
 use Rattle.theorem_bounds.proofs.Credit.{credit-zero}
 use Rattle.theorem_bounds.proofs.Potential.{some-grant, grant-turn, grant-falls, grant-next}
@@ -30,18 +32,21 @@ use Rattle.theorem_history.proofs.OneClock.PairFigures.{sharesOf, singl
 use Rattle.theorem_history.proofs.OneClock.PairFigures.{accepted-long, long-single}
 use Rattle.theorem_history.proofs.OneClock.AfterGrant.{longAt, leftIn, leftAt, leftNow, ServesNow, Begins, AfterGrant}
 use Rattle.theorem_history.proofs.OneClock.AfterGrant.{goesOn, begins, silent, after-grant}
+use Rattle.theorem_history.proofs.OneClock.UsableGrants.{aheadIn, usableIn, usableAt, behindAt, beatsAt, usableBehind}
+use Rattle.theorem_history.proofs.OneClock.UsableGrants.{ahead-serving, ahead-resting, usable-none, usable-few}
+use Rattle.theorem_history.proofs.OneClock.UsableGrants.{usable-serving, beats-single, grant-usable}
 
--- what is left of a transfer, with what the remaining grants may last, is within the owner's turn
+-- what is left of a transfer, with what the usable grants may last, is within the owner's turn
 unfoldable pub InTurn : Board → ℕ → ℕ → ℕ → ℕ → Type 0
 InTurn b s o r left = left + creditOf b s o r ≤ turnOf b s o
 
 -- so at slave s
 abbrev pub Paced : Board → State → ℕ → Type 0
-Paced b st s = InTurn b s (slotAt st s .owner) (slotAt st s .remaining) (leftAt b st s)
+Paced b st s = InTurn b s (slotAt st s .owner) (usableAt b st s) (leftAt b st s)
 
 -- what master m may have to wait for at slave s: where its slot is y, and as it stands
 abbrev pub potIn : Board → State → ℕ → ℕ → Slot → ℕ
-potIn b st s m y = potOf b s m (y .owner) (y .remaining) (leftIn b st s y)
+potIn b st s m y = potOf b s m (y .owner) (usableIn b st s y) (leftIn b st s y)
 
 abbrev pub potAt : Board → State → ℕ → ℕ → ℕ
 potAt b st s m = potIn b st s m (slotAt st s)
@@ -66,12 +71,21 @@ left-rests b st s e =
     let o = slotAt st s .owner in
     left-resting (masterAt b o) (slaveAt b s) (transferAt st o) (slotAt st s) e
 
+-- the grants that a granted master can use
+pub begins-usable : (b : Board) (st : State) (s : ℕ) (g : Begins b st s)
+    → usableIn b st s (slotAfterGrant b st s) ≡ usableBehind b st s (g .master) (g .grants)
+begins-usable b st s g =
+    usable-serving b st s (slotAfterGrant b st s) (g .on)
+    ∙ ap (λ (o : ℕ). usableBehind b st s o (slotAfterGrant b st s .remaining)) (g .owner)
+    ∙ ap (usableBehind b st s (g .master)) (g .remaining)
+
 -- at a grant all of the new transfer is left
 pub pot-begins : (b : Board) (st : State) (s m : ℕ) (g : Begins b st s)
-    → potIn b st s m (slotAfterGrant b st s) ≡ potOf b s m (g .master) (g .grants) (longAt b st s (g .master))
+    → potIn b st s m (slotAfterGrant b st s)
+    ≡ potOf b s m (g .master) (usableBehind b st s (g .master) (g .grants)) (longAt b st s (g .master))
 pot-begins b st s m g =
     subst₃ (λ (o r l : ℕ). potIn b st s m (slotAfterGrant b st s) ≡ potOf b s m o r l)
-    (g .owner) (g .remaining) (g .left) refl
+    (g .owner) (begins-usable b st s g) (g .left) refl
 
 module _ (b : Board) (legal : Legal b) (st : State) (sound : Sound b st) (s : ℕ) (hs : s < b .«slave_count») where
   abbrev masters : ℕ
@@ -82,6 +96,10 @@ module _ (b : Board) (legal : Legal b) (st : State) (sound : Sound b st) (s : �
 
   abbrev remaining : ℕ
   remaining = slotAt st s .remaining
+
+  -- of which the owner can use so many
+  abbrev usable : ℕ
+  usable = usableAt b st s
 
   -- the slot after the grant
   abbrev now : Slot
@@ -95,13 +113,20 @@ module _ (b : Board) (legal : Legal b) (st : State) (sound : Sound b st) (s : �
   pub asks-fit : (j : ℕ) → j < masters → requests b st s j ≡ true
       → (1 ≤ sharesOf b s j)
       × (longAt b st s j ≤ longestOf b s j)
-      × (transferAt st j .beats ≤ 1 → longAt b st s j ≤ singleOf b s j)
+      × (beatsAt b st s j ≤ 1 → longAt b st s j ≤ singleOf b s j)
   asks-fit j hj q =
       let a = asks-accepted j q in (
         a .shares,
         accepted-long b legal j hj (transferAt st j) s a,
-        long-single (masterAt b j) (slaveAt b s) (transferAt st j),
+        (λ h.
+            let p = beats-single b st s j h in
+            long-single (masterAt b j) (slaveAt b s) (transferAt st j) (p .0) (p .1)),
       )
+
+  -- with a requester somebody is granted: how long anything lasts does not matter
+  asks-some : (j : ℕ) → j < masters → requests b st s j ≡ true
+      → (1 ≤ sharesOf b s j) × (0 ≤ longestOf b s j) × (transferAt st j .beats ≤ 1 → 0 ≤ singleOf b s j)
+  asks-some j hj q = (asks-accepted j q .shares, omega arith, λ h. omega arith)
 
   -- ---- the clock of a slave that serves
 
@@ -126,6 +151,43 @@ module _ (b : Board) (legal : Legal b) (st : State) (sound : Sound b st) (s : �
   pub remaining-after : now .serving ≡ true → slotAt (stateAfter b st) s .remaining ≡ now .remaining
   remaining-after on = ap (λ (x : Slot). x .remaining) after-slot ∙ acts on .remaining
 
+  owner-known : now .owner < 8
+  owner-known = omega (arith, grant-sound b st legal sound s hs .owner, legal .fewMasters)
+
+  -- with its last access the latency behind it begins
+  pub late-begins : now .serving ≡ true → stepOf b st s .slot .serving ≡ false
+      → lateAt (stateAfter b st) (now .owner) ≡ behindAt b st s (now .owner)
+  late-begins on e =
+      let asks = grant-sound b st legal sound s hs .serving on .asks in
+      let f = ended-here b st (now .owner) s hs (acts on .ends ∙ ap not e) (acts on .line) in
+      late-after b st (now .owner) owner-known
+      ∙ late-ends b st (now .owner) (requests-free b st s (now .owner) asks) f
+      ∙ requests-latency b st s (now .owner) legal asks
+
+  -- so the owner has the same latency before it
+  pub ahead-after : now .serving ≡ true → aheadIn b (stateAfter b st) s (slotAt (stateAfter b st) s) ≡ aheadIn b st s now
+  ahead-after on = go (stepOf b st s .slot .serving) refl
+    where
+      serving-is : slotAt (stateAfter b st) s .serving ≡ stepOf b st s .slot .serving
+      serving-is = ap (λ (x : Slot). x .serving) after-slot
+
+      go : (c : Bool) → stepOf b st s .slot .serving ≡ c
+          → aheadIn b (stateAfter b st) s (slotAt (stateAfter b st) s) ≡ aheadIn b st s now
+      go true e =
+          ahead-serving b (stateAfter b st) s (slotAt (stateAfter b st) s) (serving-is ∙ e)
+          ∙ ap (behindAt b (stateAfter b st) s) (owner-after on)
+          ∙ ap (latencyOf (slaveAt b s)) (stays on e)
+          ∙ sym (ahead-serving b st s now on)
+      go false e =
+          ahead-resting b (stateAfter b st) s (slotAt (stateAfter b st) s) (serving-is ∙ e)
+          ∙ ap (lateAt (stateAfter b st)) (owner-after on)
+          ∙ late-begins on e
+          ∙ sym (ahead-serving b st s now on)
+
+  pub usable-after : now .serving ≡ true → usableAt b (stateAfter b st) s ≡ usableIn b st s now
+  unfolding usableIn
+  usable-after on = rw (ahead-after on, remaining-after on)
+
   -- one clock less is left
   pub left-after : now .serving ≡ true → leftAt b (stateAfter b st) s ≡ leftNow b st s - 1
   left-after on =
@@ -149,43 +211,48 @@ module _ (b : Board) (legal : Legal b) (st : State) (sound : Sound b st) (s : �
   pot-after m on =
       ap suc
       (subst₃ (λ (o r l : ℕ). potAt b (stateAfter b st) s m ≡ potOf b s m o r l)
-      (owner-after on) (remaining-after on) (left-after on) refl)
+      (owner-after on) (usable-after on) (left-after on) refl)
       ∙ omega (arith, acts on .some)
 
   -- ---- within the owner's turn
 
   -- a slave that rests after the grant rests after the clock, with no grants
   rests-after : now .serving ≡ false → now .remaining ≡ 0
-      → (slotAt (stateAfter b st) s .remaining ≡ 0) × (leftAt b (stateAfter b st) s ≡ 0)
+      → (usableAt b (stateAfter b st) s ≡ 0) × (leftAt b (stateAfter b st) s ≡ 0)
   rests-after off none =
-      let x : slotAt (stateAfter b st) s ≡ now = after-slot ∙ ap (λ (y : Step). y .slot) (step-rests b st s off) in
-      (ap (λ (y : Slot). y .remaining) x ∙ none, left-rests b (stateAfter b st) s (ap (λ (y : Slot). y .serving) x ∙ off))
+      let x : slotAt (stateAfter b st) s ≡ now = after-slot ∙ ap (λ (y : Step). y .slot) (step-rests b st s off) in (
+        usable-none b (stateAfter b st) s (slotAt (stateAfter b st) s) (ap (λ (y : Slot). y .remaining) x ∙ none),
+        left-rests b (stateAfter b st) s (ap (λ (y : Slot). y .serving) x ∙ off),
+      )
 
   pub pace-after : Paced b st s → Paced b (stateAfter b st) s
   unfolding InTurn grantAt
   pace-after p = go (after-grant b st s)
     where
-      serves : now .serving ≡ true → InTurn b s (now .owner) (now .remaining) (leftNow b st s) → Paced b (stateAfter b st) s
+      serves : now .serving ≡ true → InTurn b s (now .owner) (usableIn b st s now) (leftNow b st s)
+          → Paced b (stateAfter b st) s
       serves on q =
-          subst₃ (InTurn b s) (sym (owner-after on)) (sym (remaining-after on)) (sym (left-after on)) (omega (arith, q))
+          subst₃ (InTurn b s) (sym (owner-after on)) (sym (usable-after on)) (sym (left-after on)) (omega (arith, q))
 
       go : AfterGrant b st s → Paced b (stateAfter b st) s
       go (goesOn e x) =
           serves (ap (λ (y : Slot). y .serving) x ∙ e)
-          (subst (λ (y : Slot). InTurn b s (y .owner) (y .remaining) (leftIn b st s y)) (sym x) p)
+          (subst (λ (y : Slot). InTurn b s (y .owner) (usableIn b st s y) (leftIn b st s y)) (sym x) p)
       go (begins g) =
           let v = grant-sound b st legal sound s hs in
           let low = rw (g .owner) at (v .owner) in
           let asks = rw (g .owner) at (v .serving (g .on) .asks) in
           serves (g .on)
-          (subst₃ (InTurn b s) (sym (g .owner)) (sym (g .remaining)) (sym (g .left))
-          (grant-turn masters (sharesOf b s) (singleOf b s) (longestOf b s) (requests b st s) (λ j. transferAt st j .beats)
-          (longAt b st s) asks-fit (g .master) owner remaining low (sound .owner s hs) asks (g .master) (g .grants) (g .given)
-          (sound .remaining s hs)))
+          (subst₃ (InTurn b s) (sym (g .owner)) (sym (begins-usable b st s g)) (sym (g .left))
+          (grant-turn masters (sharesOf b s) (singleOf b s) (longestOf b s) (requests b st s) (beatsAt b st s)
+          (longAt b st s) asks-fit (g .master) owner usable low (sound .owner s hs) asks (g .master)
+          (usableBehind b st s (g .master) (g .grants))
+          (grant-usable b st s (g .rested) (g .master) (g .grants) (g .given))
+          (usable-few b st s (slotAt st s) (sharesOf b s owner) (sound .remaining s hs))))
       go (silent rest e off none) =
           let r = rests-after off none in
           let o = slotAt (stateAfter b st) s .owner in
-          omega (arith, r .1, credit-zero (singleOf b s o) (longestOf b s o) (slotAt (stateAfter b st) s .remaining) (r .0))
+          omega (arith, r .1, credit-zero (singleOf b s o) (longestOf b s o) (usableAt b (stateAfter b st) s) (r .0))
 
   -- ---- a waiting master comes nearer
 
@@ -218,9 +285,11 @@ module _ (b : Board) (legal : Legal b) (st : State) (sound : Sound b st) (s : �
         granted g (no d) =
             let aside = put-aside (g .master) (g .grants) (g .given) d in
             let less =
-            grant-falls masters (sharesOf b s) (singleOf b s) (longestOf b s) (requests b st s) (λ j. transferAt st j .beats)
-            (longAt b st s) asks-fit m owner remaining hm (sound .owner s hs) waiting (g .master) (g .grants) (g .given) d
-            aside in
+            grant-falls masters (sharesOf b s) (singleOf b s) (longestOf b s) (requests b st s) (beatsAt b st s)
+            (longAt b st s) asks-fit m owner usable hm (sound .owner s hs) waiting (g .master)
+            (usableBehind b st s (g .master) (g .grants))
+            (grant-usable b st s (g .rested) (g .master) (g .grants) (g .given)) d
+            (λ e. usable-none b st s (slotAt st s) (aside e)) in
             inr
             (falls (g .on) (λ q. d (sym (g .owner) ∙ q))
             (omega (arith, less, bound aside, pot-begins b st s m g, left-rests b st s (g .rested))))
@@ -234,4 +303,4 @@ module _ (b : Board) (legal : Legal b) (st : State) (sound : Sound b st) (s : �
         go (silent rest e _ _) =
             absurd
             (some-grant masters (sharesOf b s) (singleOf b s) (longestOf b s) (requests b st s) (λ j. transferAt st j .beats)
-            (longAt b st s) asks-fit m owner remaining hm (sound .owner s hs) waiting e)
+            (λ j. 0) asks-some m owner remaining hm (sound .owner s hs) waiting e)

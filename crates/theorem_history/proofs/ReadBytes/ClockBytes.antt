@@ -1,42 +1,48 @@
--- One clock against the byte memory: what is true of every slave before it is true after it, and who is finished by it as a read
--- has brought the bytes that its step gave (rule 6.9).
+-- One clock against the byte memory: what is true before it of every slave, and of every master that passes latency clocks, is
+-- true after it, and who is finished by it as a read has brought the bytes that its step gave (rule 6.9).
 -- Assumes nothing.
 use mathlib.Core.Path.{_≡_, refl, ap, _∙_, sym, subst}
 use mathlib.Core.Bool.{Bool, true, false, cond, _&&_, true≢false, false≢true}
-use mathlib.Core.Logic.{_≢_}
+use mathlib.Core.Logic.{⊎-elim, _≢_}
 use Prim.Native.Nat.{ℕ, zero, suc, _+_, _≤_, _<_}
+use native.Mathlib.Decide.{ℕ-discrete}
 use native.Mathlib.Omega.{arith}
 use lib.Dec.{eqb}
 use lib.ListN.{take, drop}
 use borrow.Author.Tests.{ne-eqb, lt-ltb, le-ltb}
-use Rattle.common_laws.proofs.Tests.{both}
 use Rattle.description_board.specs.declared.Board.{Board}
 use Rattle.description_board.specs.Records.{startOf}
 use Rattle.description_board.specs.Legal.{Legal}
 use Rattle.fabric_accesses.specs.declared.Transfer.{Transfer}
 use Rattle.fabric_bytes.specs.Bytes.{Store, partOf}
+use Rattle.fabric_bytes.proofs.MoveLaws.{less-or}
 use Rattle.fabric_bytes.proofs.Ranges.{Agree}
 use Rattle.fabric_state.specs.declared.Slot.{Slot}
 use Rattle.fabric_state.specs.declared.State.{State}
-use Rattle.fabric_state.specs.Records.{transferAt, slotAt}
-use Rattle.fabric_state.specs.Control.{slotAfterGrant, waits, slotWaiting, slotAccessed, slotFinished, stepOf, finished}
+use Rattle.fabric_state.specs.Records.{slotAt, lateAt}
+use Rattle.fabric_state.specs.Control.{slotAfterGrant, waits, slotWaiting, slotAccessed, slotFinished, stepOf, ended, finished}
 use Rattle.fabric_state.specs.Control.{stateAfter, linesOf}
 use Rattle.fabric_state.specs.Carrying.{carriesOut, carried, carriedBy, storeAfter}
 use Rattle.fabric_state.proofs.Sound.{Sound}
-use Rattle.fabric_state.proofs.StateLaws.{slot-after, held-after, unfinished-at, finished-by}
+use Rattle.fabric_state.proofs.StateLaws.{slot-after, late-after, late-after-past, late-none, ended-by, ended-here, finished-ended}
 use Rattle.fabric_state.proofs.StepLaws.{Outcome, rests, waiting, works, ends, outcome, waitNow, accessesNow, line-owner}
-use Rattle.fabric_state.proofs.StepLaws.{finished-serving}
-use Rattle.fabric_state.proofs.SoundLaws.{grant-sound, served-kept}
+use Rattle.fabric_state.proofs.StepLaws.{last-serving}
+use Rattle.fabric_state.proofs.SoundLaws.{served-kept, served-free}
 use Rattle.theorem_history.specs.Claim.{Reference, bytesIn, Order, seenAll}
 use Rattle.theorem_history.proofs.ReadBytes.LineOrders.{steps, sweep, numbers, steps-none, steps-next, times-numbers}
-use Rattle.theorem_history.proofs.ReadBytes.TransferBytes.{endOf, Done, served-ends, bytes-in}
+use Rattle.theorem_history.proofs.ReadBytes.TransferBytes.{endOf, accessesAt, Done, served-ends}
 use Rattle.theorem_history.proofs.ReadBytes.SlaveBytes.{Wants, Right, GoesOn, right-accesses, right-passes}
 use Rattle.theorem_history.proofs.ReadBytes.SlaveBytes.{right-other-accesses}
-use Rattle.theorem_history.proofs.ReadBytes.FirstCycles.{Slaves, lies, owner-wants, first-cycles}
+use Rattle.theorem_history.proofs.ReadBytes.ActiveTransfers.{activeAt, active-same, active-after, active-unended, lies}
+use Rattle.theorem_history.proofs.ReadBytes.ActiveTransfers.{owner-active, owner-wants, some-left, carries-serving}
+use Rattle.theorem_history.proofs.ReadBytes.ActiveTransfers.{carried-access, carried-none}
+use Rattle.theorem_history.proofs.ReadBytes.FirstCycles.{Slaves, first-cycles}
+use Rattle.theorem_history.proofs.ReadBytes.LateBytes.{Brought, Latent, brought-done, brought-late}
 
--- what is true of every slave between calls
-unfoldable pub Agreed : Board → State → Store → Reference → Type 0
-Agreed b st d r = Slaves b st (slotAt st) d r
+-- what is true between calls of every slave, and of every master that passes latency clocks
+pub record Agreed (b : Board) (st : State) (d : Store) (r : Reference) : Type 0 where
+  pub slaves : Slaves b st (slotAt st) d r
+  pub latent : Latent b st d r
 
 -- the slot of slave k where its access of this clock is carried out, and not yet judged whether it is the last
 unfoldable slotCarried : Board → State → ℕ → Slot
@@ -56,39 +62,33 @@ module _ (b : Board) (legal : Legal b) (st : State) (sound : Sound b st) where
   -- ---- the accesses of a clock
 
   module _ (k : ℕ) (below : k < b .«slave_count») where
-    carries-serving : carriesOut b st k (now k) ≡ true → now k .serving ≡ true
-    unfolding carriesOut
-    carries-serving e = both (now k .serving) _ e .0
-
-    some-left : now k .serving ≡ true → now k .done < accessesNow b st k
-    some-left on = grant-sound b st legal sound k below .serving on .done
-
-    access : (d : Store) (r : Reference) → Right b (transferAt st) d r k (now k)
-        → Right b (transferAt st) (carried b st k d) r k (slotCarried b st k)
-    unfolding carried slotCarried
+    access : (d : Store) (r : Reference) → Right b (activeAt st) d r k (now k)
+        → Right b (activeAt st) (carried b st k d) r k (slotCarried b st k)
+    unfolding slotCarried
     access d r c = go (carriesOut b st k (now k)) refl
       where
         go : (p : Bool) → carriesOut b st k (now k) ≡ p
-            → Right b (transferAt st) (carried b st k d) r k (slotCarried b st k)
-        go false e = rw e c
+            → Right b (activeAt st) (carried b st k d) r k (slotCarried b st k)
+        go false e = rw (carried-none b legal st sound k below d e, e) c
         go true e =
-            let on = carries-serving e in
-            rw e (right-accesses b (transferAt st) k (λ m. lies b legal st sound m k) d r (now k) on (some-left on) c)
+            let on = carries-serving b legal st sound k below e in
+            rw (carried-access b legal st sound k below d e, e)
+            (right-accesses b (activeAt st) k (λ m. lies b legal st sound m k) d r (now k) on
+            (some-left b legal st sound k below on) c)
 
-    other-access : (d : Store) (r : Reference) (j : ℕ) → k ≢ j → (x : Slot) → Right b (transferAt st) d r j x
-        → Right b (transferAt st) (carried b st k d) r j x
-    unfolding carried
+    other-access : (d : Store) (r : Reference) (j : ℕ) → k ≢ j → (x : Slot) → Right b (activeAt st) d r j x
+        → Right b (activeAt st) (carried b st k d) r j x
     other-access d r j h x f = go (carriesOut b st k (now k)) refl
       where
-        go : (p : Bool) → carriesOut b st k (now k) ≡ p → Right b (transferAt st) (carried b st k d) r j x
-        go false e = rw e f
+        go : (p : Bool) → carriesOut b st k (now k) ≡ p → Right b (activeAt st) (carried b st k d) r j x
+        go false e = rw (carried-none b legal st sound k below d e) f
         go true e =
             let o = now k .owner in
-            let on = carries-serving e in
+            let on = carries-serving b legal st sound k below e in
             let w = owner-wants b legal st sound k below on in
-            rw e
-            (right-other-accesses b (transferAt st) j (λ m. lies b legal st sound m j) k o h w (lies b legal st sound o k w) d r x
-            f (now k .done) (some-left on))
+            rw (carried-access b legal st sound k below d e)
+            (right-other-accesses b (activeAt st) j (λ m. lies b legal st sound m j) k o h w (lies b legal st sound o k w) d r x f
+            (now k .done) (some-left b legal st sound k below on))
 
   accesses-all : (d : Store) (r : Reference) → Slaves b st (slotAfterGrant b st) d r
       → Slaves b st (slotCarried b st) (storeAfter b st d) r
@@ -96,8 +96,8 @@ module _ (b : Board) (legal : Legal b) (st : State) (sound : Sound b st) where
   accesses-all d r c k h =
       let n = b .«slave_count» in
       rw (carried-steps b st n d)
-      (sweep (λ i e. (i < n) × Right b (transferAt st) e r i (now i))
-      (λ i e. i < n → Right b (transferAt st) e r i (slotCarried b st i)) (carried b st)
+      (sweep (λ i e. (i < n) × Right b (activeAt st) e r i (now i))
+      (λ i e. i < n → Right b (activeAt st) e r i (slotCarried b st i)) (carried b st)
       (λ i e p a. access i a e r (p .1))
       (λ i j ne e p. (
         λ x. (x .0, other-access i (p .0) e r j ne (now j) (x .1)),
@@ -120,36 +120,43 @@ module _ (b : Board) (legal : Legal b) (st : State) (sound : Sound b st) where
     unfolding slotCarried carriesOut waits
     carried-out e h = rw (e, le-ltb (now k .waited) (waitNow b st k) h)
 
-    right-at : {d : Store} {r : Reference} {x y : Slot} → x ≡ y → Right b (transferAt st) d r k x
-        → Right b (transferAt st) d r k y
+    right-at : {d : Store} {r : Reference} {x y : Slot} → x ≡ y → Right b (activeAt st) d r k x
+        → Right b (activeAt st) d r k y
     right-at e c = rw e at c
 
     -- the last access is carried out
     all-done : (d : Store) (r : Reference) → now k .serving ≡ true → waitNow b st k ≤ now k .waited
-        → accessesNow b st k ≤ now k .done + 1 → Right b (transferAt st) d r k (slotCarried b st k)
-        → Done b d r k (now k .owner) (transferAt st (now k .owner))
+        → accessesNow b st k ≤ now k .done + 1 → Right b (activeAt st) d r k (slotCarried b st k)
+        → Done b d r k (now k .owner) (activeAt st (now k .owner))
     unfolding slotAccessed
     all-done d r e h l c =
         let o = now k .owner in
         let w = owner-wants b legal st sound k below e in
-        served-ends b k o (transferAt st o) (lies b legal st sound o k w) (now k .done + 1) d r
-        (omega (arith, l, some-left k below e)) (right-at (carried-out e h) c .serves refl)
+        let last : accessesAt b k o (activeAt st o) ≤ now k .done + 1 = rw (owner-active b legal st sound k below e) l in
+        served-ends b k o (activeAt st o) (lies b legal st sound o k w) (now k .done + 1) d r
+        (omega (arith, last, some-left b legal st sound k below e)) (right-at (carried-out e h) c .serves refl)
 
-    passes : (d : Store) (r : Reference) → Right b (transferAt st) d r k (slotCarried b st k)
-        → Right b (transferAt (stateAfter b st)) d r k (slotAt (stateAfter b st) k)
+    passes : (d : Store) (r : Reference) → Right b (activeAt st) d r k (slotCarried b st k)
+        → Right b (activeAt (stateAfter b st)) d r k (slotAt (stateAfter b st) k)
     unfolding slotWaiting slotAccessed slotFinished
     passes d r c = rw (slot-after b st k below (legal .fewSlaves)) (go (outcome b st k))
       where
         then : ℕ → Transfer
-        then = transferAt (stateAfter b st)
+        then = activeAt (stateAfter b st)
+
+        -- a slave that goes on keeps its owner's transfer
+        goes-on : now k .serving ≡ true → stepOf b st k .last ≡ false → then (now k .owner) ≡ activeAt st (now k .owner)
+        goes-on e f =
+            active-same st (stateAfter b st) (now k .owner) (served-kept b st legal sound k below e f)
+            (served-free b st legal sound k below e f)
 
         pass : (y z : Slot) → slotCarried b st k ≡ y
             → ((m : ℕ) → Wants b m k (then m) → (y .serving && eqb (y .owner) m) ≡ (z .serving && eqb (z .owner) m))
-            → (z .serving ≡ true → GoesOn (then (y .owner)) (transferAt st (y .owner)) y z)
+            → (z .serving ≡ true → GoesOn (then (y .owner)) (activeAt st (y .owner)) y z)
             → (z .serving ≡ false → Agree (startOf b k) (endOf b k) (d .memory) (r .bytes))
             → Right b then d r k z
         pass y z e f g h =
-            right-passes b (transferAt st) k (λ m. lies b legal st sound m k) then (λ m v. held-after b st m v .1) d r y z f g h
+            right-passes b (activeAt st) k (λ m. lies b legal st sound m k) then (active-after b st) d r y z f g h
             (rw e at c)
 
         go : Outcome b st k → Right b then d r k (stepOf b st k .slot)
@@ -158,13 +165,13 @@ module _ (b : Board) (legal : Legal b) (st : State) (sound : Sound b st) where
             (pass (now k) (now k) (carried-rests e) (λ m w. refl) (λ v. absurd (true≢false (sym v ∙ e)))
             (right-at (carried-rests e) c .rests))
         go (waiting e h q) =
-            let kept = served-kept b st legal sound k below e (rw q) in
+            let kept = goes-on e (rw q) in
             rw q
             (pass (now k) (slotWaiting (now k)) (carried-waits e h) (λ m w. rw e)
             (λ v. record { serving = e; owner = refl; done = refl; transfer = kept }) (λ v. absurd (true≢false v)))
         go (works e h l q) =
             let y = slotAccessed (now k) in
-            let kept = served-kept b st legal sound k below e (rw q) in
+            let kept = goes-on e (rw q) in
             rw q
             (pass y y (carried-out e h) (λ m w. refl)
             (λ v. record { serving = refl; owner = refl; done = refl; transfer = kept }) (λ v. absurd (true≢false v)))
@@ -173,15 +180,15 @@ module _ (b : Board) (legal : Legal b) (st : State) (sound : Sound b st) where
             (pass (slotAccessed (now k)) (slotFinished (now k)) (carried-out e h)
             (λ m w.
             ne-eqb (now k .owner) m
-            (λ i. unfinished-at b st m (held-after b st m (w .held) .0) k below (rw q) (line-owner b st k e ∙ i)))
+            (λ i. active-unended b st m (w .held) (ended-here b st m k below (rw q) (line-owner b st k e ∙ i))))
             (λ v. absurd (false≢true v)) (λ v. all-done d r e h l c .range))
 
-    -- who is finished has had its last access
-    finish : (d : Store) (r : Reference) → Right b (transferAt st) d r k (slotCarried b st k) → stepOf b st k .finished ≡ true
-        → Done b d r k (now k .owner) (transferAt st (now k .owner))
+    -- who has its last access has had all
+    finish : (d : Store) (r : Reference) → Right b (activeAt st) d r k (slotCarried b st k) → stepOf b st k .last ≡ true
+        → Done b d r k (now k .owner) (activeAt st (now k .owner))
     finish d r c f = go (outcome b st k)
       where
-        go : Outcome b st k → Done b d r k (now k .owner) (transferAt st (now k .owner))
+        go : Outcome b st k → Done b d r k (now k .owner) (activeAt st (now k .owner))
         go (rests e q) = absurd (false≢true (rw q at f))
         go (waiting e h q) = absurd (false≢true (rw q at f))
         go (works e h l q) = absurd (false≢true (rw q at f))
@@ -193,33 +200,51 @@ module _ (b : Board) (legal : Legal b) (st : State) (sound : Sound b st) where
     abbrev told : Reference
     told = seenAll b (order .slaves) (linesOf b st) r
 
-    after-accesses : Slaves b st (slotCarried b st) (storeAfter b st d) told
-    unfolding Agreed
-    after-accesses = accesses-all d told (first-cycles b legal st sound order d r c)
+    abbrev then : Store
+    then = storeAfter b st d
 
-    pub clock-right : Agreed b (stateAfter b st) (storeAfter b st d) told
-    unfolding Agreed
-    clock-right k h = passes k h (storeAfter b st d) told (after-accesses k h)
+    after-accesses : Slaves b st (slotCarried b st) then told
+    after-accesses = accesses-all d told (first-cycles b legal st sound order d r (c .slaves))
+
+    -- the last access of master m is carried out
+    brought-ended : (m : ℕ) → ended b st m ≡ true → Brought b then told m
+    brought-ended m f =
+        let x = ended-by b st m f in
+        let k = x .0 in
+        let on = last-serving b st k (x .2) in
+        let o = now k .owner in
+        let right = after-accesses k (x .1) in
+        let w = owner-wants b legal st sound k (x .1) on in
+        subst (Brought b then told) (sym (line-owner b st k on) ∙ x .3)
+        (brought-done b k o (activeAt st o) (lies b legal st sound o k w) then told (right .asked o w) w
+        (finish k (x .1) then told right (x .2)))
+
+    -- or was carried out in an earlier clock
+    brought-before : (m : ℕ) → lateAt st m ≢ 0 → Brought b then told m
+    unfolding Latent
+    brought-before m h = brought-late b legal st sound m h (order .slaves) d r (c .latent m h)
+
+    latent-after : Latent b (stateAfter b st) then told
+    unfolding Latent
+    latent-after m h = go (ℕ-discrete (lateAt st m) 0) (ended b st m) refl
+      where
+        known : m < 8
+        known =
+            ⊎-elim (λ (l : m < 8). l) (λ (l : 8 ≤ m). absurd (h (late-after-past b st m l))) (less-or m 8)
+
+        go : Dec (lateAt st m ≡ 0) → (p : Bool) → ended b st m ≡ p → Brought b then told m
+        go (no z) p e = brought-before m z
+        go (yes z) true e = brought-ended m e
+        go (yes z) false e = absurd (h (late-after b st m known ∙ late-none b st m z e))
+
+    pub clock-right : Agreed b (stateAfter b st) then told
+    clock-right = record { slaves = λ k h. passes k h then told (after-accesses k h); latent = latent-after }
 
     -- a read that is finished
     pub clock-read : (m : ℕ) → finished b st m ≡ true → told .request m .write ≡ false
-        → take (bytesIn b (told .request m)) (drop (partOf m) (storeAfter b st d .buffer)) ≡ told .given m
-    clock-read m f e = go (finished-by b st m f)
+        → take (bytesIn b (told .request m)) (drop (partOf m) (then .buffer)) ≡ told .given m
+    clock-read m f = go (ℕ-discrete (lateAt st m) 0) .reads
       where
-        then : Store
-        then = storeAfter b st d
-
-        go : (k : ℕ) × (k < b .«slave_count») × (stepOf b st k .finished ≡ true) × (stepOf b st k .line .owner ≡ m)
-            → take (bytesIn b (told .request m)) (drop (partOf m) (then .buffer)) ≡ told .given m
-        go x =
-            let k = x .0 in
-            let on = finished-serving b st k (x .2) in
-            let o : now k .owner ≡ m = sym (line-owner b st k on) ∙ x .3 in
-            let right = after-accesses k (x .1) in
-            let w : Wants b m k (transferAt st m) =
-            subst (λ (j : ℕ). Wants b j k (transferAt st j)) o (owner-wants b legal st sound k (x .1) on) in
-            let a = right .asked m w in
-            let last : Done b then told k m (transferAt st m) =
-            subst (λ (j : ℕ). Done b then told k j (transferAt st j)) o (finish k (x .1) then told right (x .2)) in
-            rw (bytes-in b k m (transferAt st m) (lies b legal st sound m k w) then told a (w .target))
-            (last .reads (sym (ap (λ (t : Transfer). t .write) (a .transfer)) ∙ e))
+        go : Dec (lateAt st m ≡ 0) → Brought b then told m
+        go (yes z) = brought-ended m (finished-ended b st m f z .0)
+        go (no z) = brought-before m z

@@ -6,41 +6,33 @@ use mathlib.Core.Bool.{Bool, true, false, cond, true≢false}
 use mathlib.Core.List.{List, [], _∷_}
 use mathlib.Core.Logic.{⊎-elim, _≢_}
 use Prim.Native.Nat.{ℕ, _≤_, _<_}
-use native.Mathlib.Nat.{mul-le-mul}
 use native.Mathlib.Omega.{arith}
 use lib.ListN.{getD}
 use borrow.Author.Tests.{eq-eqb}
 use Rattle.description_board.specs.declared.Board.{Board}
-use Rattle.description_board.specs.Records.{masterAt, slaveAt}
 use Rattle.description_board.specs.Legal.{Legal}
-use Rattle.description_board.proofs.RuleLaws.{width-bound, burst-bound}
-use Rattle.description_board.proofs.PairLaws.{pair-wide}
-use Rattle.description_board.proofs.StartLaws.{end-inside}
-use Rattle.fabric_accesses.proofs.AlignmentLaws.{byte-within}
-use Rattle.fabric_bytes.specs.Bytes.{Store, memoryIndex}
+use Rattle.fabric_bytes.specs.Bytes.{Store}
 use Rattle.fabric_bytes.proofs.MoveLaws.{less-or}
 use Rattle.fabric_state.specs.declared.Slot.{Slot}
 use Rattle.fabric_state.specs.declared.State.{State}
 use Rattle.fabric_state.specs.declared.Line.{Line}
-use Rattle.fabric_state.specs.Records.{transferAt, slotAt, noLine}
+use Rattle.fabric_state.specs.Records.{slotAt, noLine}
 use Rattle.fabric_state.specs.Control.{slotAfterGrant, lineOf, stepOf, linesOf}
 use Rattle.fabric_state.proofs.Sound.{Sound}
-use Rattle.fabric_state.proofs.RequestLaws.{Accepted, accepted, accepted-posted, requests-held, requests-target}
 use Rattle.fabric_state.proofs.StateLaws.{line-after, line-after-past}
 use Rattle.fabric_state.proofs.StepLaws.{Outcome, rests, waiting, works, ends, outcome}
-use Rattle.fabric_state.proofs.SoundLaws.{grant-sound}
 use Rattle.theorem_history.specs.Claim.{Reference, stepped, seen, Order, seenAll}
 use Rattle.theorem_history.proofs.OneClock.AfterGrant.{AfterGrant, goesOn, begins, silent, after-grant}
 use Rattle.theorem_history.proofs.ReadBytes.LineOrders.{steps, sweep}
-use Rattle.theorem_history.proofs.ReadBytes.TransferBytes.{Lies}
-use Rattle.theorem_history.proofs.ReadBytes.SlaveBytes.{Wants, Right, right-begins, right-idle, right-other-begins}
+use Rattle.theorem_history.proofs.ReadBytes.SlaveBytes.{Right, right-begins, right-idle, right-other-begins}
+use Rattle.theorem_history.proofs.ReadBytes.ActiveTransfers.{activeAt, lies, owner-wants}
 
 -- what is true of every slave of the board, where slots has its slots
 abbrev pub Slaves : Board → State → (ℕ → Slot) → Store → Reference → Type 0
-Slaves b st slots d r = (k : ℕ) → k < b .«slave_count» → Right b (transferAt st) d r k (slots k)
+Slaves b st slots d r = (k : ℕ) → k < b .«slave_count» → Right b (activeAt st) d r k (slots k)
 
 -- the line of slave k
-abbrev lineAt : Board → State → ℕ → Line
+abbrev pub lineAt : Board → State → ℕ → Line
 lineAt b st k = getD (linesOf b st) k noLine
 
 seen-steps : (b : Board) (ss : List ℕ) (lines : List Line) (r : Reference)
@@ -54,49 +46,13 @@ module _ (b : Board) (legal : Legal b) (st : State) (sound : Sound b st) where
   abbrev now : ℕ → Slot
   now k = slotAfterGrant b st k
 
-  -- ---- what a sound state says of a transfer that it holds
-
-  pub lies : (m k : ℕ) → Wants b m k (transferAt st m) → Lies b m k (transferAt st m)
-  unfolding memoryIndex
-  lies m k w =
-      let t = transferAt st m in
-      let h = sound .holds m (w .held) in
-      let a : Accepted b m t k = rw (w .target) at (accepted b legal m t (h .1)) in
-      let burst = burst-bound (masterAt b m .burst) (legal .master m (h .0) .burst) in
-      let width = width-bound (masterAt b m .width) (legal .master m (h .0) .width) in
-      let beats : t .beats ≤ 64 = omega (arith, a .few, burst .1) in
-      let ma = masterAt b m in
-      let sl = slaveAt b k in
-      let wm = legal .master m (h .0) .width in
-      let ws = legal .slave k (a .within) .width in
-      let wide = pair-wide b legal m k (h .0) (a .within) (a .shares) in
-      record {
-        known = omega (arith, h .0, legal .fewMasters);
-        few = mul-le-mul beats (width .1);
-        placed = λ i h l. (
-          omega arith,
-          omega (arith, byte-within ma sl wm ws t wide (omega (arith, a .low, a .end)) i h l),
-        );
-        inside = end-inside b k (a .within);
-        posted = accepted-posted b legal m k t (h .0) a;
-      }
-
   module _ (k : ℕ) (below : k < b .«slave_count») where
-    -- the owner of a slave that serves holds a transfer for it
-    pub owner-wants : now k .serving ≡ true → Wants b (now k .owner) k (transferAt st (now k .owner))
-    owner-wants on =
-        let asks = grant-sound b st legal sound k below .serving on .asks in
-        record {
-          held = requests-held b st k (now k .owner) asks;
-          target = requests-target b st k (now k .owner) legal asks;
-        }
-
     -- ---- the line of one slave
 
     line-is : lineAt b st k ≡ stepOf b st k .line
     line-is = line-after b st k below (legal .fewSlaves)
 
-    seen-silent : (r : Reference) → now k .serving ≡ false → seen b (lineAt b st k) r ≡ r
+    pub seen-silent : (r : Reference) → now k .serving ≡ false → seen b (lineAt b st k) r ≡ r
     unfolding seen
     seen-silent r off = rw line-is (go (outcome b st k))
       where
@@ -106,7 +62,7 @@ module _ (b : Board) (legal : Legal b) (st : State) (sound : Sound b st) where
         go (works e h l q) = absurd (true≢false (sym e ∙ off))
         go (ends e h l q) = absurd (true≢false (sym e ∙ off))
 
-    seen-serving : (r : Reference) → now k .serving ≡ true
+    pub seen-serving : (r : Reference) → now k .serving ≡ true
         → seen b (lineAt b st k) r ≡ cond (r .waiting (now k .owner)) (stepped b (now k .owner) r) r
     unfolding seen lineOf
     seen-serving r on = rw line-is (go (outcome b st k))
@@ -119,42 +75,44 @@ module _ (b : Board) (legal : Legal b) (st : State) (sound : Sound b st) where
         go (ends e h l q) = rw q
 
     -- it is the first cycle of the owner's transfer where this clock grants the slave
-    first-cycle : (d : Store) (r : Reference) → Right b (transferAt st) d r k (slotAt st k)
-        → Right b (transferAt st) d (seen b (lineAt b st k) r) k (now k)
+    first-cycle : (d : Store) (r : Reference) → Right b (activeAt st) d r k (slotAt st k)
+        → Right b (activeAt st) d (seen b (lineAt b st k) r) k (now k)
     first-cycle d r c = go (after-grant b st k)
       where
-        go : AfterGrant b st k → Right b (transferAt st) d (seen b (lineAt b st k) r) k (now k)
+        go : AfterGrant b st k → Right b (activeAt st) d (seen b (lineAt b st k) r) k (now k)
         go (goesOn on same) =
             let o = slotAt st k .owner in
             let quiet : r .waiting o ≡ false = c .waits o (c .wants on) ∙ rw (on, eq-eqb o o refl) in
             rw (seen-serving r (rw same on), same, quiet) c
         go (begins g) =
             let o = now k .owner in
-            let w = owner-wants (g .on) in
+            let w = owner-wants b legal st sound k below (g .on) in
             let first : r .waiting o ≡ true = c .waits o w ∙ rw (g .rested) in
             rw (seen-serving r (g .on), first)
-            (right-begins b (transferAt st) k (λ m. lies m k) d r (slotAt st k) (now k) (g .rested) (g .on) (g .done) w c)
+            (right-begins b (activeAt st) k (λ m. lies b legal st sound m k) d r (slotAt st k) (now k) (g .rested) (g .on)
+            (g .done) w c)
         go (silent rest e off none) =
             rw (seen-silent r off)
-            (right-idle b (transferAt st) k (λ m. lies m k) d r (slotAt st k) (now k) rest off c)
+            (right-idle b (activeAt st) k (λ m. lies b legal st sound m k) d r (slotAt st k) (now k) rest off c)
 
     -- and changes nothing for the other slaves
-    other-cycle : (d : Store) (r : Reference) → Right b (transferAt st) d r k (slotAt st k) → (j : ℕ) → k ≢ j → (x : Slot)
-        → Right b (transferAt st) d r j x → Right b (transferAt st) d (seen b (lineAt b st k) r) j x
+    other-cycle : (d : Store) (r : Reference) → Right b (activeAt st) d r k (slotAt st k) → (j : ℕ) → k ≢ j → (x : Slot)
+        → Right b (activeAt st) d r j x → Right b (activeAt st) d (seen b (lineAt b st k) r) j x
     other-cycle d r c j h x f = go (now k .serving) refl (r .waiting (now k .owner)) refl
       where
         go : (p : Bool) → now k .serving ≡ p → (q : Bool) → r .waiting (now k .owner) ≡ q
-            → Right b (transferAt st) d (seen b (lineAt b st k) r) j x
+            → Right b (activeAt st) d (seen b (lineAt b st k) r) j x
         go false off q e = rw (seen-silent r off) f
         go true on false e = rw (seen-serving r on, e) f
         go true on true e =
             let o = now k .owner in
-            let w = owner-wants on in
+            let w = owner-wants b legal st sound k below on in
             rw (seen-serving r on, e)
-            (right-other-begins b (transferAt st) j (λ m. lies m j) k o h w (lies o k w) d r x f (c .asked o w))
+            (right-other-begins b (activeAt st) j (λ m. lies b legal st sound m j) k o h w (lies b legal st sound o k w) d r x f
+            (c .asked o w))
 
   -- the line of a number past the slaves has phase 0
-  silent-past : (k : ℕ) → b .«slave_count» ≤ k → (r : Reference) → seen b (lineAt b st k) r ≡ r
+  pub silent-past : (k : ℕ) → b .«slave_count» ≤ k → (r : Reference) → seen b (lineAt b st k) r ≡ r
   unfolding seen
   silent-past k h r = rw (line-after-past b st k h)
 
@@ -169,10 +127,10 @@ module _ (b : Board) (legal : Legal b) (st : State) (sound : Sound b st) where
       (order .once) r (λ i a. c i) (λ i a l. absurd (omega arith)) k h)
     where
       Before : ℕ → Reference → Type 0
-      Before i s = i < b .«slave_count» → Right b (transferAt st) d s i (slotAt st i)
+      Before i s = i < b .«slave_count» → Right b (activeAt st) d s i (slotAt st i)
 
       After : ℕ → Reference → Type 0
-      After i s = i < b .«slave_count» → Right b (transferAt st) d s i (now i)
+      After i s = i < b .«slave_count» → Right b (activeAt st) d s i (now i)
 
       others : (i j : ℕ) → i ≢ j → (s : Reference) → Before i s
           → (Before j s → Before j (seen b (lineAt b st i) s)) × (After j s → After j (seen b (lineAt b st i) s))

@@ -1,5 +1,5 @@
--- The reads of the claim (rules 6.7 to 6.9): a reset makes true of every slave what the byte memory needs, posts and clocks keep
--- it, and so the clock that finishes a read leaves what the read's step gave.
+-- The reads of the claim (rules 6.7 to 6.9): a reset makes true of every slave and master what the byte memory needs, posts and
+-- clocks keep it, and so the clock that finishes a read leaves what the read's step gave.
 -- Assumes nothing.
 use mathlib.Core.Path.{_≡_, refl, sym, ap, _∙_}
 use mathlib.Core.Bool.{Bool, true, false, cond, not, _&&_, true≢false}
@@ -24,15 +24,15 @@ use Rattle.fabric_bytes.proofs.Ranges.{agree-refl, agree-sym, move-apart, front
 use Rattle.fabric_bytes.proofs.StoreLaws.{length-posted, parts-apart}
 use Rattle.fabric_state.specs.declared.Slot.{Slot}
 use Rattle.fabric_state.specs.declared.State.{State}
-use Rattle.fabric_state.specs.Records.{transferAt, slotAt}
+use Rattle.fabric_state.specs.Records.{transferAt, slotAt, lateAt}
 use Rattle.fabric_state.specs.Posting.{Request, transferOf, withTransfer}
 use Rattle.fabric_state.specs.Soundness.{sound}
 use Rattle.fabric_state.specs.Control.{finished, maskOf, linesOf}
 use Rattle.fabric_state.specs.Resetting.{stateAtReset}
 use Rattle.fabric.specs.Calls.{clock, storeAfterClock, World}
 use Rattle.fabric_state.proofs.Sound.{Sound}
-use Rattle.fabric_state.proofs.StateLaws.{transfer-reset, slot-reset, mask-bit, mask-bit-past, transfer-with, transfer-with-other}
-use Rattle.fabric_state.proofs.StateLaws.{slot-with}
+use Rattle.fabric_state.proofs.StateLaws.{transfer-reset, slot-reset, late-reset, mask-bit, mask-bit-past}
+use Rattle.fabric_state.proofs.StateLaws.{transfer-with, transfer-with-other, slot-with, late-with}
 use Rattle.fabric_state.proofs.SoundLaws.{post-sound}
 use Rattle.theorem_history.specs.Claim.{Call, after, History, Start, Lent, names, Reference, referenceAt, bytesIn, Order}
 use Rattle.theorem_history.specs.Claim.{seenAll, fedPost, fed}
@@ -43,29 +43,42 @@ use Rattle.theorem_history.proofs.Histories.OnePost.{Taken, post-taken}
 use Rattle.theorem_history.proofs.Histories.Standing.{Standing, start-state, start-stands, post-stands, clock-stands}
 use Rattle.theorem_history.proofs.ReadBytes.TransferBytes.{bytesHeld, endOf, Asked, served-kept}
 use Rattle.theorem_history.proofs.ReadBytes.SlaveBytes.{Wants, Right, SameMaster, asked-kept}
-use Rattle.theorem_history.proofs.ReadBytes.FirstCycles.{lies}
+use Rattle.theorem_history.proofs.ReadBytes.ActiveTransfers.{activeAt, active-free, active-held, active-same, lies}
+use Rattle.theorem_history.proofs.ReadBytes.LateBytes.{Latent, brought-kept}
 use Rattle.theorem_history.proofs.ReadBytes.ClockBytes.{Agreed, clock-right, clock-read}
 
 -- ---- the reset
 
-reset-right : (b : Board) → Legal b → (d : Store) → length (d .memory) ≡ memoryLength b
-    → length (d .buffer) ≡ bufferLength → Agreed b (stateAtReset b) d (referenceAt (d .memory))
-unfolding Agreed referenceAt
-reset-right b legal d l n k h =
-    let off : slotAt (stateAtReset b) k .serving ≡ false = rw (slot-reset b k h (legal .fewSlaves)) in
-    record {
-      memory = l;
-      buffer = n;
-      bytes = l;
-      asked = λ m w. absurd (unheld m w);
-      waits = λ m w. absurd (unheld m w);
-      wants = λ v. absurd (true≢false (sym v ∙ off));
-      serves = λ v. absurd (true≢false (sym v ∙ off));
-      rests = λ v. agree-refl _ _ (d .memory);
-    }
+module _
+    (b : Board) (legal : Legal b) (d : Store) (l : length (d .memory) ≡ memoryLength b) (n : length (d .buffer) ≡ bufferLength)
   where
-    unheld : (m : ℕ) → Wants b m k (transferAt (stateAtReset b) m) → ⊥
-    unheld m w = true≢false (sym (w .held) ∙ ap (λ (t : Transfer). t .held) (transfer-reset b m))
+    unheld : (m k : ℕ) → Wants b m k (activeAt (stateAtReset b) m) → ⊥
+    unheld m k w =
+        let none = active-free (stateAtReset b) m (late-reset b m) ∙ transfer-reset b m in
+        true≢false (sym (w .held) ∙ ap (λ (t : Transfer). t .held) none)
+
+    slave-reset : (k : ℕ) → k < b .«slave_count»
+        → Right b (activeAt (stateAtReset b)) d (referenceAt (d .memory)) k (slotAt (stateAtReset b) k)
+    unfolding referenceAt
+    slave-reset k h =
+        let off : slotAt (stateAtReset b) k .serving ≡ false = rw (slot-reset b k h (legal .fewSlaves)) in
+        record {
+          memory = l;
+          buffer = n;
+          bytes = l;
+          asked = λ m w. absurd (unheld m k w);
+          waits = λ m w. absurd (unheld m k w);
+          wants = λ v. absurd (true≢false (sym v ∙ off));
+          serves = λ v. absurd (true≢false (sym v ∙ off));
+          rests = λ v. agree-refl _ _ (d .memory);
+        }
+
+    latent-reset : Latent b (stateAtReset b) d (referenceAt (d .memory))
+    unfolding Latent
+    latent-reset m h = absurd (h (late-reset b m))
+
+    reset-right : Agreed b (stateAtReset b) d (referenceAt (d .memory))
+    reset-right = record { slaves = slave-reset; latent = latent-reset }
 
 -- ---- a post that is not refused
 
@@ -83,13 +96,18 @@ module _
     then-sound : Sound b stateThen
     then-sound = post-sound b st (q .master) (transferOf q) legal sound (fresh .master) (fresh .free) (fresh .fits) refl
 
-    then-new : transferAt stateThen (q .master) ≡ transferOf q
+    -- who posts has no latency clocks to pass
+    poster-free : lateAt st (q .master) ≡ 0
+    poster-free = sound .free (q .master) (fresh .free)
+
+    then-new : activeAt stateThen (q .master) ≡ transferOf q
     then-new =
-        transfer-with st (q .master) (transferOf q) (sound .transfers) (omega (arith, fresh .master, legal .fewMasters))
+        active-free stateThen (q .master) (late-with st (q .master) (transferOf q) (q .master) ∙ poster-free)
+        ∙ transfer-with st (q .master) (transferOf q) (sound .transfers) (omega (arith, fresh .master, legal .fewMasters))
 
     few : bytesHeld b (q .master) (transferOf q) ≤ 512
     few =
-        let w : Wants b (q .master) (targetOf b (q .master) (q .address)) (transferAt stateThen (q .master))
+        let w : Wants b (q .master) (targetOf b (q .master) (q .address)) (activeAt stateThen (q .master))
         = rw then-new (record { held = refl; target = refl }) in
         rw then-new at (lies b legal stateThen then-sound (q .master) (targetOf b (q .master) (q .address)) w .few)
 
@@ -130,16 +148,20 @@ module _
               ∙ sym (table-is (λ i. getD (q .words) i 0) (length (q .words)) 0 (q .words) refl (λ i l. refl)));
         }
 
-    module _ (k : ℕ) (x : Slot) (c : Right b (transferAt st) d r k x) where
-      kept : (m : ℕ) → m ≢ q .master → transferAt stateThen m ≡ transferAt st m
-      kept m h = transfer-with-other st (q .master) (transferOf q) m h
+    module _ (k : ℕ) (x : Slot) (c : Right b (activeAt st) d r k x) where
+      kept : (m : ℕ) → m ≢ q .master → activeAt stateThen m ≡ activeAt st m
+      kept m h =
+          active-same st stateThen m (transfer-with-other st (q .master) (transferOf q) m h)
+          (late-with st (q .master) (transferOf q) m)
 
       -- whom the slave serves holds another transfer
       owner-other : x .serving ≡ true → x .owner ≢ q .master
       owner-other v e =
-          true≢false (sym (c .wants v .held) ∙ ap (λ (i : ℕ). transferAt st i .held) e ∙ fresh .free)
+          let w = c .wants v .held in
+          let held : transferAt st (x .owner) .held ≡ true = rw (active-held st (x .owner) w .1) at w in
+          true≢false (sym held ∙ ap (λ (i : ℕ). transferAt st i .held) e ∙ fresh .free)
 
-      slave-right : Right b (transferAt stateThen) storeThen (fedPost q r) k x
+      slave-right : Right b (activeAt stateThen) storeThen (fedPost q r) k x
       unfolding fedPost
       slave-right = record {
         memory = c .memory;
@@ -149,9 +171,9 @@ module _
             ⊎-elim
             (λ (e : m ≡ q .master). rw (e, then-new) (new-master (c .buffer)))
             (λ (h : m ≢ q .master).
-            let w′ : Wants b m k (transferAt st m) = rw (kept m h) at w in
+            let w′ : Wants b m k (activeAt st m) = rw (kept m h) at w in
             rw (kept m h)
-            (asked-kept b d storeThen r (fedPost q r) m (transferAt st m) (lies b legal st sound m k w′ .few)
+            (asked-kept b d storeThen r (fedPost q r) m (activeAt st m) (lies b legal st sound m k w′ .few)
             (c .buffer ∙ sym long) (other-master m h) (c .asked m w′)))
             (equal-or m (q .master));
         waits = λ m w.
@@ -163,7 +185,7 @@ module _
         serves = λ v.
             let o = x .owner in
             rw (kept o (owner-other v))
-            (served-kept b k o (transferAt st o) (lies b legal st sound o k (c .wants v)) (x .done) d storeThen r
+            (served-kept b k o (activeAt st o) (lies b legal st sound o k (c .wants v)) (x .done) d storeThen r
             (fedPost q r)
             (record {
               memoryLength = refl;
@@ -182,9 +204,20 @@ module _
           idle true v = rw (v, ne-eqb (x .owner) (q .master) (owner-other v))
           idle false v = rw v
 
+    -- whoever passes latency clocks is another master
+    latent-with : Latent b st d r → Latent b stateThen storeThen (fedPost q r)
+    unfolding Latent
+    latent-with c m h =
+        let late : lateAt st m ≢ 0 = rw (late-with st (q .master) (transferOf q) m) at h in
+        let other : m ≢ q .master = λ e. late (ap (λ (j : ℕ). lateAt st j) e ∙ poster-free) in
+        brought-kept b d storeThen r (fedPost q r) m (sym (length-posted (q .master) (q .words) (d .buffer)))
+        (other-master m other) (c m late)
+
     post-right : Agreed b st d r → Agreed b stateThen storeThen (fedPost q r)
-    unfolding Agreed
-    post-right c k h = rw (slot-with st (q .master) (transferOf q) k) (slave-right k (slotAt st k) (c k h))
+    post-right c = record {
+      slaves = λ k h. rw (slot-with st (q .master) (transferOf q) k) (slave-right k (slotAt st k) (c .slaves k h));
+      latent = latent-with (c .latent);
+    }
 
 -- ---- the calls of a history
 

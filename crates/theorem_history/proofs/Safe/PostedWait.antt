@@ -1,7 +1,7 @@
 -- A post that is taken, where a history has led: its master waits there, and what it may have to wait for is at most the quoted
 -- wait, because every slave is within its owner's turn.
 -- Assumes nothing.
-use mathlib.Core.Path.{_≡_, refl, ap}
+use mathlib.Core.Path.{_≡_, refl, ap, _∙_}
 use mathlib.Core.Bool.{Bool, true, false}
 use mathlib.Core.Logic.{_≢_}
 use Prim.Native.Nat.{ℕ, _+_, _*_, _≤_, _<_}
@@ -11,17 +11,18 @@ use Rattle.description_board.specs.declared.Board.{Board}
 use Rattle.description_board.specs.Records.{masterAt, slaveAt}
 use Rattle.description_board.specs.Legal.{Legal}
 use Rattle.fabric_accesses.specs.declared.Transfer.{Transfer}
-use Rattle.fabric_accesses.specs.Accesses.{waitOf, ownLength}
+use Rattle.fabric_accesses.specs.Accesses.{waitOf, latencyOf, ownLength}
 use Rattle.fabric_state.specs.declared.State.{State}
 use Rattle.fabric_state.specs.Records.{transferAt, slotAt}
 use Rattle.fabric_state.specs.Posting.{Request, transferOf, withTransfer}
 use Rattle.fabric.specs.Calls.{World}
-use Rattle.fabric_state.proofs.StateLaws.{transfer-with, slot-with}
+use Rattle.fabric_state.proofs.StateLaws.{transfer-with, slot-with, late-with}
 use Rattle.fabric_state.proofs.RequestLaws.{Accepted, accepted, accepted-accesses, requests-of}
 use Rattle.theorem_bounds.proofs.Potential.{pot-quoted}
-use Rattle.theorem_history.specs.Claim.{slaveFor, waitFor, lengthOf}
+use Rattle.theorem_history.specs.Claim.{slaveFor, waitFor, lengthOf, lateFor}
 use Rattle.theorem_history.proofs.OneClock.PairFigures.{sharesOf, singleOf, longestOf, wait-quoted}
 use Rattle.theorem_history.proofs.OneClock.AfterGrant.{leftAt}
+use Rattle.theorem_history.proofs.OneClock.UsableGrants.{usableAt, usable-none}
 use Rattle.theorem_history.proofs.OneClock.SlaveClock.{InTurn, left-rests}
 use Rattle.theorem_history.proofs.Histories.OnePost.{Taken, asks-other, pot-with}
 use Rattle.theorem_history.proofs.Histories.Standing.{Standing}
@@ -47,6 +48,11 @@ module _ (b : Board) (legal : Legal b) where
     pub own-length : ownLength (masterAt b (q .master)) (slaveAt b (slaveFor b q)) (transferOf q) ≤ lengthOf b q
     unfolding lengthOf
     own-length = omega arith
+
+    -- and is finished no later behind it
+    pub own-latency : latencyOf (slaveAt b (slaveFor b q)) (transferOf q) ≤ lateFor b q
+    unfolding lateFor
+    own-latency = omega arith
 
   module _ (w : World) (x : Standing b w) (q : Request) (taken : Taken b (w .state) q) where
     abbrev st : State
@@ -82,17 +88,18 @@ module _ (b : Board) (legal : Legal b) where
     unfolding InTurn waitFor
     posted-waits = record {
       holds = holds;
-      asks = requests-of b then s m (ap (λ (t : Transfer). t .held) holds) (rw holds (fits st q taken .selected));
+      asks = requests-of b then s m (late-with st m (transferOf q) m ∙ x .sound .free m (taken .free))
+          (ap (λ (t : Transfer). t .held) holds) (rw holds (fits st q taken .selected));
       off = rw (slot-with st m (transferOf q) s) off;
       bound = λ a.
           let aside : slotAt st s .owner ≡ m → slotAt st s .remaining ≡ 0 = rw (slot-with st m (transferOf q) s) at a in
-          let turn : InTurn b s (slotAt st s .owner) (slotAt st s .remaining) (leftAt b st s) = x .paced s hs in
+          let turn : InTurn b s (slotAt st s .owner) (usableAt b st s) (leftAt b st s) = x .paced s hs in
           omega (
             arith,
             pot-with b st (x .sound) m (transferOf q) (taken .free) s m hs,
             wait-quoted b s hs m,
             pot-quoted (b .«master_count») (sharesOf b s) (singleOf b s) (longestOf b s) m (slotAt st s .owner)
-                (slotAt st s .remaining) (leftAt b st s) (taken .master) (x .sound .owner s hs) turn
-                (λ o. (aside o, none-left o)),
+                (usableAt b st s) (leftAt b st s) (taken .master) (x .sound .owner s hs) turn
+                (λ o. (usable-none b st s (slotAt st s) (aside o), none-left o)),
           );
     }

@@ -1,5 +1,5 @@
 -- The wait is safe: in every history the first cycle comes at clock w + 1 or before (rule 6.3), and the finish at clock
--- w + own length or before (rule 6.4).
+-- w + own length + latency or before (rule 6.4).
 -- Assumes nothing.
 use mathlib.Core.Path.{_≡_}
 use mathlib.Core.Bool.{true}
@@ -13,14 +13,14 @@ use Rattle.description_board.specs.Legal.{Legal}
 use Rattle.fabric_state.specs.Posting.{Request, transferOf}
 use Rattle.fabric.specs.Calls.{World, post}
 use Rattle.theorem_history.specs.Claim.{Call, Start, History, after, answers, shows, names, any, Accepted, afterPosting}
-use Rattle.theorem_history.specs.Claim.{slaveFor, waitFor, lengthOf}
+use Rattle.theorem_history.specs.Claim.{slaveFor, waitFor, lengthOf, lateFor}
 use Rattle.theorem_history.proofs.Histories.CallCases.{TakesPost, withPost, post-leaves}
 use Rattle.theorem_history.proofs.Histories.LentLengths.{post-before, lent-before, counted-lent}
 use Rattle.theorem_history.proofs.Histories.OnePost.{Taken, post-taken}
 use Rattle.theorem_history.proofs.Histories.Standing.{Standing, post-stands, history-stands}
 use Rattle.theorem_history.proofs.Safe.ClockTests.{by-more}
 use Rattle.theorem_history.proofs.Safe.WaitBounds.{Bounds, bounds}
-use Rattle.theorem_history.proofs.Safe.PostedWait.{fits, lasts, own-length, posted-waits}
+use Rattle.theorem_history.proofs.Safe.PostedWait.{fits, lasts, own-length, own-latency, posted-waits}
 
 module _
     (b : Board) (legal : Legal b) (w : World) (before : List Call) (q : Request) (calls : List Call) (start : Start b w)
@@ -61,12 +61,13 @@ module _
         let k = waitFor b q in
         rw (add-one k) (bounded some .first k (posted-waits b legal here (stands some) q taken) (omega arith))
 
-    pub finished : waitFor b q + lengthOf b q ≤ length (answers calls)
-        → any (names (q .master)) (take (waitFor b q + lengthOf b q) (answers calls)) ≡ true
+    pub finished : waitFor b q + lengthOf b q + lateFor b q ≤ length (answers calls)
+        → any (names (q .master)) (take (waitFor b q + lengthOf b q + lateFor b q) (answers calls)) ≡ true
     finished l =
         let lasting = lasts b legal (here .state) q taken in
         let enough = own-length b legal (here .state) q taken in
+        let late = own-latency b legal (here .state) q taken in
         let some : 1 ≤ length (answers calls) = omega arith in
         let k = waitFor b q in
-        by-more (names (q .master)) _ (k + lengthOf b q) (answers calls) (omega arith)
+        by-more (names (q .master)) _ (k + lengthOf b q + lateFor b q) (answers calls) (omega arith)
         (bounded some .finish k (posted-waits b legal here (stands some) q taken)) l
