@@ -1,5 +1,5 @@
--- Every example of Rows, Examples, NativeRows, ConnectionRows, VariantRows, OrderRows and LaneRows holds: each side computes to
--- the same.
+-- Every example of Rows, Examples, NativeRows, ConnectionRows, VariantRows, OrderRows, LaneRows and LatencyRows holds: each side
+-- computes to the same.
 -- Assumes nothing.
 use mathlib.Core.Path.{refl}
 use lib.Count.{ones, onesIn, trailingZeros}
@@ -25,7 +25,7 @@ use Rattle.fabric_lanes.specs.Lanes.{lowest, adjacent, legalLanes, postLanes}
 use Rattle.fabric_accesses.specs.Decoding.{agrees, selects, targetOf}
 use Rattle.fabric_accesses.specs.Alignment.{ratio, leavesOut, laneBytes, accessBytes, hasLane, byteOffset}
 use Rattle.fabric_accesses.specs.Accesses.{firstByte, accessOffset, wordOffset, writeLanes, slaveLanes}
-use Rattle.fabric_accesses.specs.Accesses.{accessed, accessNumbers, accesses, accessNumber, waitOf, ownLength}
+use Rattle.fabric_accesses.specs.Accesses.{accessed, accessNumbers, accesses, accessNumber, waitOf, latencyOf, ownLength}
 use Rattle.fabric_accesses.specs.Runs.{runLimit, placeOf, runOf}
 use Rattle.fabric_arbiter.specs.Choosing.{nextMaster, tried, firstRequester}
 use Rattle.fabric_arbiter.specs.Granting.{kept, grantTo, granted, arbiterAfter}
@@ -34,11 +34,11 @@ use Rattle.fabric_bytes.specs.Bytes.{postedWords, memoryIndex, stores, byteRead
 use Rattle.fabric_state.specs.Records.{noState}
 use Rattle.fabric_state.specs.Posting.{wrongBeats, unaligned, wrongLanes, unmapped, passesEnd, transferRefusalBy, transferRefusal}
 use Rattle.fabric_state.specs.Posting.{withTransfer}
-use Rattle.fabric_state.specs.Soundness.{requests, soundTransfer, soundOwner, soundRemaining, soundService, soundRest}
-use Rattle.fabric_state.specs.Soundness.{soundSlotBy, soundSlot, sound}
+use Rattle.fabric_state.specs.Soundness.{holdsFor, requests, latencyAt, soundHeld, soundTransfer, soundOwner, soundRemaining}
+use Rattle.fabric_state.specs.Soundness.{soundService, soundRest, soundSlotBy, soundSlot, sound}
 use Rattle.fabric_state.specs.Control.{grantAt, slotBy, slotGranted, slotAfterGrant, lineOf, waits, slotWaiting, slotAccessed}
-use Rattle.fabric_state.specs.Control.{slotFinished, served, stepOf, lineAfter, slotAfter, finishes, finished, maskOf}
-use Rattle.fabric_state.specs.Control.{transferAfter, stateAfter, linesOf}
+use Rattle.fabric_state.specs.Control.{slotFinished, served, stepOf, lineAfter, slotAfter, endsAt, ended, lateAfter, finished}
+use Rattle.fabric_state.specs.Control.{maskOf, transferAfter, stateAfter, linesOf}
 use Rattle.fabric_state.specs.Carrying.{carriesOut, carried, carriedBy, storeAfter}
 use Rattle.fabric_state.specs.Resetting.{resetState, stateAtReset}
 use Rattle.fabric.specs.Calls.{reset, wrongWords, requestRefusal, postRefusalBy, postRefusal, post, bufferAfterPost, clockRefusal}
@@ -58,10 +58,12 @@ use Rattle.theorem_rows.specs.ConnectionRows.{withShares, threeMasters, 
 use Rattle.theorem_rows.specs.VariantRows.{variant, variantText, exchangedText, board, variantTable, VariantRows}
 use Rattle.theorem_rows.specs.OrderRows.{behindSlaves, orderedText, OrderRows}
 use Rattle.theorem_rows.specs.LaneRows.{laneText, laneBoard, lanePosted, servedAnswers, LaneRows}
+use Rattle.theorem_rows.specs.LatencyRows.{endingIn, latencyBoard, zeroLatency, latencyStart, aloneWith, besideRead}
+use Rattle.theorem_rows.specs.LatencyRows.{readClocked, postAnswers, lateAnswers, serving, figuresText, figuresBoard, LatencyRows}
 use Rattle.theorem_rows.specs.Rows.{boardText, sharesText, tableOutput, Rows}
 
 -- one list of definitions for all tables, crate by crate
-proved : Rows × Examples × NativeRows × ConnectionRows × VariantRows × OrderRows × LaneRows
+proved : Rows × Examples × NativeRows × ConnectionRows × VariantRows × OrderRows × LaneRows × LatencyRows
 unfolding
     ones onesIn trailingZeros
     bytesOf bit member same gather table filtered sum every some firstFrom first
@@ -77,18 +79,19 @@ unfolding
     mostBytes reading readText firstRefused chargedLine masterNamedBy namedMaster refusedAt
     lowest adjacent legalLanes postLanes
     agrees selects targetOf ratio leavesOut laneBytes accessBytes hasLane byteOffset firstByte accessOffset wordOffset writeLanes
-    slaveLanes accessed accessNumbers accesses accessNumber waitOf ownLength
+    slaveLanes accessed accessNumbers accesses accessNumber waitOf latencyOf ownLength
     runLimit placeOf runOf
     nextMaster tried firstRequester kept grantTo granted arbiterAfter
     move postedWords memoryIndex stores byteRead written fetched carriedBytes carriedAccess
-    noState wrongBeats unaligned wrongLanes unmapped passesEnd transferRefusalBy transferRefusal withTransfer requests
-    soundTransfer soundOwner soundRemaining soundService soundRest soundSlotBy soundSlot sound grantAt slotBy slotGranted
-    slotAfterGrant lineOf waits slotWaiting slotAccessed slotFinished served stepOf lineAfter slotAfter finishes finished maskOf
-    transferAfter stateAfter linesOf carriesOut carried carriedBy storeAfter resetState stateAtReset
+    noState wrongBeats unaligned wrongLanes unmapped passesEnd transferRefusalBy transferRefusal withTransfer holdsFor requests
+    latencyAt soundHeld soundTransfer soundOwner soundRemaining soundService soundRest soundSlotBy soundSlot sound
+    grantAt slotBy slotGranted slotAfterGrant lineOf waits slotWaiting slotAccessed slotFinished served stepOf lineAfter slotAfter
+    endsAt ended lateAfter finished maskOf transferAfter stateAfter linesOf carriesOut carried carriedBy storeAfter
+    resetState stateAtReset
     reset wrongWords requestRefusal postRefusalBy postRefusal post bufferAfterPost clockRefusal clock storeAfterClock afterPost
     afterClock
-    quoted.longestAccess quoted.mostBeats quoted.single quoted.serve quoted.turn quoted.otherTurn quoted.turnsOf
-    quoted.quotedWait quoted.serveOf turnAt turnsAt
+    quoted.longestAccess quoted.singleAccess quoted.mostBeats quoted.single quoted.serve quoted.turn quoted.otherTurn
+    quoted.turnsOf quoted.quotedWait quoted.serveOf turnAt turnsAt
     quoteRefusal quoteOf bytes64 pairBytes pairRefusal waitRefusal waitOutput
     heading pairLine pairLines tableText tableOf printRefusal refusedText printed fileLine firstField someLine names
     runs started lineNow clockedFrom shownFrom phases grants readAnswers slaveAnswers boardText sharesText tableOutput
@@ -97,6 +100,8 @@ unfolding
     variant variantText exchangedText board variantTable
     behindSlaves orderedText
     laneText laneBoard lanePosted servedAnswers
+    endingIn latencyBoard zeroLatency latencyStart aloneWith besideRead readClocked postAnswers lateAnswers serving
+    figuresText figuresBoard
 proved = (
   record {
     sixteen = refl;
@@ -149,6 +154,7 @@ proved = (
     lentWide = refl;
     lentSized = refl;
     sixNumbers = refl;
+    sevenNumbers = refl;
     two = refl;
     figures = refl;
   },
@@ -189,6 +195,7 @@ proved = (
     shorter = refl;
     largest = refl;
     others = refl;
+    apart = refl;
     line = refl;
   },
   record {
@@ -229,6 +236,47 @@ proved = (
     readDone = refl;
     figures = refl;
   },
+  record {
+    read = refl;
+    counted = refl;
+    holds = refl;
+    oneLeft = refl;
+    noneLeft = refl;
+    released = refl;
+    other = refl;
+    otherEnds = refl;
+    bothLate = refl;
+    turnLost = refl;
+    turnKept = refl;
+    postFirst = refl;
+    postSecond = refl;
+    postTaken = refl;
+    bytes = refl;
+    bytesStay = refl;
+    bytesWritten = refl;
+    write = refl;
+    writeCount = refl;
+    zeroRead = refl;
+    longest = refl;
+    tooLong = refl;
+    sevenNumbers = refl;
+    nineNumbers = refl;
+    all = refl;
+    some = refl;
+    tooMany = refl;
+    ofWrite = refl;
+    served = refl;
+    ofServed = refl;
+    ofNobody = refl;
+    outside = refl;
+    burst = refl;
+    accessLongest = refl;
+    accessSingle = refl;
+    turnFirst = refl;
+    turnSecond = refl;
+    figures = refl;
+    zeroFigures = refl;
+  },
 )
 
 pub rows : Rows
@@ -251,3 +299,6 @@ order-rows = proved .5
 
 pub lane-rows : LaneRows
 lane-rows = proved .6
+
+pub latency-rows : LatencyRows
+latency-rows = proved .7

@@ -6,3 +6,4 @@ pub mod ConnectionRows
 pub mod VariantRows
 pub mod OrderRows
 pub mod LaneRows
+pub mod LatencyRows
