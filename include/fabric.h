@@ -19,7 +19,7 @@
  *
  * A board, a state and a clock's lines are plain numbers of 32 bits, which may also be set by hand (rules 1.10 and 2.4). A
  * mark (held, write, serving) is yes unless it is 0. Every other number is judged as it stands, none is cut to fewer bits: a
- * wait of 300 is refused with 3, an owner of 256 with 9, lanes of 256 with 15.
+ * wait of 300 is refused with 3, a latency of 64 too, an owner of 256 with 9, lanes of 256 with 15.
  *
  * The functions are proved to answer as said here for all numbers, bytes and lengths. The caller's part: no pointer is null,
  * not even for a length of 0, each is valid for the length handed in with it or for its struct, and what a call may write
@@ -36,7 +36,7 @@ extern "C" {
 #endif
 
 /* The version of this header and of the library. */
-#define FABRIC_VERSION "1.5"
+#define FABRIC_VERSION "1.6"
 
 /* The most masters and slaves of a board (rule 1.1), and the most bytes of its description (rule 1.2). */
 #define FABRIC_MASTERS 8
@@ -55,8 +55,8 @@ extern "C" {
 #define FABRIC_WAIT_BYTES 16
 
 /* How many numbers the structs below are: each may be handled as an array of uint32_t, members in their order. */
-#define FABRIC_BOARD_NUMBERS 258
-#define FABRIC_STATE_NUMBERS 120
+#define FABRIC_BOARD_NUMBERS 274
+#define FABRIC_STATE_NUMBERS 128
 #define FABRIC_LINES_NUMBERS 96
 
 /*
@@ -104,7 +104,8 @@ struct fabric_slave {
     uint32_t burst;
     uint32_t read_wait; /* clocks in front of each access (rule 4.8) */
     uint32_t write_wait;
-    uint32_t native; /* 0 bus sizing, 1 native alignment (rule 4.10) */
+    uint32_t native;  /* 0 bus sizing, 1 native alignment (rule 4.10) */
+    uint32_t latency; /* clocks between the last access of a read and its finish (rule 4.16) */
 };
 
 struct fabric_board {
@@ -115,7 +116,10 @@ struct fabric_board {
     uint32_t shares[FABRIC_MASTERS][FABRIC_SLAVES]; /* of a master at a slave; 0 where they are not connected (rule 1.8) */
 };
 
-/* The state: the transfer that each master holds (rules 3.1 and 3.3), and each slave's slot (rule 4.1). */
+/*
+ * The state: the transfer that each master holds (rules 3.1 and 3.3), each slave's slot (rule 4.1), and for each master the latency
+ * clocks that its read still has to pass (rule 4.16).
+ */
 struct fabric_transfer {
     uint32_t held; /* a mark; the other numbers count only where it is yes */
     uint32_t write;
@@ -135,6 +139,7 @@ struct fabric_slot {
 struct fabric_state {
     struct fabric_transfer transfer[FABRIC_MASTERS];
     struct fabric_slot slot[FABRIC_SLAVES];
+    uint32_t late[FABRIC_MASTERS]; /* for a read that is held and not served at most the slave's latency, else 0 (rule 7.9) */
 };
 
 /* What a clock shows of a slave (rule 4.13): an idle one 0 everywhere, a waiting one the access that it waits for. */
@@ -198,7 +203,8 @@ uint32_t fabric_refused_master(const uint8_t *text, size_t text_length);
 uint32_t fabric_reset(const struct fabric_board *board, struct fabric_state *state);
 
 /*
- * A master hands in one transfer, which it holds until a clock's mask has its bit (rules 3.1 to 3.3).
+ * A master hands in one transfer, which it holds until a clock's mask has its bit (rules 3.1 to 3.3), a read with latency clocks to
+ * pass too.
  *
  *   board, state            the state gets the transfer
  *   buffer, buffer_length   FABRIC_BUFFER_BYTES; the words of a write are copied there (rule 3.2)
@@ -214,13 +220,14 @@ uint32_t fabric_post(const struct fabric_board *board, struct fabric_state *stat
                      const uint8_t *words, size_t words_length);
 
 /*
- * One clock of all slaves (rules 4.1 to 4.14).
+ * One clock of all slaves (rules 4.1 to 4.14 and 4.16).
  *
  *   board, state            the state as the clock leaves it
  *   memory, memory_length   what the spans add up to; the bytes of a write access go there
  *   buffer, buffer_length   FABRIC_BUFFER_BYTES; the bytes of a read access go to its master's part
  *   lines                   what the clock shows of each slave; behind the board's slaves 0
- *   mask                    the masters that are finished: bit m for master m
+ *   mask                    the masters that are finished, bit m for master m: a write with its last access, a read at a slave
+ *                           with latency L in the L-th clock after its last access, which has freed the slave (rule 4.16)
  *
  * Refused with 2 to 7, 19 and 20 (the board), 8 (memory or buffer) and 9 (the state).
  */
@@ -244,7 +251,8 @@ uint32_t fabric_run(const struct fabric_board *board, struct fabric_state *state
 
 /*
  * The quoted figures of a pair, both in clocks: how long the master waits at the slave at the most, the wait (rule 5.7), and
- * how long its longest transfer there takes, the serve (rule 5.5).
+ * how long its longest transfer there takes up to its last access, the serve (rule 5.5). Latency clocks are counted in neither: the
+ * slave serves others meanwhile.
  *
  *   text, text_length   a description, as for fabric_read
  *   master, slave       their numbers, counted from 0 in the order of the description's lines

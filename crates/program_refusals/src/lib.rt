@@ -26,8 +26,10 @@ use description::Refusal;
 use libc::STDERR_FILENO;
 use libc::STDOUT_FILENO;
 
-// The commas of a slave line that lacks its last number.
-const OLD_SLAVE_COMMAS: u32 = SLAVE_FIELDS as u32 - 1;
+// The commas of a slave line that lacks its last number, latency, and of one that lacks its last two, native and latency.
+const COMMAS_TO_NATIVE: u32 = SLAVE_FIELDS as u32 - 1;
+
+const COMMAS_TO_WAITS: u32 = SLAVE_FIELDS as u32 - 2;
 
 fn say_decimal(fd: i32, n: u64) -> bool {
     let mut digits = [0u8; 20];
@@ -176,24 +178,37 @@ fn begins_slave(line: &[u8]) -> bool {
     (line[0] == b's') & (line[1] == b'l')
 }
 
-// Whether the line at index start is a slave line without its last number, as in descriptions that were written before there was
-// that number.
-fn lacks_native(text: &[u8], start: usize, commas: u32) -> bool {
+// Whether the line at index start begins so.
+fn slave_at(text: &[u8], start: usize) -> bool {
     if start > text.len() {
         return false;
     }
-    begins_slave(&text[start..]) & (commas == OLD_SLAVE_COMMAS)
+    begins_slave(&text[start..])
+}
+
+// What a slave line with so many commas lacks, as in descriptions that were written before there was latency, or before there was
+// native.
+fn say_lacking(commas: u32) {
+    if commas == COMMAS_TO_NATIVE {
+        program_streams::write_all(
+            STDERR_FILENO,
+            b"; a slave line has 8 numbers, the last is latency: 0 to 63 clocks",
+        );
+    }
+    if commas == COMMAS_TO_WAITS {
+        program_streams::write_all(
+            STDERR_FILENO,
+            b"; a slave line has 8 numbers, the last two are native and latency: 0 bus sizing, 1 native alignment; 0 to 63 clocks",
+        );
+    }
 }
 
 fn say_of_old_line(text: &[u8], r: Refusal) {
     if r.number != BAD_TEXT {
         return;
     }
-    if lacks_native(text, line_start(text, r.line), commas_on(text, r.line)) {
-        program_streams::write_all(
-            STDERR_FILENO,
-            b"; a slave line has 7 numbers, the last is native: 0 bus sizing, 1 native alignment",
-        );
+    if slave_at(text, line_start(text, r.line)) {
+        say_lacking(commas_on(text, r.line));
     }
 }
 

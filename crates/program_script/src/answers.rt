@@ -1,4 +1,5 @@
 // What the simulator prints. It gathers in a buffer, which is written out when full and at the end.
+use common_numbers::LATE_FROM;
 use common_numbers::LINE_FIELDS;
 use common_numbers::LINES_NUMBERS;
 use common_numbers::MASTERS;
@@ -209,16 +210,41 @@ pub fn put_clock(
     )
 }
 
+// Prints the transfer of master m, and behind its numbers the latency clocks that the master still has to pass (rule 4.16), which
+// stand behind the slots in a state: the line that overwrites both.
+fn put_transfer(
+    out: &mut [u8; ROOM],
+    session: Session,
+    m: usize,
+    state: &[u32; STATE_NUMBERS],
+) -> Session
+    requires { ⌜ m < 8 ⌝ }
+{
+    let p = TRANSFER_NUMBERS * m;
+    let numbers = [
+        m as u64,
+        number_at(state, p),
+        number_at(state, p + 1),
+        number_at(state, p + 2),
+        number_at(state, p + 3),
+        number_at(state, p + 4),
+        number_at(state, LATE_FROM + m),
+    ];
+    put_line(out, session, b"transfer", &numbers)
+}
+
+fn put_transfers(out: &mut [u8; ROOM], session: Session, state: &[u32; STATE_NUMBERS]) -> Session {
+    let mut next = session;
+    let mut m = 0;
+    while m < MASTERS {
+        next = put_transfer(&mut *out, next, m, state);
+        m += 1;
+    }
+    next
+}
+
 // Prints all of a state. Its marks are 0 or 1: a line of the script and the library write no other.
 pub fn put_state(out: &mut [u8; ROOM], session: Session, state: &[u32; STATE_NUMBERS]) -> Session {
-    let next = put_records(
-        &mut *out,
-        session,
-        b"transfer",
-        MASTERS,
-        state,
-        0,
-        TRANSFER_NUMBERS,
-    );
+    let next = put_transfers(&mut *out, session, state);
     put_records(out, next, b"slot", SLAVES, state, SLOTS_FROM, SLOT_NUMBERS)
 }

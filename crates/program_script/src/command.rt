@@ -40,7 +40,7 @@ pub const LEND: usize = 13;
 // How many kinds there are; the kind of a line that is none of them.
 pub const KINDS: usize = 14;
 
-// The most fields that a line has behind its word: a card's index and nine numbers.
+// The room for what a line has behind its word. A slave line has the most, its card's index and eight numbers.
 pub const FIELD_COUNT: usize = 10;
 
 // The most bytes of a word, and the letters of a kind: one for each field, and one more that ends them.
@@ -68,10 +68,10 @@ const WORDS: [[u8; WORD_BYTES]; KINDS] = [
 
 // The fields behind it, a letter for each: see `field_value`.
 const FIELDS: [[u8; LETTERS]; KINDS] = [
-    *b"mffwbb     ",
+    *b"mffwbbw    ",
     *b"cbbfhb     ",
     *b"mbb        ",
-    *b"cwwbbbbw   ",
+    *b"cwwbbbbww  ",
     *b"mcb        ",
     *b"bb         ",
     *b"           ",

@@ -1,5 +1,6 @@
 // Entries of the board and the state, overwritten by what a line says, number by number in the order of the line's fields.
 use common_numbers::BOARD_NUMBERS;
+use common_numbers::LATE_FROM;
 use common_numbers::MASTER_NUMBERS;
 use common_numbers::MASTERS_FROM;
 use common_numbers::SHARES_FROM;
@@ -12,6 +13,10 @@ use common_numbers::STATE_NUMBERS;
 use common_numbers::TRANSFER_NUMBERS;
 ghost use Prim.Native.Nat.{_<_};
 use program_script::Command;
+
+// The field of a transfer line behind the master's index and the transfer's numbers: the latency clocks that the master still has to
+// pass (rule 4.16).
+const LATE_FIELD: usize = TRANSFER_NUMBERS + 1;
 
 // A field of a line as a number of an array. The line's limits keep it within 32 bits.
 pub fn number_at(c: Command, i: usize) -> u32 {
@@ -41,12 +46,13 @@ fn put(numbers: &mut [u32], index: usize, c: Command, first: usize, count: usize
     }
 }
 
-// An entry of the state. The first field is its index.
+// An entry of the state. The first field is its index. The count of a transfer line stands behind the slots.
 fn put_state(state: &mut [u32; STATE_NUMBERS], c: Command, i: usize)
     requires { ⌜ i < 16 ⌝ }
 {
     if c.kind == program_script::TRANSFER {
         put(state, TRANSFER_NUMBERS * i, c, 1, TRANSFER_NUMBERS);
+        put(state, LATE_FROM + i, c, LATE_FIELD, 1);
         return;
     }
     put(state, SLOTS_FROM + SLOT_NUMBERS * i, c, 1, SLOT_NUMBERS);
