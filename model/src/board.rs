@@ -4,6 +4,8 @@ pub const MASTER_LIMIT: usize = 8;
 pub const SLAVE_LIMIT: usize = 16;
 /// The most bytes that the spans of a board total.
 pub const MEMORY_LIMIT: u64 = 65_536;
+/// The most clocks of a slave's latency.
+pub const LATENCY_LIMIT: u64 = 63;
 
 /// The widths of a word, in bytes.
 pub const WIDTHS: [u64; 4] = [1, 2, 4, 8];
@@ -26,6 +28,8 @@ pub struct Slave {
     pub write_wait: u8,
     /// 0 for bus sizing, 1 for native alignment; a board set by hand may have any number, and it is refused as it stands.
     pub native: u32,
+    /// The clocks that a read's master stays busy behind the last access; a board set by hand may have any number here too.
+    pub latency: u32,
 }
 
 impl Slave {
@@ -40,6 +44,15 @@ impl Slave {
             self.write_wait
         } else {
             self.read_wait
+        }
+    }
+
+    /// The clocks from the last access of a transfer of this direction to its finish: a write has none.
+    pub fn transfer_latency(&self, write: bool) -> u32 {
+        if write {
+            0
+        } else {
+            self.latency
         }
     }
 }

@@ -1,6 +1,8 @@
 //! The board description: the reader, the writer, and the check of a board that did not come through the reader.
 
-use crate::board::{Board, Master, Slave, BURSTS, MASTER_LIMIT, MEMORY_LIMIT, SLAVE_LIMIT, WIDTHS};
+use crate::board::{
+    Board, Master, Slave, BURSTS, LATENCY_LIMIT, MASTER_LIMIT, MEMORY_LIMIT, SLAVE_LIMIT, WIDTHS,
+};
 
 /// The most bytes of a description.
 pub const TEXT_LIMIT: usize = 8_192;
@@ -21,6 +23,7 @@ pub enum Line {
         read_wait: u64,
         write_wait: u64,
         native: u64,
+        latency: u64,
     },
     Share {
         master: u64,
@@ -75,7 +78,8 @@ fn parse_line(line: &[u8]) -> Option<Line> {
             Some(Line::Master { width, burst })
         }
         b"slave" => {
-            let [base, span, width, burst, read_wait, write_wait, native] = numbers(&fields[1..])?;
+            let [base, span, width, burst, read_wait, write_wait, native, latency] =
+                numbers(&fields[1..])?;
             Some(Line::Slave {
                 base,
                 span,
@@ -84,6 +88,7 @@ fn parse_line(line: &[u8]) -> Option<Line> {
                 read_wait,
                 write_wait,
                 native,
+                latency,
             })
         }
         b"share" => {
@@ -119,7 +124,10 @@ impl Draft {
                 read_wait,
                 write_wait,
                 native,
-            } => self.take_slave([base, span, width, burst, read_wait, write_wait, native]),
+                latency,
+            } => self.take_slave([
+                base, span, width, burst, read_wait, write_wait, native, latency,
+            ]),
             Line::Share {
                 master,
                 slave,
@@ -144,8 +152,8 @@ impl Draft {
         Ok(())
     }
 
-    fn take_slave(&mut self, values: [u64; 7]) -> Result<(), u8> {
-        let [base, span, width, burst, read_wait, write_wait, native] = values;
+    fn take_slave(&mut self, values: [u64; 8]) -> Result<(), u8> {
+        let [base, span, width, burst, read_wait, write_wait, native, latency] = values;
         let count = self.board.slave_count as usize;
         if self.board.master_count == 0 || self.last_pair.is_some() || count == SLAVE_LIMIT {
             return Err(2);
@@ -170,6 +178,7 @@ impl Draft {
             read_wait: read_wait as u8,
             write_wait: write_wait as u8,
             native: native as u32,
+            latency: latency as u32,
         };
         self.board.slave_count += 1;
         Ok(())
@@ -225,8 +234,8 @@ impl Draft {
     }
 }
 
-fn slave_values_in_range(values: [u64; 7]) -> bool {
-    let [base, span, width, burst, read_wait, write_wait, native] = values;
+fn slave_values_in_range(values: [u64; 8]) -> bool {
+    let [base, span, width, burst, read_wait, write_wait, native, latency] = values;
     base <= u32::MAX as u64
         && (8..=65_536).contains(&span)
         && span.is_power_of_two()
@@ -235,6 +244,7 @@ fn slave_values_in_range(values: [u64; 7]) -> bool {
         && read_wait <= 255
         && write_wait <= 255
         && native <= 1
+        && latency <= LATENCY_LIMIT
 }
 
 /// Refuses the length before any line, and the first bad line with its lowest number; a last line without its line feed is a
@@ -283,6 +293,7 @@ fn slave_line(board: &Board, index: usize) -> Line {
         read_wait: slave.read_wait as u64,
         write_wait: slave.write_wait as u64,
         native: slave.native as u64,
+        latency: slave.latency as u64,
     }
 }
 
@@ -333,7 +344,10 @@ fn line_text(line: &Line) -> String {
             read_wait,
             write_wait,
             native,
-        } => format!("slave,{base},{span},{width},{burst},{read_wait},{write_wait},{native}"),
+            latency,
+        } => format!(
+            "slave,{base},{span},{width},{burst},{read_wait},{write_wait},{native},{latency}"
+        ),
         Line::Share {
             master,
             slave,

@@ -15,7 +15,7 @@ pub const BUFFER_LENGTH: usize = 4_096;
 /// Each master's part of the buffer.
 pub const PART_LENGTH: usize = 512;
 
-/// What a master has posted and not finished; only `held` counts where it is false.
+/// What a master has posted and not finished. Where `held` is false, nothing else counts but that `late` is 0.
 #[derive(Clone, Copy, Default, PartialEq, Eq, Debug)]
 pub struct Transfer {
     pub held: bool,
@@ -23,6 +23,8 @@ pub struct Transfer {
     pub address: u32,
     pub lanes: u8,
     pub beats: u8,
+    /// Latency clocks that a read still has to pass behind its last access.
+    pub late: u32,
 }
 
 /// What a slave remembers: its last owner, the grants that remain to it, and how far the transfer that it serves has come.
@@ -92,6 +94,7 @@ pub fn post(
             part[..data.len()].copy_from_slice(data);
             state.transfers[master] = Transfer {
                 held: true,
+                late: 0,
                 ..transfer
             };
             0
@@ -101,6 +104,21 @@ pub fn post(
 
 fn master_part(buffer: &mut [u8], master: usize) -> &mut [u8] {
     &mut buffer[PART_LENGTH * master..PART_LENGTH * (master + 1)]
+}
+
+/// One clock less for every master in its latency, which finishes those that have none left: their mask.
+fn pass_latencies(state: &mut State) -> u8 {
+    let mut mask = 0;
+    for (master, transfer) in state.transfers.iter_mut().enumerate() {
+        if transfer.late > 0 {
+            transfer.late -= 1;
+            if transfer.late == 0 {
+                *transfer = Transfer::default();
+                mask |= 1 << master;
+            }
+        }
+    }
+    mask
 }
 
 /// Clock: one cycle of every slave. A slave that is granted has its first cycle in the same clock.
@@ -113,6 +131,8 @@ pub fn clock(board: &Board, state: &mut State, memory: &mut [u8], buffer: &mut [
         }
         Ok(targets) => targets,
     };
+    // before the slaves act: a latency that begins in this clock is passed from the next one on
+    answer.mask = pass_latencies(state);
     // the slaves' bytes lie one after another, by slave number
     let mut start = 0;
     for slave in 0..board.slave_count as usize {

@@ -112,6 +112,7 @@ impl Simulator {
             address: number32(address)?,
             lanes: byte(lanes)?,
             beats: byte(beats)?,
+            late: 0,
         };
         let data = hex_bytes(data)?;
         if data.len() > POST_BYTES_LIMIT {
@@ -204,7 +205,7 @@ impl Simulator {
     }
 
     fn run_transfer(&mut self, fields: &[&[u8]]) -> Option<()> {
-        let [master, held, write, address, lanes, beats] = exactly(fields)?;
+        let [master, held, write, address, lanes, beats, late] = exactly(fields)?;
         let master = index(master, MASTER_LIMIT)?;
         self.state.transfers[master] = Transfer {
             held: flag(held)?,
@@ -212,6 +213,7 @@ impl Simulator {
             address: number32(address)?,
             lanes: byte(lanes)?,
             beats: byte(beats)?,
+            late: number32(late)?,
         };
         Some(())
     }
@@ -240,7 +242,8 @@ impl Simulator {
     }
 
     fn run_slave(&mut self, fields: &[&[u8]]) -> Option<()> {
-        let [slave, base, span, width, burst, read_wait, write_wait, native] = exactly(fields)?;
+        let [slave, base, span, width, burst, read_wait, write_wait, native, latency] =
+            exactly(fields)?;
         let slave = index(slave, SLAVE_LIMIT)?;
         self.board.slaves[slave] = Slave {
             base: number32(base)?,
@@ -250,6 +253,7 @@ impl Simulator {
             read_wait: byte(read_wait)?,
             write_wait: byte(write_wait)?,
             native: number32(native)?,
+            latency: number32(latency)?,
         };
         Some(())
     }

@@ -30,10 +30,20 @@ pub fn serve(board: &Board, master: usize, slave: usize) -> u64 {
     most_beats(board, master, slave) * single(board, master, slave)
 }
 
+/// The longest transfer of one beat that does not end the turn. Behind a read the master is silent for the slave's latency and
+/// loses its turn, so that only writes are left where there is a latency.
+fn kept_single(board: &Board, master: usize, slave: usize) -> u64 {
+    let card = &board.slaves[slave];
+    match card.latency {
+        0 => single(board, master, slave),
+        _ => board.ratio(master, slave) * (1 + card.write_wait as u64),
+    }
+}
+
 /// The longest turn: a burst ends it, so that all grants but the last are singles.
 fn turn(board: &Board, master: usize, slave: usize) -> u64 {
     let shares = board.shares[master][slave] as u64;
-    (shares - 1) * single(board, master, slave) + serve(board, master, slave)
+    (shares - 1) * kept_single(board, master, slave) + serve(board, master, slave)
 }
 
 /// At worst every other master connected to the slave has its longest turn first.

@@ -1,4 +1,4 @@
-//! A serving slave: its accesses, one after another, until the transfer is finished.
+//! A serving slave: its accesses, one after another, until the last one frees it.
 
 use super::words::{accessed_words, total_accesses};
 use super::{master_part, SlaveLine, Slot, State, Transfer};
@@ -153,7 +153,8 @@ fn carry_out(access: &Access, write: bool, cells: &mut [u8], part: &mut [u8]) {
     }
 }
 
-/// Frees slave and master once all accesses are done: the mask of the master that finished, or 0.
+/// Frees the slave once all accesses are done, and with it the master, unless it has a latency to pass: the mask of the master
+/// that finished, or 0.
 pub fn finish(board: &Board, state: &mut State, slave: usize) -> u8 {
     let slot = &mut state.slots[slave];
     let owner = slot.owner as usize;
@@ -163,6 +164,12 @@ pub fn finish(board: &Board, state: &mut State, slave: usize) -> u8 {
     }
     slot.serving = false;
     slot.done = 0;
-    state.transfers[owner] = Transfer::default();
+    let transfer = &mut state.transfers[owner];
+    let latency = board.slaves[slave].transfer_latency(transfer.write);
+    if latency > 0 {
+        transfer.late = latency;
+        return 0;
+    }
+    *transfer = Transfer::default();
     1 << owner
 }

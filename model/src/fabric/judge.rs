@@ -6,7 +6,7 @@ use crate::board::{Board, MASTER_LIMIT};
 use crate::description::check_board;
 use crate::lanes::{all_lanes, lanes_legal};
 
-/// The slave that each master's held transfer is for.
+/// The slave that each master requests: the one that its held transfer is for, unless it is in its latency.
 pub type Targets = [Option<usize>; MASTER_LIMIT];
 
 /// The connected slave in whose span the address lies. A base is a multiple of its span, so that address and base agree in what
@@ -51,7 +51,8 @@ fn check_state(board: &Board, state: &State) -> Result<Targets, u8> {
     Ok(targets)
 }
 
-/// A held transfer belongs to a master of the board and would be taken by post.
+/// A held transfer belongs to a master of the board and would be taken by post. Only a read that is held has latency clocks to
+/// pass, and no more of them than its slave gives.
 fn check_transfers(board: &Board, state: &State) -> Result<Targets, u8> {
     let mut targets = Targets::default();
     for (master, transfer) in state.transfers.iter().enumerate() {
@@ -60,7 +61,12 @@ fn check_transfers(board: &Board, state: &State) -> Result<Targets, u8> {
                 return Err(9);
             }
             let target = judge_transfer(board, master, transfer).map_err(|_| 9)?;
-            targets[master] = Some(target);
+            if transfer.late > board.slaves[target].transfer_latency(transfer.write) {
+                return Err(9);
+            }
+            targets[master] = (transfer.late == 0).then_some(target);
+        } else if transfer.late > 0 {
+            return Err(9);
         }
     }
     Ok(targets)
@@ -87,6 +93,7 @@ fn check_slot(board: &Board, state: &State, targets: &Targets, slave: usize) -> 
         }
         return Ok(());
     }
+    // a slave serves a transfer that is for it, and none of whose latency has begun
     if targets[owner] != Some(slave) {
         return Err(9);
     }

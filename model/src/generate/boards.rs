@@ -6,7 +6,9 @@ use std::path::Path;
 
 use super::random::Random;
 use super::texts;
-use crate::board::{Board, Master, Slave, BURSTS, MASTER_LIMIT, MEMORY_LIMIT, SLAVE_LIMIT, WIDTHS};
+use crate::board::{
+    Board, Master, Slave, BURSTS, LATENCY_LIMIT, MASTER_LIMIT, MEMORY_LIMIT, SLAVE_LIMIT, WIDTHS,
+};
 use crate::description::{check_board, write_lines};
 
 /// How large a board is to be.
@@ -143,6 +145,27 @@ fn waits(random: &mut Random, limit: usize) -> (u8, u8) {
     }
 }
 
+/// The longest latency of a board's slaves; one board of four has none. Mostly it is short, so that masters post often.
+fn latency_limit(random: &mut Random) -> usize {
+    match random.below(16) {
+        0..=3 => 0,
+        4..=9 => 3,
+        10..=12 => 12,
+        _ => LATENCY_LIMIT as usize,
+    }
+}
+
+/// A slave's latency; some have none on any board.
+fn latency(random: &mut Random, limit: usize) -> u32 {
+    let latency = match random.below(8) {
+        0 | 1 => 0,
+        2 => limit,
+        3 => random.between(0, limit.min(3)),
+        _ => random.between(0, limit),
+    };
+    latency as u32
+}
+
 fn shares(random: &mut Random, limit: usize) -> u8 {
     if random.chance(1, 8) {
         limit as u8
@@ -251,7 +274,16 @@ fn place_slaves(random: &mut Random, board: &mut Board) {
             read_wait,
             write_wait,
             native,
+            latency: 0,
         };
+    }
+}
+
+/// Latencies are drawn behind all else: they change nothing of what a seed gives beside.
+fn set_latencies(random: &mut Random, board: &mut Board) {
+    let limit = latency_limit(random);
+    for slave in &mut board.slaves[..board.slave_count as usize] {
+        slave.latency = latency(random, limit);
     }
 }
 
@@ -270,22 +302,27 @@ pub fn board(random: &mut Random, size: Size) -> Board {
     }
     place_slaves(random, &mut board);
     connect(random, &mut board, size);
+    set_latencies(random, &mut board);
     debug_assert!(check_board(&board).is_ok());
     board
 }
 
-/// A slave whose line is as long as one can be; they lie below the highest address, downward. Every other one is native, and so
-/// narrow that all masters can be connected with it.
+/// A slave whose line is as long as one can be beside the others: the memory has room for three spans of five digits and thirteen
+/// of four. They lie below the highest address, downward. Every other one is native, and so narrow that all masters can be
+/// connected with it.
 fn longest_slave(index: usize) -> Slave {
     let native = index % 2 == 1;
+    let spans = |index: usize| if index < 3 { 16_384 } else { 1_024 };
+    let below: u32 = (0..=index).map(spans).sum();
     Slave {
-        base: u32::MAX - 4096 * (index as u32 + 1) + 1,
-        span: 4096,
+        base: u32::MAX - below + 1,
+        span: spans(index),
         width: if native { 1 } else { 8 },
         burst: 64,
         read_wait: 255,
         write_wait: 255,
         native: native as u32,
+        latency: LATENCY_LIMIT as u32,
     }
 }
 
@@ -360,6 +397,10 @@ pub fn write_boards(seed: u64, count: usize, directory: &Path) -> io::Result<()>
             }
             15..=17 => {
                 let plan = texts::unordered_plan(&mut random);
+                texts::text(&mut random, plan)
+            }
+            18 | 19 => {
+                let plan = texts::latency_plan(&mut random);
                 texts::text(&mut random, plan)
             }
             _ => taken_text(&mut random),

@@ -2,6 +2,7 @@
 
 mod clocks;
 mod corrupt;
+mod late;
 mod lines;
 mod malformed;
 mod native;
@@ -87,14 +88,16 @@ impl Author {
         (0..self.slaves()).filter(|&slave| is_such(slave)).collect()
     }
 
-    /// Mostly a slave: a native one, one of which a beat covers several words, or any.
+    /// Mostly a slave: a native one, one of which a beat covers several words, one with a latency, or any.
     fn hot_slave(&mut self) -> Option<usize> {
         let native = self.slaves_that(|_, slave| self.board.slaves[slave].is_native());
         let narrower = self.slaves_that(|master, slave| self.board.ratio(master, slave) > 1);
-        match self.random.below(4) {
+        let late = self.slaves_with_latency();
+        match self.random.below(5) {
             0 => None,
             1 if !native.is_empty() => Some(self.random.pick(&native)),
             2 if !narrower.is_empty() => Some(self.random.pick(&narrower)),
+            3 if !late.is_empty() => Some(self.random.pick(&late)),
             _ => Some(self.random.below(self.slaves())),
         }
     }
@@ -153,7 +156,7 @@ impl Author {
 
     /// Some lines that belong together.
     fn stretch(&mut self) {
-        match self.random.below(28) {
+        match self.random.below(34) {
             0..=12 => self.busy(),
             13 | 14 => self.quiet(),
             15..=20 => self.corrupt(),
@@ -161,6 +164,8 @@ impl Author {
             23 => self.realign(),
             24 => self.unconnect(),
             25 | 26 => self.partial_writes(),
+            27..=29 => self.reads_in_turn(),
+            30..=32 => self.late_counts(),
             _ => self.fresh(),
         }
     }

@@ -2,6 +2,7 @@
 
 mod damage;
 mod fields;
+mod latency;
 mod long;
 mod meaning;
 mod native;
@@ -16,6 +17,7 @@ use super::random::Random;
 use crate::description::TEXT_LIMIT;
 use damage::{line_text, whole_text, LINE_DAMAGES, WHOLE_DAMAGES};
 use fields::{field_text, field_values, two_fields_text, two_lines_text};
+use latency::{latency_text, LATENCIES, ONLY_ABOVE};
 use long::long_text;
 use meaning::{meaning_text, MEANINGS};
 use native::{native_text, NATIVES};
@@ -38,6 +40,8 @@ pub enum Plan {
     Meaning(usize),
     /// The numbered fault at a native slave and a master narrower than it.
     Native(usize),
+    /// The numbered text about the latency field of a slave line.
+    Latency(usize),
     /// The numbered text in which a master has no share line.
     Unconnected(usize),
     /// Share lines in the numbered order, beside the numbered fault; fault 0 is none.
@@ -95,6 +99,7 @@ pub fn damaging_plans() -> Vec<Plan> {
     plans.extend((0..WHOLE_DAMAGES).map(Plan::Whole));
     plans.extend((0..2 * MEANINGS).map(|case| Plan::Meaning(case % MEANINGS)));
     plans.extend((0..5 * NATIVES).map(|case| Plan::Native(case % NATIVES)));
+    plans.extend((0..3 * LATENCIES).map(|case| Plan::Latency(case % LATENCIES)));
     plans.extend((0..2 * UNCONNECTED).map(|case| Plan::Unconnected(case % UNCONNECTED)));
     plans.extend((0..60).map(|case| Plan::Unconnected(case % ONLY_UNCONNECTED)));
     plans.extend((0..100).map(|_| Plan::TwoLines));
@@ -117,6 +122,12 @@ pub fn unordered_plan(random: &mut Random) -> Plan {
         false => random.below(FAULTS),
     };
     Plan::Unordered(order, fault)
+}
+
+/// A latency that is refused, or a slave line without one; in two of three cases nothing else is wrong.
+pub fn latency_plan(random: &mut Random) -> Plan {
+    let limit = random.pick(&[ONLY_ABOVE, ONLY_ABOVE, LATENCIES]);
+    Plan::Latency(random.below(limit))
 }
 
 /// A text of a length near the limit, or far above it.
@@ -153,6 +164,7 @@ pub fn text(random: &mut Random, plan: Plan) -> Vec<u8> {
         Plan::Whole(damage) => whole_text(random, damage),
         Plan::Meaning(case) => meaning_text(random, case),
         Plan::Native(case) => native_text(random, case),
+        Plan::Latency(case) => latency_text(random, case),
         Plan::Unconnected(case) => unconnected_text(random, case),
         Plan::Unordered(order, fault) => unordered_text(random, order, fault),
         Plan::Long(length, fault) => long_text(random, length, fault),

@@ -67,6 +67,7 @@ pub fn put_transfers(text: &mut Vec<u8>, transfers: &[Transfer]) {
             transfer.address,
             transfer.lanes as u32,
             transfer.beats as u32,
+            transfer.late,
         ];
         put_line(text, b"transfer", &values);
     }

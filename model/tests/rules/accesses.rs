@@ -8,7 +8,7 @@ use model::lanes::all_lanes;
 /// The runs of a read by a master of this width at a slave of the other, read off the lines of its clocks.
 fn runs_of(master_width: u8, slave_width: u8, slave_burst: u8, beats: u8) -> Vec<u8> {
     let text = format!(
-        "master,{master_width},64\nslave,0,512,{slave_width},{slave_burst},0,0,0\nshare,0,0,1\n"
+        "master,{master_width},64\nslave,0,512,{slave_width},{slave_burst},0,0,0,0\nshare,0,0,1\n"
     );
     let mut fabric = Fabric::new(&text);
     let transfer = read_of(0, all_lanes(master_width), beats);
@@ -30,7 +30,7 @@ fn runs_are_cut_at_the_burst_length_of_the_slave() {
 
 #[test]
 fn every_access_of_a_run_shows_its_length_and_its_own_place() {
-    let mut fabric = Fabric::new("master,4,8\nslave,0,64,4,4,0,0,0\nshare,0,0,1\n");
+    let mut fabric = Fabric::new("master,4,8\nslave,0,64,4,4,0,0,0,0\nshare,0,0,1\n");
     assert_eq!(fabric.post(0, read_of(0, 15, 7), &[]), 0);
     let lines = fabric.clock_until_finished();
     let shown: Vec<(u8, u8)> = lines.iter().map(|line| (line.run, line.place)).collect();
@@ -76,7 +76,7 @@ fn a_write_of_a_wider_master_stores_only_its_lanes() {
 
 #[test]
 fn a_write_of_a_narrower_master_goes_to_its_part_of_the_word() {
-    let mut fabric = Fabric::new("master,1,2\nslave,0,8,4,8,0,0,0\nshare,0,0,1\n");
+    let mut fabric = Fabric::new("master,1,2\nslave,0,8,4,8,0,0,0,0\nshare,0,0,1\n");
     assert_eq!(fabric.post(0, write_of(6, 1, 2), &[8, 9]), 0);
     let lines = fabric.clock_until_finished();
     let shown: Vec<(u32, u8)> = lines.iter().map(|line| (line.offset, line.lanes)).collect();

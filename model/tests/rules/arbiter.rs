@@ -6,7 +6,7 @@ use crate::fabric::{read_of, Fabric};
 fn shared_slave(shares: [u8; 2]) -> Fabric {
     let [first, second] = shares;
     Fabric::new(&format!(
-        "master,4,8\nmaster,4,8\nslave,0,64,4,1,0,0,0\nshare,0,0,{first}\nshare,1,0,{second}\n"
+        "master,4,8\nmaster,4,8\nslave,0,64,4,1,0,0,0,0\nshare,0,0,{first}\nshare,1,0,{second}\n"
     ))
 }
 

@@ -9,7 +9,7 @@ fn number_of(text: &str) -> u8 {
 
 fn slave_number(base: u32, span: u32) -> u8 {
     number_of(&format!(
-        "master,4,8\nslave,{base},{span},2,8,1,0,0\nshare,0,0,1\n"
+        "master,4,8\nslave,{base},{span},2,8,1,0,0,0\nshare,0,0,1\n"
     ))
 }
 

@@ -60,6 +60,7 @@ pub fn read_of(address: u32, lanes: u8, beats: u8) -> Transfer {
         address,
         lanes,
         beats,
+        late: 0,
     }
 }
 

@@ -13,7 +13,7 @@ use model::table::{print, print_files};
 /// What is printed for `BOARD`.
 const TABLE: &str = "master,slave,wait,serve\n0,0,6,32\n1,0,36,2\n";
 /// One master alone, and what is printed for it.
-const ALONE: &str = "master,1,4\nslave,0,8,1,1,0,2,0\nshare,0,0,9\n";
+const ALONE: &str = "master,1,4\nslave,0,8,1,1,0,2,0,0\nshare,0,0,9\n";
 const ALONE_TABLE: &str = "master,slave,wait,serve\n0,0,0,12\n";
 
 /// The files of one test.
@@ -117,7 +117,7 @@ fn the_same_file_twice_is_printed_twice() {
 fn a_refused_file_has_its_number_and_ends_nothing() {
     let folder = Folder::new("refused");
     let words = [
-        folder.file("no_share.txt", "master,1,1\nslave,0,8,1,1,0,0,0\n"),
+        folder.file("no_share.txt", "master,1,1\nslave,0,8,1,1,0,0,0,0\n"),
         folder.file("board.txt", BOARD),
         folder.file("no_slave.txt", "master,1,1\n"),
         folder.file("no_line_feed.txt", &BOARD[..BOARD.len() - 1]),
@@ -206,7 +206,7 @@ fn the_empty_word_names_no_file() {
 fn a_longer_text_leaves_nothing_to_the_next_file() {
     let folder = Folder::new("long");
     // up to the limit the first line answers, above it the length
-    let first_line = "slave,0,8,1,1,0,0,0\n";
+    let first_line = "slave,0,8,1,1,0,0,0,0\n";
     let long = |length: usize| first_line.to_string() + &"x".repeat(length - first_line.len());
     let words = [
         folder.file("at_the_limit.txt", long(8_192)),

@@ -1,5 +1,6 @@
 //! The generators: boards that are taken, and texts and scripts that reach every refusal.
 
+use crate::late_tally::{late_tally, LateTally, FAULTS};
 use crate::tally::{tally, Tally};
 use model::board::Board;
 use model::description::{read, write};
@@ -104,7 +105,10 @@ fn generated_boards_have_masters_at_few_slaves() {
 #[test]
 fn the_longest_board_is_taken() {
     let board = longest_board(&mut Random::new(1));
-    assert_eq!(read(write(&board).as_bytes()), Ok(board));
+    let text = write(&board);
+    assert_eq!(read(text.as_bytes()), Ok(board));
+    // 8 lines of 12 bytes, 3 of 41 and 13 of 40, and of each master 10 of 14 and 6 of 15
+    assert_eq!(text.len(), 96 + 123 + 520 + 8 * (140 + 90));
 }
 
 /// What is answered to 2,000 generated texts.
@@ -197,4 +201,71 @@ fn generated_scripts_have_writes_that_leave_words_out() {
         entered > 10,
         "only {entered} of 300 go on from the middle of one"
     );
+}
+
+#[test]
+fn generated_boards_have_short_and_long_latencies() {
+    let of_latency = |is_such: fn(u32) -> bool| {
+        boards_that(|board| {
+            let slaves = &board.slaves[..board.slave_count as usize];
+            slaves.iter().any(|slave| is_such(slave.latency))
+        })
+    };
+    assert!(of_latency(|latency| latency == 0) > 100);
+    for latency in [1, 2, 3, 63] {
+        let boards = boards_that(|board| board.slaves.iter().any(|slave| slave.latency == latency));
+        assert!(boards >= 20, "only {boards} of 200 have {latency}");
+    }
+    assert!(of_latency(|latency| (4..63).contains(&latency)) > 40);
+    // where masters meet, and a reader has a turn to lose
+    let contested = boards_that(|board| {
+        (0..board.slave_count as usize).any(|slave| {
+            let has_turn = |master: &usize| board.shares[*master][slave] > 1;
+            let masters = masters_at(board, slave);
+            board.slaves[slave].latency > 0 && masters.len() > 1 && masters.iter().any(has_turn)
+        })
+    });
+    assert!(contested > 60, "only {contested} of 200");
+}
+
+/// How often a script has a case of a latency.
+type Number = fn(&LateTally) -> usize;
+
+/// Of 400 scripts of 100 calls, how many have each case of a latency.
+fn scripts_with_latencies() -> Vec<(String, usize)> {
+    let tallies: Vec<LateTally> = (0..400)
+        .map(|seed| board_and_script(seed, 100))
+        .map(|(text, script)| late_tally(text.as_bytes(), &script))
+        .collect();
+    let count = |number: &dyn Fn(&LateTally) -> usize| {
+        tallies.iter().filter(|tally| number(tally) > 0).count()
+    };
+    let cases: [(&str, Number); 9] = [
+        ("passed", |tally| tally.passed),
+        ("passed long", |tally| tally.passed_long),
+        ("writes", |tally| tally.writes),
+        ("others served", |tally| tally.others_served),
+        ("lost", |tally| tally.lost),
+        ("lost alone", |tally| tally.lost_alone),
+        ("posts", |tally| tally.posts),
+        ("entered", |tally| tally.entered),
+        ("lent", |tally| tally.lent),
+    ];
+    let mut scripts: Vec<(String, usize)> = cases
+        .iter()
+        .map(|(name, number)| (name.to_string(), count(number)))
+        .collect();
+    for (index, fault) in FAULTS.into_iter().enumerate() {
+        scripts.push((format!("{fault:?}"), count(&|tally| tally.faults[index])));
+    }
+    scripts
+}
+
+#[test]
+fn generated_scripts_have_every_case_of_a_latency() {
+    let cases = scripts_with_latencies();
+    println!("{cases:?}");
+    for (name, scripts) in cases {
+        assert!(scripts >= 24, "{name} only in {scripts} of 400");
+    }
 }

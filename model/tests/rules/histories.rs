@@ -17,10 +17,28 @@ struct Journey {
     slave: usize,
     /// Clocks since the post.
     clocks: u64,
-    /// Clocks from the first cycle on.
+    /// Clocks from the first cycle on up to the last access.
     served: u64,
+    /// The clock of the last access, counted from the post.
+    last_access: Option<u64>,
+    /// Whether the card has served another since then.
+    others_served: bool,
     /// What a read has to give.
     given: Vec<u8>,
+}
+
+/// Transfers that finished.
+#[derive(Default)]
+struct Finished {
+    all: usize,
+    /// Those of masters wider than a native card.
+    native: usize,
+    /// The writes that have no lane in some word of their beat.
+    partial: usize,
+    /// The reads that have a latency to pass.
+    late: usize,
+    /// Those of them whose card served another meanwhile.
+    others_served: usize,
 }
 
 /// Random posts on a random board, beside a memory in which each transfer is one step, taken whole at its first cycle.
@@ -29,11 +47,7 @@ struct History {
     random: Random,
     bytes: Vec<u8>,
     journeys: [Option<Journey>; MASTER_LIMIT],
-    finished: usize,
-    /// Of these, the transfers of masters wider than a native card.
-    finished_native: usize,
-    /// And the writes that have no lane in some word of their beat.
-    finished_partial: usize,
+    finished: Finished,
 }
 
 /// The places of a card's bytes in the memory.
@@ -84,9 +98,7 @@ impl History {
             fabric,
             random,
             journeys: Default::default(),
-            finished: 0,
-            finished_native: 0,
-            finished_partial: 0,
+            finished: Finished::default(),
         }
     }
 
@@ -134,6 +146,8 @@ impl History {
             slave,
             clocks: 0,
             served: 0,
+            last_access: None,
+            others_served: false,
             given: Vec::new(),
         });
     }
@@ -162,8 +176,18 @@ impl History {
     }
 
     fn serve_each(&mut self, lines: &[SlaveLine]) {
-        for line in lines.iter().filter(|line| line.phase > 0) {
-            self.serve(line.owner as usize);
+        for (slave, line) in lines.iter().enumerate() {
+            if line.phase > 0 {
+                self.serve(line.owner as usize);
+                self.serve_others(slave);
+            }
+        }
+    }
+
+    /// A slave serves while others are in their latency behind a read of it.
+    fn serve_others(&mut self, slave: usize) {
+        for journey in self.journeys.iter_mut().flatten() {
+            journey.others_served |= journey.slave == slave && journey.last_access.is_some();
         }
     }
 
@@ -174,7 +198,30 @@ impl History {
         accesses_of(board, master, journey) * (1 + wait)
     }
 
-    /// A read finishes with the words of its one step, and any transfer leaves the card's bytes as the steps do.
+    /// The clocks from the last access of a transfer to its finish.
+    fn latency(&self, journey: &Journey) -> u64 {
+        match journey.transfer.write {
+            true => 0,
+            false => self.fabric.board.slaves[journey.slave].latency as u64,
+        }
+    }
+
+    /// After the last access of a transfer its card's bytes are as the steps leave them: it serves no other yet.
+    fn end_accesses(&mut self, master: usize) {
+        let Some(journey) = &self.journeys[master] else {
+            return;
+        };
+        if journey.last_access.is_some() || journey.served < self.own_length(master, journey) {
+            return;
+        }
+        let cells = cells(&self.fabric.board, journey.slave);
+        assert_eq!(self.fabric.memory[cells.clone()], self.bytes[cells]);
+        if let Some(journey) = &mut self.journeys[master] {
+            journey.last_access = Some(journey.clocks);
+        }
+    }
+
+    /// A read finishes with the words of its one step, exactly its latency behind its last access; a write with that.
     fn finish(&mut self, master: usize) {
         let journey = self.journeys[master]
             .take()
@@ -182,8 +229,8 @@ impl History {
         let part = &self.fabric.buffer[PART_LENGTH * master..];
         assert_eq!(part[..journey.given.len()], journey.given);
         assert_eq!(journey.served, self.own_length(master, &journey));
-        let cells = cells(&self.fabric.board, journey.slave);
-        assert_eq!(self.fabric.memory[cells.clone()], self.bytes[cells]);
+        let last_access = journey.last_access.expect("it has no access");
+        assert_eq!(journey.clocks, last_access + self.latency(&journey));
         self.count(master, &journey);
     }
 
@@ -193,19 +240,25 @@ impl History {
         let is_native = slave.is_native() && board.masters[master].width > slave.width;
         let every_word = journey.transfer.beats as u64 * board.ratio(master, journey.slave);
         let is_partial = accesses_of(board, master, journey) < every_word;
-        self.finished += 1;
-        self.finished_native += usize::from(is_native);
-        self.finished_partial += usize::from(is_partial);
+        let is_late = self.latency(journey) > 0;
+        self.finished.all += 1;
+        self.finished.native += usize::from(is_native);
+        self.finished.partial += usize::from(is_partial);
+        self.finished.late += usize::from(is_late);
+        self.finished.others_served += usize::from(journey.others_served);
     }
 
-    /// The first cycle comes at the latest after the quoted wait, the last one as many clocks later as the transfer takes.
+    /// The first cycle comes at the latest after the quoted wait, the last one as many clocks later as the transfer takes, and
+    /// the finish of a read the latency behind it.
     fn hold_to_bounds(&self, master: usize) {
         let Some(journey) = &self.journeys[master] else {
             return;
         };
         let wait = wait(&self.fabric.board, master, journey.slave);
         assert!(journey.served > 0 || journey.clocks <= wait);
-        assert!(journey.clocks < wait + self.own_length(master, journey));
+        let length = self.own_length(master, journey);
+        assert!(journey.last_access.is_some() || journey.clocks < wait + length);
+        assert!(journey.clocks < wait + length + self.latency(journey));
     }
 
     fn clock(&mut self) {
@@ -216,6 +269,7 @@ impl History {
             if let Some(journey) = &mut self.journeys[master] {
                 journey.clocks += 1;
             }
+            self.end_accesses(master);
             if answer.mask & (1 << master) != 0 {
                 self.finish(master);
             }
@@ -241,30 +295,42 @@ impl History {
     }
 }
 
-/// How many transfers finish in the histories of these seeds, how many of them are of masters wider than a native card, and how
-/// many are writes that have no lane in some word.
-fn finished(seeds: Range<u64>) -> (usize, usize, usize) {
-    let (mut finished, mut native, mut partial) = (0, 0, 0);
+/// What finishes in the histories of these seeds.
+fn finished(seeds: Range<u64>) -> Finished {
+    let mut finished = Finished::default();
     for seed in seeds {
         // shown only where the test fails
         println!("seed {seed}");
         let mut history = History::new(seed);
         history.run(1000);
-        finished += history.finished;
-        native += history.finished_native;
-        partial += history.finished_partial;
+        finished.all += history.finished.all;
+        finished.native += history.finished.native;
+        finished.partial += history.finished.partial;
+        finished.late += history.finished.late;
+        finished.others_served += history.finished.others_served;
     }
-    (finished, native, partial)
+    finished
 }
 
 #[test]
 fn reads_give_what_was_written_and_nobody_waits_longer_than_quoted() {
     // a test in which hardly anything finishes would hold the model to little
-    let (finished, native, partial) = finished(0..100);
-    assert!(finished > 10_000, "only {finished} transfers finished");
+    let Finished {
+        all,
+        native,
+        partial,
+        late,
+        others_served,
+    } = finished(0..100);
+    assert!(all > 10_000, "only {all} transfers finished");
     assert!(native > 2_000, "only {native} of them at native cards");
     assert!(
         partial > 1_000,
         "only {partial} of them without a lane in some word"
+    );
+    assert!(late > 2_000, "only {late} of them behind a latency");
+    assert!(
+        others_served > 1_000,
+        "only {others_served} of them while their card served others"
     );
 }

@@ -8,6 +8,8 @@ mod files;
 mod generators;
 mod histories;
 mod lanes;
+mod late_tally;
+mod latency;
 mod native;
 mod order;
 mod posts;
@@ -16,10 +18,11 @@ mod tally;
 mod unconnected;
 mod waits;
 mod words;
+mod worst;
 
 /// A slave with a master twice as wide and one as wide as itself.
 const BOARD: &str = "master,4,8\n\
                      master,2,1\n\
-                     slave,4096,4096,2,8,1,0,0\n\
+                     slave,4096,4096,2,8,1,0,0,0\n\
                      share,0,0,2\n\
                      share,1,0,3\n";

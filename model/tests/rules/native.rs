@@ -8,7 +8,7 @@ use model::table::table;
 /// A native card with a master twice as wide and one as wide as itself.
 const NATIVE: &str = "master,4,8\n\
                       master,2,1\n\
-                      slave,4096,4096,2,8,1,2,1\n\
+                      slave,4096,4096,2,8,1,2,1,0\n\
                       share,0,0,2\n\
                       share,1,0,3\n";
 
@@ -78,7 +78,7 @@ fn a_burst_reads_words_of_the_card_that_lie_side_by_side() {
 
 #[test]
 fn the_burst_length_of_the_card_cuts_the_beats_into_runs() {
-    let text = "master,8,8\nslave,0,64,1,2,0,0,1\nshare,0,0,1\n";
+    let text = "master,8,8\nslave,0,64,1,2,0,0,1,0\nshare,0,0,1\n";
     let mut fabric = native_fabric(text);
     assert_eq!(fabric.post(0, read_of(8, 255, 5), &[]), 0);
     let lines = fabric.clock_until_finished();
@@ -187,39 +187,41 @@ fn joined(master_width: u8, end: &str, shares: u8) -> u8 {
 }
 
 #[test]
-fn a_slave_line_has_seven_numbers() {
+fn a_slave_line_has_eight_numbers() {
     assert_eq!(joined(4, "", 1), 1);
-    assert_eq!(joined(4, ",0", 1), 0);
-    assert_eq!(joined(4, ",1", 1), 0);
-    assert_eq!(joined(4, ",0,0", 1), 1);
+    assert_eq!(joined(4, ",0", 1), 1);
+    assert_eq!(joined(4, ",1", 1), 1);
+    assert_eq!(joined(4, ",0,0", 1), 0);
+    assert_eq!(joined(4, ",1,0", 1), 0);
+    assert_eq!(joined(4, ",0,0,0", 1), 1);
 }
 
 #[test]
-fn the_last_number_of_a_slave_line_is_0_or_1() {
-    for end in [",2", ",10", ",256", ",257", ",4294967296", ",4294967297"] {
-        assert_eq!(joined(4, end, 1), 3, "{end}");
+fn the_native_number_of_a_slave_line_is_0_or_1() {
+    for native in ["2", "10", "256", "257", "4294967296", "4294967297"] {
+        assert_eq!(joined(4, &format!(",{native},0"), 1), 3, "{native}");
     }
-    assert_eq!(joined(4, ",01", 1), 1);
+    assert_eq!(joined(4, ",01,0", 1), 1);
 }
 
 #[test]
 fn a_native_card_takes_no_narrower_master() {
     assert_eq!(
-        [1, 2, 4, 8].map(|width| joined(width, ",1", 1)),
+        [1, 2, 4, 8].map(|width| joined(width, ",1,0", 1)),
         [19, 19, 0, 0]
     );
-    assert_eq!([1, 2, 4, 8].map(|width| joined(width, ",0", 1)), [0; 4]);
-    let elsewhere = "master,1,1\nslave,0,8,8,1,0,0,1\nslave,8,8,8,1,0,0,0\nshare,0,1,1\n";
+    assert_eq!([1, 2, 4, 8].map(|width| joined(width, ",0,0", 1)), [0; 4]);
+    let elsewhere = "master,1,1\nslave,0,8,8,1,0,0,1,0\nslave,8,8,8,1,0,0,0,0\nshare,0,1,1\n";
     assert_eq!(number_of(elsewhere), 0);
 }
 
 #[test]
 fn a_share_line_answers_its_lowest_number() {
-    assert_eq!(joined(2, ",1", 0), 3);
-    assert_eq!(joined(2, ",1", 101), 3);
+    assert_eq!(joined(2, ",1,0", 0), 3);
+    assert_eq!(joined(2, ",1,0", 101), 3);
     let shares = |lines: &str| {
         number_of(&format!(
-            "master,2,8\nmaster,4,8\nslave,0,8,4,8,1,0,1\n{lines}"
+            "master,2,8\nmaster,4,8\nslave,0,8,4,8,1,0,1,0\n{lines}"
         ))
     };
     assert_eq!(shares("share,1,0,1\nshare,1,0,1\nshare,0,0,1\n"), 7);
@@ -230,7 +232,7 @@ fn a_share_line_answers_its_lowest_number() {
 }
 
 #[test]
-fn the_writer_puts_the_last_number() {
+fn the_writer_puts_the_native_number() {
     let board = read(NATIVE.as_bytes()).expect("the board is refused");
     assert!(board.slaves[0].is_native());
     assert_eq!(write(&board), NATIVE);

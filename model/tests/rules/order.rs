@@ -17,7 +17,7 @@ type Pair = (usize, usize);
 
 /// So many masters of 4 bytes and slaves of 2, without share lines.
 fn unshared(masters: usize, slaves: usize) -> String {
-    let slave_lines = (0..slaves).map(|slave| format!("slave,{},8,2,8,1,0,0\n", 8 * slave));
+    let slave_lines = (0..slaves).map(|slave| format!("slave,{},8,2,8,1,0,0,0\n", 8 * slave));
     "master,4,8\n".repeat(masters) + &slave_lines.collect::<String>()
 }
 
@@ -130,7 +130,7 @@ fn lower_numbers_of_the_line_come_before() {
 
 #[test]
 fn a_narrow_master_at_a_native_slave_comes_before() {
-    let lines = "master,2,8\nmaster,4,8\nslave,0,8,4,8,1,0,1\nslave,8,8,4,8,1,0,0\n";
+    let lines = "master,2,8\nmaster,4,8\nslave,0,8,4,8,1,0,1,0\nslave,8,8,4,8,1,0,0,0\n";
     let refused = |shares: &str| refused_share(2, 2, &(lines.to_string() + shares));
     assert_eq!(refused("share,1,0,1\nshare,0,0,1\n"), Some((19, 1)));
     assert_eq!(refused("share,0,1,1\nshare,0,0,1\n"), Some((19, 1)));
@@ -181,7 +181,7 @@ fn the_length_of_the_text_comes_before() {
 
 #[test]
 fn native_slaves_are_no_exception() {
-    let native = |pairs: &[Pair]| grid(1, 3, pairs).replace(",1,0,0\n", ",1,0,1\n");
+    let native = |pairs: &[Pair]| grid(1, 3, pairs).replace(",1,0,0,0\n", ",1,0,1,0\n");
     assert_eq!(number_of(&native(&[(0, 0), (0, 1), (0, 2)])), 0);
     let text = native(&[(0, 0), (0, 2), (0, 1)]);
     assert_eq!(refused_share(1, 3, &text), Some((21, 2)));

@@ -28,15 +28,38 @@ fn a_script_needs_no_last_line_feed() {
 }
 
 #[test]
-fn a_script_sets_the_last_number_of_a_card_to_anything() {
+fn a_script_sets_the_last_numbers_of_a_card_to_anything() {
     let lines =
-        [1, 257, u32::MAX].map(|native| format!("slave,0,4096,4096,2,8,1,0,{native}\nreset\n"));
+        [1, 257, u32::MAX].map(|native| format!("slave,0,4096,4096,2,8,1,0,{native},0\nreset\n"));
     assert_eq!(
         printed_by_script(&lines.concat()),
         "reset,0\nreset,3\nreset,3\n"
     );
-    let old_line = "slave,0,4096,4096,2,8,1,0\n";
-    assert_eq!(printed_by_script(old_line), "error,1\n");
+    let lines = [63, 64, 257, u32::MAX]
+        .map(|latency| format!("slave,0,4096,4096,2,8,1,0,0,{latency}\nreset\n"));
+    assert_eq!(
+        printed_by_script(&lines.concat()),
+        "reset,0\nreset,3\nreset,3\nreset,3\n"
+    );
+    for end in ["", ",0", ",0,0,0", ",0,4294967296", ",0,00"] {
+        let line = format!("slave,0,4096,4096,2,8,1,0{end}\n");
+        assert_eq!(printed_by_script(&line), "error,1\n", "{end}");
+    }
+}
+
+#[test]
+fn a_script_sets_the_count_of_a_transfer_to_anything() {
+    let lines =
+        ["0", "1", "4294967295"].map(|late| format!("transfer,7,0,0,0,0,0,{late}\nclock,1\n"));
+    let idle = "clock,0,0\nslave,0,0,0,0,0,0,0\n";
+    assert_eq!(
+        printed_by_script(&lines.concat()),
+        format!("{idle}clock,9,0\nclock,9,0\n")
+    );
+    for end in ["", ",0,0", ",4294967296", ",00", ",-1"] {
+        let line = format!("transfer,7,0,0,0,0,0{end}\n");
+        assert_eq!(printed_by_script(&line), "error,1\n", "{end}");
+    }
 }
 
 #[test]

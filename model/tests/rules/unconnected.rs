@@ -11,7 +11,8 @@ use model::wait::wait_call;
 
 /// Three masters at two slaves, with these share lines.
 fn three_masters(shares: &[&str]) -> String {
-    let lines = "master,4,8\nmaster,2,1\nmaster,8,1\nslave,0,8,2,8,1,0,0\nslave,8,8,2,8,1,0,0\n";
+    let lines =
+        "master,4,8\nmaster,2,1\nmaster,8,1\nslave,0,8,2,8,1,0,0,0\nslave,8,8,2,8,1,0,0,0\n";
     lines.to_string() + &shares.concat()
 }
 
@@ -43,7 +44,7 @@ fn the_lines_of_one_master_do_not_stand_for_those_of_another() {
 
 #[test]
 fn one_line_is_enough_at_any_slave() {
-    let lines = "master,4,8\nslave,0,8,2,8,1,0,0\nslave,8,8,2,8,1,0,0\n";
+    let lines = "master,4,8\nslave,0,8,2,8,1,0,0,0\nslave,8,8,2,8,1,0,0,0\n";
     let number = |share: &str| number_of(&(lines.to_string() + share));
     assert_eq!(number("share,0,0,1\n"), 0);
     assert_eq!(number("share,0,1,1\n"), 0);
@@ -89,7 +90,7 @@ fn every_line_comes_before_the_end() {
 
 #[test]
 fn a_narrow_master_at_a_native_slave_comes_before_the_end() {
-    let text = "master,2,8\nmaster,4,8\nslave,0,8,4,8,1,0,1\n";
+    let text = "master,2,8\nmaster,4,8\nslave,0,8,4,8,1,0,1,0\n";
     let joined = text.to_string() + "share,0,0,1\n";
     assert_eq!(number_and_place(&joined), Some((19, Place::Line(3))));
     // no slave takes the narrow master, so that no share line can be put for it

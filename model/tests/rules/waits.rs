@@ -21,7 +21,7 @@ fn generated_boards() -> impl Iterator<Item = Board> {
 fn three_at_a_card(read_wait: u8, write_wait: u8) -> String {
     format!(
         "master,4,8\nmaster,2,1\nmaster,8,4\n\
-         slave,0,4096,4,2,{read_wait},{write_wait},0\n\
+         slave,0,4096,4,2,{read_wait},{write_wait},0,0\n\
          share,0,0,2\nshare,1,0,3\nshare,2,0,1\n"
     )
 }
@@ -37,13 +37,13 @@ fn the_table_has_wait_and_serve_of_each_pair() {
 
 #[test]
 fn no_transfer_is_longer_than_the_span() {
-    let small_span = b"master,4,64\nslave,0,8,4,8,0,0,0\nshare,0,0,1\n";
+    let small_span = b"master,4,64\nslave,0,8,4,8,0,0,0,0\nshare,0,0,1\n";
     assert_eq!(table(small_span), "master,slave,wait,serve\n0,0,0,2\n");
 }
 
 #[test]
 fn an_unconnected_pair_has_no_line() {
-    let text = b"master,4,8\nslave,0,8,2,8,1,0,0\nslave,8,8,4,8,0,0,0\nshare,0,1,1\n";
+    let text = b"master,4,8\nslave,0,8,2,8,1,0,0,0\nslave,8,8,4,8,0,0,0,0\nshare,0,1,1\n";
     assert_eq!(table(text), "master,slave,wait,serve\n0,1,0,2\n");
 }
 
@@ -91,7 +91,7 @@ fn the_longer_wait_counts_whichever_direction_it_is_of() {
 fn each_slave_has_waits_of_its_own() {
     // 2, 8 and 4 clocks for an access, the longer wait the read's, the write's and the read's
     let text = b"master,2,4\nmaster,1,2\n\
-                 slave,0,8,1,1,1,0,0\nslave,8,8,1,1,2,7,0\nslave,16,8,1,1,3,1,0\n\
+                 slave,0,8,1,1,1,0,0,0\nslave,8,8,1,1,2,7,0,0\nslave,16,8,1,1,3,1,0,0\n\
                  share,0,0,1\nshare,0,1,2\nshare,0,2,3\n\
                  share,1,0,4\nshare,1,1,5\nshare,1,2,6\n";
     // master 0: singles 4, 16, 8; serves 16, 64, 32; turns 16, 80, 48
@@ -108,7 +108,7 @@ fn masters_that_are_not_connected_count_nothing() {
     let text = |middle: &str| {
         format!(
             "master,1,1\nmaster,1,2\nmaster,1,1\n\
-             slave,0,8,1,1,3,1,0\nslave,8,8,1,1,0,0,0\n\
+             slave,0,8,1,1,3,1,0,0\nslave,8,8,1,1,0,0,0,0\n\
              share,0,0,1\n{middle}share,2,0,10\n"
         )
     };
@@ -123,7 +123,7 @@ fn a_master_does_not_wait_for_its_own_turn() {
     // burst and shares of master 0 change what it is served and what the others wait
     let text = |burst: u8, shares: u8| {
         format!(
-            "master,1,{burst}\nmaster,1,1\nmaster,1,1\nslave,0,64,1,1,0,2,0\n\
+            "master,1,{burst}\nmaster,1,1\nmaster,1,1\nslave,0,64,1,1,0,2,0,0\n\
              share,0,0,{shares}\nshare,1,0,1\nshare,2,0,2\n"
         )
     };
@@ -137,7 +137,7 @@ fn a_master_does_not_wait_for_its_own_turn() {
 
 #[test]
 fn a_master_alone_at_a_slave_waits_for_nobody() {
-    let text = b"master,8,64\nslave,0,4096,1,1,255,7,0\nshare,0,0,100\n";
+    let text = b"master,8,64\nslave,0,4096,1,1,255,7,0,0\nshare,0,0,100\n";
     assert_eq!(table(text), "master,slave,wait,serve\n0,0,0,131072\n");
     let mut alone = 0;
     for board in generated_boards() {
@@ -157,10 +157,18 @@ fn a_master_alone_at_a_slave_waits_for_nobody() {
     assert!(alone > 100, "only {alone}");
 }
 
+fn without_latencies(mut board: Board) -> Board {
+    for slave in &mut board.slaves {
+        slave.latency = 0;
+    }
+    board
+}
+
 #[test]
 fn read_and_write_wait_exchanged_leave_every_figure() {
     let mut uneven = 0;
     for board in generated_boards() {
+        let board = without_latencies(board);
         let mut exchanged = board;
         for slave in &mut exchanged.slaves {
             (slave.read_wait, slave.write_wait) = (slave.write_wait, slave.read_wait);
@@ -172,7 +180,7 @@ fn read_and_write_wait_exchanged_leave_every_figure() {
     assert!(uneven > 100, "only {uneven}");
 }
 
-/// A master's turn as document 01 has it, from the board's numbers alone.
+/// A master's turn as document 01 and document 02, S-6, have it, from the board's numbers alone.
 fn turn_by_the_paper(board: &Board, master: usize, slave: usize) -> u64 {
     let shares = board.shares[master][slave] as u64;
     let (master, slave) = (&board.masters[master], &board.slaves[slave]);
@@ -181,7 +189,10 @@ fn turn_by_the_paper(board: &Board, master: usize, slave: usize) -> u64 {
     let r = if wider { master.width / slave.width } else { 1 } as u64;
     let words = slave.span as u64 / master.width as u64;
     let n = std::cmp::min(master.burst as u64, words);
-    (shares - 1) * r * v + n * r * v
+    match slave.latency {
+        0 => (shares - 1) * r * v + n * r * v,
+        _ => (shares - 1) * r * (1 + slave.write_wait as u64) + n * r * v,
+    }
 }
 
 #[test]

@@ -59,7 +59,7 @@ impl Pair {
     fn fabric(&self) -> Fabric {
         let (read_wait, write_wait) = self.waits;
         Fabric::new(&format!(
-            "master,{},4\nslave,{BASE},64,{},{},{read_wait},{write_wait},{}\nshare,0,0,1\n",
+            "master,{},4\nslave,{BASE},64,{},{},{read_wait},{write_wait},{},0\nshare,0,0,1\n",
             self.master_width, self.width, self.burst, self.native as u8
         ))
     }
@@ -428,7 +428,7 @@ fn waits_passed_are_those_of_the_next_word_that_has_a_lane() {
 
 /// Two masters, 8 bytes and 1 byte wide, at a card of 2 bytes: an access lasts 2 clocks at most.
 const SHARED: &str = "master,8,2\nmaster,1,1\n\
-                      slave,4096,64,2,1,0,1,0\nshare,0,0,2\nshare,1,0,1\n";
+                      slave,4096,64,2,1,0,1,0,0\nshare,0,0,2\nshare,1,0,1\n";
 
 /// The clock of the first cycle of master 1, where master 0 has its turn first: a single and then a transfer of these lanes and
 /// beats.

@@ -13,6 +13,26 @@ const WIDTH_EDGES: [u8; 10] = [0, 1, 2, 3, 4, 5, 8, 9, 16, 255];
 /// Half of them are legal, some of the others are when they are cut to fewer bits.
 const NATIVE_EDGES: [u32; 12] = [0, 0, 1, 1, 1, 1, 2, 7, 256, 257, 65_537, u32::MAX];
 
+/// Legal ones, those just above, and some that are legal when they are cut to fewer bits.
+const LATENCY_EDGES: [u32; 16] = [
+    0,
+    0,
+    1,
+    2,
+    3,
+    62,
+    63,
+    63,
+    64,
+    64,
+    65,
+    128,
+    255,
+    256,
+    65_537,
+    u32::MAX,
+];
+
 fn held_transfer(post: &Post) -> Transfer {
     Transfer {
         held: true,
@@ -20,6 +40,7 @@ fn held_transfer(post: &Post) -> Transfer {
         address: post.address as u32,
         lanes: post.lanes,
         beats: post.beats as u8,
+        late: 0,
     }
 }
 
@@ -40,6 +61,7 @@ impl Author {
                     address: self.random.draw() as u32,
                     lanes: self.random.byte(),
                     beats: self.random.byte(),
+                    late: self.random.pick(&[0, 0, 1, 64, u32::MAX]),
                 };
             }
             2 => {
@@ -61,12 +83,13 @@ impl Author {
 
     fn tweak_transfer(&mut self, master: usize, transfer: &mut Transfer) {
         let width = self.board.masters[master].width;
-        match self.random.below(6) {
+        match self.random.below(7) {
             0 => transfer.write = !transfer.write,
             1 => transfer.beats = transfer.beats.wrapping_add(1),
             2 => transfer.beats = transfer.beats.wrapping_sub(1),
             3 => transfer.lanes = self.random.byte() & all_lanes(width),
             4 => transfer.address = transfer.address.wrapping_add(width as u32),
+            5 => transfer.late = self.random.pick(&[0, 1, 2, 63, 64]),
             _ => transfer.held = !transfer.held,
         }
     }
@@ -103,7 +126,7 @@ impl Author {
         let mut slave = self.board.slaves[index];
         let other = self.board.slaves[self.random.below(self.slaves())];
         let any = self.random.draw() as u32;
-        match self.random.below(14) {
+        match self.random.below(17) {
             0 => slave.base = self.edge_base(&slave, &other),
             1 => slave.base = any & !slave.span.saturating_sub(1),
             2 => slave.span = self.edge_span(&slave, any),
@@ -121,6 +144,7 @@ impl Author {
                 slave.span = 65_536;
             }
             10..=12 => slave.native = self.random.pick(&NATIVE_EDGES),
+            13..=15 => slave.latency = self.random.pick(&LATENCY_EDGES),
             _ if slave.span >= 16 && index < self.slaves() => {
                 // a good board with less memory
                 slave.span /= 2;
@@ -206,6 +230,7 @@ impl Author {
             read_wait: self.random.below(3) as u8,
             write_wait: self.random.below(3) as u8,
             native,
+            latency: self.random.pick(&[0, 0, 1, 2, 63]),
         };
         self.put(&slave_line(slaves, &slave));
         self.put(&format!("count,{},{}", self.masters(), slaves + 1));

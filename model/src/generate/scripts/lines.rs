@@ -21,9 +21,10 @@ pub fn transfer_line(master: usize, transfer: &Transfer) -> String {
         address,
         lanes,
         beats,
+        late,
         ..
     } = transfer;
-    format!("transfer,{master},{held},{write},{address},{lanes},{beats}")
+    format!("transfer,{master},{held},{write},{address},{lanes},{beats},{late}")
 }
 
 pub fn slot_line(slave: usize, slot: &Slot) -> String {
@@ -47,8 +48,11 @@ pub fn slave_line(index: usize, slave: &Slave) -> String {
         read_wait,
         write_wait,
         native,
+        latency,
     } = slave;
-    format!("slave,{index},{base},{span},{width},{burst},{read_wait},{write_wait},{native}")
+    format!(
+        "slave,{index},{base},{span},{width},{burst},{read_wait},{write_wait},{native},{latency}"
+    )
 }
 
 pub fn master_line(index: usize, master: &Master) -> String {

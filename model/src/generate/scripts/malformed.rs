@@ -2,7 +2,7 @@
 
 use super::Author;
 
-const MALFORMED: [&str; 46] = [
+const MALFORMED: [&str; 51] = [
     "",
     "nonsense",
     "Reset",
@@ -36,17 +36,22 @@ const MALFORMED: [&str; 46] = [
     "show,memory,0,70000",
     "lend,memory,70000",
     "lend,buffer,4105",
-    "transfer,8,0,0,0,0,0",
-    "transfer,0,2,0,0,0,0",
-    "transfer,0,0,2,0,0,0",
+    "transfer,8,0,0,0,0,0,0",
+    "transfer,0,2,0,0,0,0,0",
+    "transfer,0,0,2,0,0,0,0",
+    "transfer,0,0,0,0,0,0",
+    "transfer,0,0,0,0,0,0,0,0",
+    "transfer,0,0,0,0,0,0,4294967296",
+    "transfer,0,0,0,0,0,0,01",
     "slot,16,0,0,0,0,0",
     "slot,0,0,0,0,65536,0",
     "slot,0,256,0,0,0,0",
     "master,8,1,1",
-    "slave,16,0,8,1,1,0,0,0",
-    "slave,0,0,8,1,1,0,0",
-    "slave,0,0,8,1,1,0,0,0,0",
-    "slave,0,0,8,1,1,0,0,4294967296",
+    "slave,16,0,8,1,1,0,0,0,0",
+    "slave,0,0,8,1,1,0,0,0",
+    "slave,0,0,8,1,1,0,0,0,0,0",
+    "slave,0,0,8,1,1,0,0,4294967296,0",
+    "slave,0,0,8,1,1,0,0,0,4294967296",
     "share,0,16,1",
     "count,256,1",
 ];

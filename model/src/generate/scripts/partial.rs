@@ -6,7 +6,7 @@ use crate::fabric::{total_accesses, Slot, Transfer};
 use crate::lanes::all_lanes;
 
 impl Author {
-    fn is_served_elsewhere(&self, master: usize, slave: usize) -> bool {
+    pub fn is_served_elsewhere(&self, master: usize, slave: usize) -> bool {
         let slots = &self.simulator.state.slots[..self.slaves()];
         slots
             .iter()
@@ -46,11 +46,18 @@ impl Author {
             address: self.board.slaves[slave].base + offset as u32,
             lanes: all_lanes(count) << lowest,
             beats: 1,
+            late: 0,
         }
     }
 
     /// A slot that serves the transfer with so many accesses done.
-    fn slot_with(&mut self, master: usize, slave: usize, transfer: &Transfer, done: u16) -> Slot {
+    pub fn slot_with(
+        &mut self,
+        master: usize,
+        slave: usize,
+        transfer: &Transfer,
+        done: u16,
+    ) -> Slot {
         let shares = self.board.shares[master][slave] as usize;
         let wait = self.board.slaves[slave].wait(transfer.write);
         let any = self.random.between(0, wait as usize) as u8;

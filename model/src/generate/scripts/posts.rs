@@ -72,7 +72,7 @@ impl Author {
         self.random.pick(&legal)
     }
 
-    fn good_post(&mut self, master: usize, style: &Style) -> Option<Post> {
+    pub fn good_post(&mut self, master: usize, style: &Style) -> Option<Post> {
         let slave = self.target(master, style)?;
         let width = self.board.masters[master].width;
         let beats = self.beats(master, slave, style);
@@ -89,7 +89,21 @@ impl Author {
         })
     }
 
-    fn idle_masters(&self) -> Vec<usize> {
+    /// A write of the master's word at the address, with all lanes.
+    pub fn put_write(&mut self, master: usize, address: u32) {
+        let width = self.board.masters[master].width;
+        let post = Post {
+            master: master as u64,
+            write: true,
+            address: (address / width as u32 * width as u32) as u64,
+            lanes: all_lanes(width),
+            beats: 1,
+            length: width as usize,
+        };
+        self.put_post(&post);
+    }
+
+    pub fn idle_masters(&self) -> Vec<usize> {
         (0..self.masters())
             .filter(|&master| !self.holds(master))
             .collect()

@@ -151,6 +151,28 @@ const NATIVE_EDGES: [u64; 14] = [
     1 << 32,
     (1 << 32) + 1,
 ];
+const LATENCY_EDGES: [u64; 20] = [
+    0,
+    1,
+    2,
+    31,
+    32,
+    62,
+    63,
+    64,
+    65,
+    99,
+    100,
+    127,
+    128,
+    255,
+    256,
+    256 + 63,
+    (1 << 32) - 1,
+    1 << 32,
+    (1 << 32) + 1,
+    (1 << 32) + 63,
+];
 const SHARES_EDGES: [u64; 9] = [0, 1, 2, 99, 100, 101, 127, 128, 255];
 
 /// Bases near the slave's own, near the limits, and near another slave's.
@@ -207,7 +229,8 @@ fn edges(board: &Board, kind: Kind, fields: &[Vec<u8>], field: usize) -> Vec<u64
         (Kind::Slave, 1) => base_edges(board, fields),
         (Kind::Slave, 2) => SPAN_EDGES.to_vec(),
         (Kind::Slave, 5 | 6) => WAIT_EDGES.to_vec(),
-        (Kind::Slave, _) => NATIVE_EDGES.to_vec(),
+        (Kind::Slave, 7) => NATIVE_EDGES.to_vec(),
+        (Kind::Slave, _) => LATENCY_EDGES.to_vec(),
         (Kind::Share, 1) => index_edges(board.master_count as u64, MASTER_LIMIT as u64),
         (Kind::Share, 2) => index_edges(board.slave_count as u64, SLAVE_LIMIT as u64),
         (Kind::Share, _) => SHARES_EDGES.to_vec(),

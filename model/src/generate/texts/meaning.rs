@@ -9,7 +9,7 @@ use crate::generate::random::Random;
 pub const MEANINGS: usize = 60;
 
 fn slave_line(base: u64, span: u64) -> Vec<u8> {
-    format!("slave,{base},{span},4,8,1,0,0").into_bytes()
+    format!("slave,{base},{span},4,8,1,0,0,0").into_bytes()
 }
 
 /// The base and the span of a slave line beside the others: near the slave `other`, where 64 KiB are free, or over the room
@@ -101,7 +101,7 @@ fn over_count(case: usize) -> Vec<Vec<u8>> {
     } else {
         lines.push(b"master,4,8".to_vec());
         lines.extend((0..16).map(|index| slave_line(8 * index, 8)));
-        lines.push(format!("slave,128,{last},4,8,1,0,0").into_bytes());
+        lines.push(format!("slave,128,{last},4,8,1,0,0,0").into_bytes());
         lines.push(b"share,0,15,1".to_vec());
     }
     lines

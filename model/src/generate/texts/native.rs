@@ -1,6 +1,6 @@
 //! Texts with a native slave and a master narrower than it, and texts of another count of numbers in their slave lines.
 
-use super::parts::{damage_board, place_for, Kind};
+use super::parts::{damage_board, fields_of, joined_fields, place_for, Kind};
 use crate::board::Board;
 use crate::generate::boards::{connect_rest, disconnect_narrow, joined, lines, uneven_widths};
 use crate::generate::random::Random;
@@ -71,9 +71,18 @@ fn widen(board: &mut Board, pair: Pair, case: usize) {
     }
 }
 
+/// The field of a slave line that says whether it is native.
+const NATIVE_FIELD: usize = 7;
+
 /// The slave line of the time before there were native slaves.
 fn old_line(line: &[u8]) -> Vec<u8> {
-    line[..line.len() - 2].to_vec()
+    joined_fields(&fields_of(line)[..NATIVE_FIELD])
+}
+
+fn with_native(line: &[u8], value: &str) -> Vec<u8> {
+    let mut fields = fields_of(line);
+    fields[NATIVE_FIELD] = value.into();
+    joined_fields(&fields)
 }
 
 fn longer_line(line: &[u8]) -> Vec<u8> {
@@ -83,7 +92,7 @@ fn longer_line(line: &[u8]) -> Vec<u8> {
 /// The slave's line with another end.
 fn damage_card(line: &mut Vec<u8>, case: usize) {
     match case {
-        19 => *line = [&old_line(line)[..], b",2"].concat(),
+        19 => *line = with_native(line, "2"),
         20 => *line = old_line(line),
         21 => *line = longer_line(line),
         _ => {}
@@ -122,7 +131,7 @@ fn joined_pair(random: &mut Random, case: usize) -> Vec<Vec<u8>> {
 }
 
 /// Every slave line with another count of numbers.
-fn recounted(random: &mut Random, recount: fn(&[u8]) -> Vec<u8>) -> Vec<Vec<u8>> {
+pub fn recounted(random: &mut Random, recount: fn(&[u8]) -> Vec<u8>) -> Vec<Vec<u8>> {
     let board = damage_board(random);
     let mut lines = lines(&board);
     let range = Kind::Slave.range(&board, lines.len());

@@ -28,7 +28,7 @@ impl Kind {
     pub fn field_count(self) -> usize {
         match self {
             Kind::Master => 3,
-            Kind::Slave => 8,
+            Kind::Slave => 9,
             Kind::Share => 4,
         }
     }

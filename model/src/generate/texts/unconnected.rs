@@ -1,6 +1,6 @@
 //! Texts in which a master has no share line, with nothing else wrong and beside another fault.
 
-use super::parts::{place_for, Kind};
+use super::parts::{fields_of, joined_fields, place_for, Kind};
 use crate::board::{Board, SLAVE_LIMIT};
 use crate::generate::boards::{
     board, connect_rest, disconnect_narrow, joined, lines, uneven_widths, Size,
@@ -81,11 +81,14 @@ fn damage(random: &mut Random, board: &Board, lines: &mut Vec<Vec<u8>>, fault: u
         11 => lines.push(b"share,8,0,1".to_vec()),
         12 => lines.push(lines[0].clone()),
         13 => lines.insert(slaves.end, lines[slaves.start].clone()),
-        14 => lines.insert(slaves.end, b"slave,4,8,1,1,0,0,0".to_vec()),
+        14 => lines.insert(slaves.end, b"slave,4,8,1,1,0,0,0,0".to_vec()),
         15 => {
             let line = &mut lines[random.between(slaves.start, slaves.end - 1)];
-            line.pop();
-            line.push(b'2');
+            let mut fields = fields_of(line);
+            // a native field that there is not, or a latency above the most
+            let (field, value) = random.pick(&[(7, "2"), (8, "64")]);
+            fields[field] = value.into();
+            *line = joined_fields(&fields);
         }
         16 => lines.insert(0, b"master,3,8".to_vec()),
         17 => lines.truncate(slaves.start),

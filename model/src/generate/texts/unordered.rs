@@ -29,7 +29,7 @@ const BAD_LINES: [&str; 8] = [
     "share,0,0,01",
     "",
     "master,4,8",
-    "slave,0,8,1,1,0,0,0",
+    "slave,0,8,1,1,0,0,0,0",
     "share,0,0,0",
     "share,8,0,1",
     "share,0,16,1",
