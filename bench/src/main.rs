@@ -41,7 +41,7 @@ fn numbers(board: &Board) -> [u32; library::BOARD] {
         [slave.base, slave.span]
             .into_iter()
             .chain(bytes.map(u32::from))
-            .chain([slave.native])
+            .chain([slave.native, slave.latency])
     });
     let shares = board.shares.into_iter().flatten();
     let mut numbers = counts.to_vec();

@@ -99,6 +99,7 @@ impl Side for Model<'_> {
             address: request.address,
             lanes: request.lanes,
             beats: request.beats,
+            late: 0,
         };
         let state = &mut self.state;
         post(self.board, state, self.buffer, master, transfer, words) as u32

@@ -16,7 +16,7 @@ fn master_line(master: usize) -> String {
 
 fn slave_line(slave: usize) -> String {
     let (base, width, wait) = (SPAN * slave, [2, 4][slave % 2], slave % 3);
-    format!("slave,{base},{SPAN},{width},8,{wait},0,0\n")
+    format!("slave,{base},{SPAN},{width},8,{wait},0,0,0\n")
 }
 
 /// Widths and waits are mixed, and every pair is connected.
