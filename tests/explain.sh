@@ -1,6 +1,6 @@
 #!/bin/sh
-# Tries table and simulate on boards that are refused, simulate on scripts with refused calls and with writes of some of the
-# lanes, and both with options and names. Compares what they write on standard output and on standard error, byte for byte, with
+# Tries table and simulate on boards that are refused, simulate on scripts with refused calls, writes of some of the lanes and cards
+# with latency, and both with options and names. Compares what they write on standard output and on standard error, byte for byte, with
 # the text that stands here. Refusal k is rule 7.k of docs/RULES.md.
 set -eu
 
@@ -49,32 +49,49 @@ refused,$2" "table: board.txt: $3" board.txt
 }
 
 line='no final line feed, unknown first word, wrong count of fields, or bad number'
-slave='slave,0,8,1,1,0,0,0'
+slave='slave,0,8,1,1,0,0,0,0'
 refused 'boss,4,8\n' 1 "line 1: refusal 1: $line"
 refused 'master,4,8\n\n' 1 "line 2: refusal 1: $line"
 refused "master,4,8\n$slave\nshare,0,0\n" 1 "line 3: refusal 1: $line"
 refused "master,4,8\n$slave\nshare,0,0,01\n" 1 "line 3: refusal 1: $line"
 refused "master,4,8\n$slave" 1 "line 2: refusal 1: $line"
-old='a slave line has 7 numbers, the last is native: 0 bus sizing, 1 native alignment'
-refused 'master,4,8\nslave,0,8,1,1,0,0\nshare,0,0,1\n' 1 "line 2: refusal 1: $line; $old"
-refused "master,4,8\n$slave\nslave,8,8,1,1,0,0" 1 "line 3: refusal 1: $line; $old"
-refused "master,4,8\n$slave\nslave,8,8,1,1,0,0,0,0\n" 1 "line 3: refusal 1: $line"
-refused "master,4,8\n$slave\nslave,8,8,1,1,0,0,00\n" 1 "line 3: refusal 1: $line"
+# A slave line that lacks its last number, or its last two, says so, whatever else is wrong with it.
+has='a slave line has 8 numbers, the last'
+six="$has two are native and latency: 0 bus sizing, 1 native alignment; 0 to 63 clocks"
+seven="$has is latency: 0 to 63 clocks"
+refused 'master,4,8\nslave,0,8,1,1,0,0\nshare,0,0,1\n' 1 "line 2: refusal 1: $line; $six"
+refused "master,4,8\n$slave\nslave,8,8,1,1,0,0" 1 "line 3: refusal 1: $line; $six"
+refused "master,4,8\n$slave\nslave,8,8,1,1,0,00\n" 1 "line 3: refusal 1: $line; $six"
+refused 'master,4,8\nslave,0,8,1,1,0,0,0\nshare,0,0,1\n' 1 "line 2: refusal 1: $line; $seven"
+refused 'master,4,8\nslave,0,8,1,1,0,0,1\nshare,0,0,1\n' 1 "line 2: refusal 1: $line; $seven"
+refused "master,4,8\n$slave\nslave,8,8,1,1,0,0,0" 1 "line 3: refusal 1: $line; $seven"
+refused "master,4,8\n$slave\nslave,8,8,1,1,0,0,00\n" 1 "line 3: refusal 1: $line; $seven"
+refused "master,4,8\n$slave\nslave,8,8,1,1,0\n" 1 "line 3: refusal 1: $line"
+refused "master,4,8\n$slave\nslave,8,8,1,1,0,0,0,0,0\n" 1 "line 3: refusal 1: $line"
+refused "master,4,8\n$slave\nslave,8,8,1,1,0,0,00,0\n" 1 "line 3: refusal 1: $line"
+refused "master,4,8\n$slave\nslave,8,8,1,1,0,0,0,00\n" 1 "line 3: refusal 1: $line"
+refused "master,4,8\n$slave\nslave,8,8,1,1,0,0,0,\n" 1 "line 3: refusal 1: $line"
 refused "master,4,8\n$slave\nshare,0,0,1,1,1,1\nslave,8,8,1,1,0,0\n" 1 "line 3: refusal 1: $line"
+refused "master,4,8\n$slave\nshare,0,0,1,1,1,1,1\nslave,8,8,1,1,0,0,0\n" 1 "line 3: refusal 1: $line"
 refused 's,1,1,1,1,1,1\n' 1 "line 1: refusal 1: $line"
+refused 's,1,1,1,1,1,1,1\n' 1 "line 1: refusal 1: $line"
 refused "$slave" 1 "line 1: refusal 1: $line"
 refused "$slave\n" 2 'line 1: refusal 2: line kind out of order or over the count'
 refused "master,4,8\n$slave\nmaster,4,8\n" 2 'line 3: refusal 2: line kind out of order or over the count'
 refused 'master,3,8\n' 3 'line 1: refusal 3: value outside its list or range'
-refused 'master,4,8\nslave,0,8,1,1,0,0,2\n' 3 'line 2: refusal 3: value outside its list or range'
-refused "master,4,8\n$slave\nslave,4100,4096,1,1,0,0,0\n" 4 'line 3: refusal 4: base no multiple of span'
+refused 'master,4,8\nslave,0,8,1,1,0,0,2,0\n' 3 'line 2: refusal 3: value outside its list or range'
+refused 'master,4,8\nslave,0,8,1,1,0,0,0,64\n' 3 'line 2: refusal 3: value outside its list or range'
+refused 'master,4,8\nslave,0,8,1,1,0,0,1,64\n' 3 'line 2: refusal 3: value outside its list or range'
+refused 'master,4,8\nslave,0,8,1,1,0,0,0,256\n' 3 'line 2: refusal 3: value outside its list or range'
+refused 'master,4,8\nslave,0,8,1,1,0,0,0,4294967296\n' 3 'line 2: refusal 3: value outside its list or range'
+refused "master,4,8\n$slave\nslave,4100,4096,1,1,0,0,0,0\n" 4 'line 3: refusal 4: base no multiple of span'
 refused "master,4,8\n$slave\n$slave\n" 5 'line 3: refusal 5: slave overlaps an earlier one'
-refused "master,4,8\n$slave\nslave,65536,65536,1,1,0,0,0\nbad\n" 6 'line 3: refusal 6: spans total over 65536'
+refused "master,4,8\n$slave\nslave,65536,65536,1,1,0,0,0,0\nbad\n" 6 'line 3: refusal 6: spans total over 65536'
 share='share line names no master or slave, or a pair twice'
 refused "master,4,8\n$slave\nshare,0,0,1\nshare,1,0,1\n" 7 "line 4: refusal 7: $share"
 refused "master,4,8\n$slave\nshare,0,0,1\nshare,0,0,1\n" 7 "line 4: refusal 7: $share"
 narrow='master narrower than native slave'
-native='slave,0,8,2,1,0,0,1'
+native='slave,0,8,2,1,0,0,1,0'
 refused "master,2,8\nmaster,1,8\n$native\nshare,0,0,1\nshare,1,0,1\n" 19 "line 5: refusal 19: $narrow"
 refused "master,1,8\n$native\nshare,1,0,1\n" 7 "line 3: refusal 7: $share"
 
@@ -100,7 +117,7 @@ unshared "$masters$slave\nshare,0,0,1\nshare,1,0,1\nshare,2,0,100\n" 3
 unshared "$masters$slave\nshare,0,0,1\nshare,3,0,1\n" 1
 unshared "$masters$slave\nshare,1,0,1\nshare,2,0,1\n" 0
 unshared "$masters$slave\nshare,0,0,1\nshare,1,0,1\n" 2
-unshared "$masters$slave\nslave,8,8,1,1,0,0,0\nshare,0,0,1\nshare,0,1,1\nshare,1,1,1\nshare,3,1,1\n" 2
+unshared "$masters$slave\nslave,8,8,1,1,0,0,0,0\nshare,0,0,1\nshare,0,1,1\nshare,1,1,1\nshare,3,1,1\n" 2
 unshared "master,4,8\n$masters$slave\nshare,0,0,1\nshare,1,0,1\nshare,2,0,1\nshare,3,0,1\n" 4
 
 # The largest board, without the share lines of one master, of the two upper ones, of the first and the last, of all.
@@ -124,8 +141,8 @@ refused "$masters$slave\nshare,0,0,1\n$slave\n" 2 'line 7: refusal 2: line kind 
 refused "$masters$slave\nshare,0,0,1\nx\n" 1 "line 7: refusal 1: $line"
 refused "master,4,8\n$slave\nshare,0,0,1" 1 "line 3: refusal 1: $line"
 refused "$masters$slave\nshare,0,0,1" 1 "line 6: refusal 1: $line"
-refused "master,4,8\n$slave\n$(printf '%08161d' 0)\n" 1 'refusal 1: text over 8192 bytes'
-refused "master,4,8\n$slave\n$(printf '%08160d' 0)\n" 1 "line 3: refusal 1: $line"
+refused "master,4,8\n$slave\n$(printf '%08159d' 0)\n" 1 'refusal 1: text over 8192 bytes'
+refused "master,4,8\n$slave\n$(printf '%08158d' 0)\n" 1 "line 3: refusal 1: $line"
 
 # The first share line out of order is charged (rule 7.21): the board, a format of printf, and the line.
 order='share line out of order: by master, then slave'
@@ -134,7 +151,7 @@ disordered() {
 }
 
 # The words as they are printed, and no line of a script carried out: on this board card 1 stands before card 0.
-printf 'master,4,8\nmaster,2,1\n%s\nslave,8,8,1,1,0,0,0\nshare,0,1,1\nshare,0,0,1\nshare,1,0,1\n' "$slave" > order.txt
+printf 'master,4,8\nmaster,2,1\n%s\nslave,8,8,1,1,0,0,0,0\nshare,0,1,1\nshare,0,0,1\nshare,1,0,1\n' "$slave" > order.txt
 try table order.txt 'refused,21' 'table: line 6: refusal 21: share line out of order: by master, then slave'
 try table order.txt 'refused,21' 'table: line 6: refusal 21: share line out of order: by master, then slave' --
 try table script.txt 'file,order.txt
@@ -153,7 +170,7 @@ disordered "$masters$slave\nshare,0,0,1\nshare,1,0,1\nshare,3,0,1\nshare,2,0,1\n
 disordered "$masters$slave\nshare,0,0,1\nshare,1,0,100\nshare,3,0,1\nshare,2,0,100\n" 9
 disordered "$masters$slave\nshare,0,0,100\nshare,1,0,100\nshare,3,0,100\nshare,2,0,1\n" 9
 # By slave, for one master: numbers and not words are compared, so 2 and 9 come before 10, and 7 before 8.
-cards="$(seq 0 8 120 | sed 's/.*/slave,&,8,1,1,0,0,0/')\n"
+cards="$(seq 0 8 120 | sed 's/.*/slave,&,8,1,1,0,0,0,0/')\n"
 disordered "master,4,8\n${cards}share,0,1,1\nshare,0,0,1\n" 19
 disordered "master,4,8\n${cards}share,0,10,1\nshare,0,2,1\n" 19
 disordered "master,4,8\n${cards}share,0,10,1\nshare,0,9,1\n" 19
@@ -206,10 +223,10 @@ refused "$masters$slave\nshare,0,0,1\nshare,3,0,1\nshare,0,0,2\n" 7 "line 8: ref
 refused "master,4,8\n${cards}share,0,2,1\nshare,0,10,1\nshare,0,2,1\n" 7 "line 20: refusal 7: $share"
 refused "master,1,8\nmaster,2,8\n$native\nshare,1,0,1\nshare,0,0,1\n" 19 "line 5: refusal 19: $narrow"
 refused "master,2,8\nmaster,1,8\nmaster,2,8\n$native\nshare,0,0,1\nshare,2,0,1\nshare,1,0,1\n" 19 "line 7: refusal 19: $narrow"
-refused "master,1,8\nslave,8,8,1,1,0,0,0\n$native\nslave,16,8,1,1,0,0,0\nshare,0,2,1\nshare,0,1,1\n" 19 \
+refused "master,1,8\nslave,8,8,1,1,0,0,0,0\n$native\nslave,16,8,1,1,0,0,0,0\nshare,0,2,1\nshare,0,1,1\n" 19 \
     "line 6: refusal 19: $narrow"
-disordered "master,1,8\nmaster,2,8\n$native\nslave,8,8,1,1,0,0,0\nshare,1,0,1\nshare,0,1,1\nshare,0,0,1\n" 6
-disordered "master,1,8\nmaster,2,8\n$native\nslave,8,8,1,1,0,0,0\nshare,1,1,1\nshare,1,0,1\n" 6
+disordered "master,1,8\nmaster,2,8\n$native\nslave,8,8,1,1,0,0,0,0\nshare,1,0,1\nshare,0,1,1\nshare,0,0,1\n" 6
+disordered "master,1,8\nmaster,2,8\n$native\nslave,8,8,1,1,0,0,0,0\nshare,1,1,1\nshare,1,0,1\n" 6
 
 # The first line that is refused answers; what is missing at the end comes behind (rule 8.2). That can be 20 alone: a text with a
 # share line behind another has a master and a slave.
@@ -238,7 +255,7 @@ try simulate script.txt '' '' board.txt
 
 # So is one with a slave that has no share line (rule 1.8), and a line for each master.
 # shellcheck disable=SC2059
-printf "$masters$slave\nslave,8,8,1,1,0,0,0\nshare,0,1,1\nshare,1,1,1\nshare,2,1,1\nshare,3,1,1\n" > connected.txt
+printf "$masters$slave\nslave,8,8,1,1,0,0,0,0\nshare,0,1,1\nshare,1,1,1\nshare,2,1,1\nshare,3,1,1\n" > connected.txt
 try table connected.txt 'master,slave,wait,serve
 0,1,14,8
 1,1,20,2
@@ -289,7 +306,7 @@ $figures" "table: order.txt: line 6: refusal 21: $order
 table: ./order.txt: line 6: refusal 21: $order" order.txt ./order.txt board.txt
 
 # A script, a format of printf, on the board of docs/RULES.md, section 9: what is printed, and what is explained.
-printf 'master,4,8\nmaster,2,1\nslave,4096,4096,2,8,1,0,0\nshare,0,0,2\nshare,1,0,3\n' > fabric.txt
+printf 'master,4,8\nmaster,2,1\nslave,4096,4096,2,8,1,0,0,0\nshare,0,0,2\nshare,1,0,3\n' > fabric.txt
 called() {
     # shellcheck disable=SC2059
     printf "$1" > calls.txt
@@ -309,7 +326,7 @@ post,8' 'simulate: script line 3: refusal 8: memory or buffer not of its exact l
 called 'reset\nslot,0,2,0,0,0,0\nclock,2\n' 'reset,0
 clock,9,0
 clock,9,0' 'simulate: script line 3: refusal 9: the state breaks a rule'
-called 'reset\ntransfer,0,1,0,4096,15,9\npost,1,read,4096,3,1,-\n' 'reset,0
+called 'reset\ntransfer,0,1,0,4096,15,9,0\npost,1,read,4096,3,1,-\n' 'reset,0
 post,9' 'simulate: script line 3: refusal 9: the state breaks a rule'
 refused_call 'post,2,read,4096,15,1,-\n' post 11 'no such master'
 refused_call 'wait,2,0\n' wait 11 'no such master' ',0,0'
@@ -331,13 +348,14 @@ refused_call 'post,0,read,4096,15,1,11223344\n' post 18 'data not beats times wi
 # A board that the script has overwritten is refused by the call that it is handed to (rule 8.5).
 called 'count,0,1\nreset\n' 'reset,2' \
     'simulate: script line 2: refusal 2: at the end, no master or no slave; line kind out of order or over the count'
-called 'reset\nslave,0,4100,4096,2,8,1,0,0\npost,0,read,4096,15,1,-\nclock,1\nwait,0,0\n' 'reset,0
+called 'reset\nslave,0,4100,4096,2,8,1,0,0,0\npost,0,read,4096,15,1,-\nclock,1\nwait,0,0\n' 'reset,0
 post,4
 clock,4,0
 wait,0,6,32' 'simulate: script line 3: refusal 4: base no multiple of span
 simulate: script line 4: refusal 4: base no multiple of span'
 called 'share,0,1,1\nreset\n' 'reset,7' "simulate: script line 2: refusal 7: $share"
-called 'slave,0,4096,4096,4,8,1,0,1\nreset\n' 'reset,19' "simulate: script line 2: refusal 19: $narrow"
+called 'slave,0,4096,4096,4,8,1,0,1,0\nreset\n' 'reset,19' "simulate: script line 2: refusal 19: $narrow"
+called 'slave,0,4096,4096,2,8,1,0,0,64\nreset\n' 'reset,3' 'simulate: script line 2: refusal 3: value outside its list or range'
 
 # A board on which the script leaves a master without a share line: the lines behind a reset, what they print, and which of the
 # script's lines are refused with 20, each with the master that is named: LINE:MASTER.
@@ -368,7 +386,7 @@ wait,0,6,32' 4:1
 
 # The state is cleared before a reset, also before one that is refused: no last owner is 1 any more.
 unshared_calls 'share,1,0,0\nreset\nstate\n' "reset,20
-$(seq 0 7 | sed 's/.*/transfer,&,0,0,0,0,0/')
+$(seq 0 7 | sed 's/.*/transfer,&,0,0,0,0,0,0/')
 $(seq 0 15 | sed 's/.*/slot,&,0,0,0,0,0/')" 3:1
 
 # What was refused is taken when the share line is given back. Nothing has moved: master 0 is served from where it was.
@@ -398,7 +416,7 @@ clock,0,1
 slave,0,2,0,2,3,2,1
 11223344' '6:0 7:0'
 # A share line at another slave serves as well. The second slave has the 8 bytes that can be lent beyond the board's own.
-unshared_calls 'slave,1,0,8,2,1,0,0,0\ncount,2,2\nlend,memory,4104\nshare,1,0,0\nreset\nshare,1,1,1\nreset\n'"\
+unshared_calls 'slave,1,0,8,2,1,0,0,0,0\ncount,2,2\nlend,memory,4104\nshare,1,0,0\nreset\nshare,1,1,1\nreset\n'"\
 post,1,write,4,3,1,a1b2\nclock,1\nshow,memory,4100,2\n" "reset,20
 reset,0
 post,0
@@ -434,7 +452,7 @@ clock,0,0
 $idle
 post,0
 post,0" ''
-called 'slave,1,0,8,2,1,0,0,0\ncount,2,2\nlend,memory,4104\nshare,1,1,1\nshare,1,0,1\nshare,0,1,1\nshare,0,0,1\nreset\nclock,1\n'"\
+called 'slave,1,0,8,2,1,0,0,0,0\ncount,2,2\nlend,memory,4104\nshare,1,1,1\nshare,1,0,1\nshare,0,1,1\nshare,0,0,1\nreset\nclock,1\n'"\
 share,0,0,0\nshare,1,1,0\nreset\nclock,1\npost,0,read,0,15,1,-\nwait,0,0\n" "reset,0
 clock,0,0
 $idle
@@ -452,18 +470,18 @@ called 'share,1,0,1\nshare,0,1,1\nreset\n' reset,7 "simulate: script line 3: ref
 # What the lines of the board are refused with comes before 20, and 2 too (rule 8.5).
 called 'share,0,0,0\nshare,1,0,0\ncount,2,0\nreset\n' reset,2 \
     'simulate: script line 4: refusal 2: at the end, no master or no slave; line kind out of order or over the count'
-called 'share,1,0,0\nslave,0,4096,4096,2,8,1,0,2\nreset\n' reset,3 \
+called 'share,1,0,0\nslave,0,4096,4096,2,8,1,0,2,0\nreset\n' reset,3 \
     'simulate: script line 3: refusal 3: value outside its list or range'
 called 'share,1,0,0\nshare,0,0,101\nreset\n' reset,3 'simulate: script line 3: refusal 3: value outside its list or range'
-called 'share,1,0,0\nslave,0,4100,4096,2,8,1,0,0\nreset\n' reset,4 'simulate: script line 3: refusal 4: base no multiple of span'
+called 'share,1,0,0\nslave,0,4100,4096,2,8,1,0,0,0\nreset\n' reset,4 'simulate: script line 3: refusal 4: base no multiple of span'
 called 'share,1,0,0\nshare,2,0,1\nreset\n' reset,7 "simulate: script line 3: refusal 7: $share"
-called 'share,0,0,0\nslave,0,4096,4096,4,8,1,0,1\nreset\n' reset,19 "simulate: script line 3: refusal 19: $narrow"
+called 'share,0,0,0\nslave,0,4096,4096,4,8,1,0,1,0\nreset\n' reset,19 "simulate: script line 3: refusal 19: $narrow"
 # 20 comes before what is refused of lengths (8), the state (9) and a post (11 to 18).
 unshared_calls 'lend,memory,4095\nlend,buffer,0\nshare,1,0,0\nclock,1\npost,0,read,4096,15,1,-\n' 'clock,20,0
 post,20' '5:1 6:1'
 unshared_calls 'slot,0,2,0,0,0,0\nshare,0,0,0\nclock,1\npost,1,read,4096,3,1,-\n' 'clock,20,0
 post,20' '4:0 5:0'
-unshared_calls 'transfer,1,1,0,4096,3,1\nshare,1,0,0\nclock,1\n' clock,20,0 4:1
+unshared_calls 'transfer,1,1,0,4096,3,1,0\nshare,1,0,0\nclock,1\n' clock,20,0 4:1
 unshared_calls 'share,1,0,0\npost,2,read,4096,15,1,-\npost,0,read,4098,6,9,11\npost,0,read,8192,15,1,-\n' 'post,20
 post,20
 post,20' '3:1 4:1 5:1'
@@ -471,7 +489,7 @@ post,20' '3:1 4:1 5:1'
 # The accesses of a transfer (rule 4.10), on a board with masters of 8 and 2 bytes, and a card of 2 bytes and bursts of 4 that
 # waits 1 clock for a read and 2 for a write. With bus sizing the accesses of a write that have no lane are left out.
 # Master 0 has its transfers at 4104, the card's offset 8, and writes these bytes.
-printf 'master,8,4\nmaster,2,1\nslave,4096,64,2,4,1,2,0\nshare,0,0,2\nshare,1,0,3\n' > lanes.txt
+printf 'master,8,4\nmaster,2,1\nslave,4096,64,2,4,1,2,0,0\nshare,0,0,2\nshare,1,0,3\n' > lanes.txt
 bytes=a0a1a2a3a4a5a6a7
 narrowed() {
     # shellcheck disable=SC2059
@@ -487,12 +505,12 @@ clocks() {
 }
 
 # A write of master 0, with a clock behind its last: LANES, the card's bytes from offset 8 on when it is finished, its clocks, and
-# the card's numbers behind base and span where they are others.
+# the card's numbers from width to native where they are others.
 written() {
     lanes=$1 stored=$2 passed=$3
     shift 3
     count=$(echo "$passed" | grep -c '^clock,')
-    posted="${1:+slave,0,4096,64,$1\n}reset\npost,0,write,4104,$lanes,1,$bytes\n"
+    posted="${1:+slave,0,4096,64,$1,0\n}reset\npost,0,write,4104,$lanes,1,$bytes\n"
     narrowed "${posted}clock,$((count + 1))\nshow,memory,8,8\n" "reset,0
 post,0
 $passed
@@ -533,17 +551,17 @@ post,0
 $(clocks 0:1,0,8,3,4,0 0:2,0,8,3,4,0 0:1,0,10,3,4,1 0:2,0,10,3,4,1 0:1,0,12,3,4,2 0:2,0,12,3,4,2 0:1,0,14,3,4,3 1:2,0,14,3,4,3 \
     0:0,0,0,0,0,0)
 $bytes"
-narrowed "slave,0,4096,64,2,4,1,2,1\nreset\nfill,memory,2,b0b1\npost,0,read,4104,12,1,-\nclock,2\nshow,buffer,0,8\n" "reset,0
+narrowed "slave,0,4096,64,2,4,1,2,1,0\nreset\nfill,memory,2,b0b1\npost,0,read,4104,12,1,-\nclock,2\nshow,buffer,0,8\n" "reset,0
 post,0
 $(clocks 0:1,0,2,3,1,0 1:2,0,2,3,1,0)
 b0b1000000000000"
 # A burst of two words leaves none of its eight accesses out.
-narrowed "slave,0,4096,64,2,4,1,0,0\nreset\npost,0,write,4104,255,2,$bytes$bytes\nclock,8\nshow,memory,8,16\n" "reset,0
+narrowed "slave,0,4096,64,2,4,1,0,0,0\nreset\npost,0,write,4104,255,2,$bytes$bytes\nclock,8\nshow,memory,8,16\n" "reset,0
 post,0
 $(clocks 0:2,0,8,3,4,0 0:2,0,10,3,4,1 0:2,0,12,3,4,2 0:2,0,14,3,4,3 0:2,0,16,3,4,0 0:2,0,18,3,4,1 0:2,0,20,3,4,2 1:2,0,22,3,4,3)
 $bytes$bytes"
 # A master as wide as the card, or narrower, has one access for a word.
-narrowed 'reset\npost,1,write,4106,2,1,c0c1\nclock,3\nslave,0,4096,64,8,4,1,2,0\npost,1,write,4106,1,1,d0d1\nclock,3\n'"\
+narrowed 'reset\npost,1,write,4106,2,1,c0c1\nclock,3\nslave,0,4096,64,8,4,1,2,0,0\npost,1,write,4106,1,1,d0d1\nclock,3\n'"\
 show,memory,8,4\n" "reset,0
 post,0
 $(clocks 0:1,1,10,2,1,0 0:1,1,10,2,1,0 2:2,1,10,2,1,0)
@@ -565,10 +583,11 @@ $(clocks 0:1,0,10,3,1,0)
 wait,0,9,48
 wait,0,60,3"
 
-# The state in the middle of a write, and behind it: what is done counts the accesses carried out.
+# The state in the middle of a write, and behind it: what is done counts the accesses carried out. The transfer of master 0, the slot
+# of card 0, and the latency clocks that the master still has to pass, where it is not 0.
 state_of() {
-    printf 'transfer,0,%s\n' "$1"
-    seq 1 7 | sed 's/.*/transfer,&,0,0,0,0,0/'
+    printf 'transfer,0,%s,%s\n' "$1" "${3-0}"
+    seq 1 7 | sed 's/.*/transfer,&,0,0,0,0,0,0/'
     printf 'slot,0,%s\n' "$2"
     seq 1 15 | sed 's/.*/slot,&,0,0,0,0,0/'
 }
@@ -586,9 +605,9 @@ $(state_of 0,0,0,0,0 0,1,0,0,0)"
 # state, the card's bytes and the master's words are as they were.
 rule='refusal 9: the state breaks a rule'
 serving() {
-    write=$1 lanes=$2 carried=$3 passed=${4-} card="${5:+slave,0,4096,64,$5\n}"
+    write=$1 lanes=$2 carried=$3 passed=${4-} card="${5:+slave,0,4096,64,$5,0\n}"
     count=$(echo "$passed" | grep -c '^clock,') || :
-    lent="${card}reset\nfill,memory,0,$bytes$bytes\nfill,buffer,0,b0b1b2b3b4b5b6b7\ntransfer,0,1,$write,4104,$lanes,1\n"
+    lent="${card}reset\nfill,memory,0,$bytes$bytes\nfill,buffer,0,b0b1b2b3b4b5b6b7\ntransfer,0,1,$write,4104,$lanes,1,0\n"
     lent="${lent}slot,0,0,1,1,$carried,0\n"
     if [ -n "$passed" ]; then
         narrowed "${lent}clock,$count\n" "reset,0
@@ -625,11 +644,66 @@ serving 0 12 1 '' 2,4,1,2,1
 serving 1 12 1 "$(clocks 1:2,0,11,1,2,1)" 1,4,1,0,0
 serving 1 12 2 '' 1,4,1,0,0
 # The same accesses done are too many for a write of these lanes, and not for a read of them or for a write of all.
-narrowed 'reset\ntransfer,0,1,0,4104,12,1\nslot,0,0,1,1,2,1\nclock,1\ntransfer,0,1,1,4104,12,1\nclock,1\n'"\
-transfer,0,1,1,4104,255,1\nclock,1\n" "reset,0
+narrowed 'reset\ntransfer,0,1,0,4104,12,1,0\nslot,0,0,1,1,2,1\nclock,1\ntransfer,0,1,1,4104,12,1,0\nclock,1\n'"\
+transfer,0,1,1,4104,255,1,0\nclock,1\n" "reset,0
 $(clocks 0:2,0,12,3,4,2)
 clock,9,0
 $(clocks 0:1,0,14,3,4,3)" "simulate: script line 6: $rule"
+
+# A card with latency (rule 4.16), native, so that a word of master 0 is one access, and with a latency of 2: the access of a read
+# brings its bytes and frees the card, and the read is finished two clocks after it. Until then its master holds it.
+narrowed "slave,0,4096,64,2,4,1,2,1,2\nreset\nfill,memory,2,b0b1\npost,0,read,4104,12,1,-\nclock,2\nstate\nshow,buffer,0,8\nclock,1\n\
+state\npost,0,read,4104,12,1,-\nclock,1\nstate\n" "reset,0
+post,0
+$(clocks 0:1,0,2,3,1,0 0:2,0,2,3,1,0)
+$(state_of 1,0,4104,12,1 0,1,0,0,0 2)
+b0b1000000000000
+$(clocks 0:0,0,0,0,0,0)
+$(state_of 1,0,4104,12,1 0,0,0,0,0 1)
+post,12
+$(clocks 1:0,0,0,0,0,0)
+$(state_of 0,0,0,0,0 0,0,0,0,0)" 'simulate: script line 10: refusal 12: master holds a transfer'
+# The longest latency: of 64 clocks the first has the access, and the last finishes the read. A write is finished with its access.
+narrowed 'slave,0,4096,64,2,4,0,0,1,63\nreset\npost,0,read,4104,255,1,-\nclock,64\n' "reset,0
+post,0
+$(clocks 0:2,0,2,3,1,0)
+$(seq 62 | sed "s/.*/clock,0,0\n$idle/")
+$(clocks 1:0,0,0,0,0,0)"
+narrowed "slave,0,4096,64,2,4,0,0,0,63\nreset\npost,0,write,4104,12,1,$bytes\nclock,2\n" "reset,0
+post,0
+$(clocks 1:2,0,10,3,1,0 0:0,0,0,0,0,0)"
+# While a read has latency clocks to pass, the other master has the card, though a grant remains to the first.
+narrowed 'slave,0,4096,64,2,4,0,0,1,2\nreset\npost,0,read,4104,255,1,-\npost,1,write,4096,3,1,c0c1\nclock,3\n' "reset,0
+post,0
+post,0
+$(clocks 0:2,0,2,3,1,0 2:2,1,0,3,1,0 1:0,0,0,0,0,0)"
+
+# A lent state with a count of latency clocks: the transfer of master 0 with the count, the slot of card 0, which has a latency of 2,
+# and the clocks from there where the state is taken. Refused (rule 7.9) is a count above the latency, one of a write, of a master
+# that holds no transfer, and of an owner that is served; a post is refused too.
+counted() {
+    lent="slave,0,4096,64,2,4,1,2,0,2\nreset\ntransfer,0,$1\nslot,0,$2\n"
+    if [ $# -eq 3 ]; then
+        narrowed "${lent}clock,$(echo "$3" | grep -c '^clock,')\n" "reset,0
+$3"
+        return
+    fi
+    narrowed "${lent}clock,1\npost,1,read,4096,3,1,-\n" 'reset,0
+clock,9,0
+post,9' "simulate: script line 5: $rule
+simulate: script line 6: $rule"
+}
+
+counted 1,0,4104,12,1,2 0,1,0,0,0 "$(clocks 0:0,0,0,0,0,0 1:0,0,0,0,0,0 0:0,0,0,0,0,0)"
+counted 1,0,4104,12,1,1 0,1,0,0,0 "$(clocks 1:0,0,0,0,0,0 0:0,0,0,0,0,0)"
+counted 1,0,4104,12,1,3 0,1,0,0,0
+counted 1,0,4104,12,1,4294967295 0,1,0,0,0
+counted 1,1,4104,12,1,1 0,1,0,0,0
+counted 0,0,0,0,0,1 0,1,0,0,0
+counted 1,0,4104,12,1,1 0,1,1,0,0
+counted 1,0,4104,12,1,0 0,1,1,0,0 "$(clocks 0:1,0,8,3,4,0)"
+narrowed 'reset\ntransfer,0,1,0,4104,12,1,1\nclock,1\n' 'reset,0
+clock,9,0' "simulate: script line 3: $rule"
 
 # A line with many refused clocks is explained once, and only lines that are refused are.
 called 'reset\nclock,1\nlend,buffer,0\nclock,1000\nlend,buffer,4096\nclock,1\nclock,0\n' "reset,0
@@ -663,12 +737,14 @@ problem 'clock,4294967296' "$range"
 problem 'wait,0,4294967296' "$range"
 problem 'post,0,read,4294967296,15,1,-' "$range"
 problem 'post,0,read,4096,256,1,-' "$range"
-problem 'transfer,8,0,0,0,0,0' "$range"
-problem 'transfer,0,2,0,0,0,0' "$range"
+problem 'transfer,8,0,0,0,0,0,0' "$range"
+problem 'transfer,0,2,0,0,0,0,0' "$range"
+problem 'transfer,0,0,0,0,0,0,4294967296' "$range"
 problem 'slot,16,0,0,0,0,0' "$range"
 problem 'slot,0,0,0,0,65536,0' "$range"
-problem 'slave,0,0,0,0,0,0,256,0' "$range"
-problem 'slave,0,0,0,0,0,0,0,4294967296' "$range"
+problem 'slave,0,0,0,0,0,0,256,0,0' "$range"
+problem 'slave,0,0,0,0,0,0,0,4294967296,0' "$range"
+problem 'slave,0,0,0,0,0,0,0,0,4294967296' "$range"
 problem 'share,0,16,1' "$range"
 problem 'count,256,1' "$range"
 problem 'lend,memory,4105' "$range"
@@ -693,8 +769,10 @@ problem 'fill,memory,0,0' "$form"
 problem 'fill,memory,0,0G' "$form"
 problem 'fill,cards,0,00' "$form"
 problem 'post,0,fetch,4096,15,1,-' "$form"
-problem 'slave,0,0,0,0,0,0,0' "$form"
-problem 'slave,0,0,0,0,0,0,0,0,0' "$form"
+problem 'slave,0,0,0,0,0,0,0,0' "$form"
+problem 'slave,0,0,0,0,0,0,0,0,0,0' "$form"
+problem 'transfer,0,0,0,0,0,0' "$form"
+problem 'transfer,0,0,0,0,0,0,0,0' "$form"
 
 # Where both go to one file, an explanation comes right behind the answer.
 printf 'reset\npost,2,read,4096,15,1,-\nclock,2\nwait,2,0\nreset' > calls.txt

@@ -153,7 +153,7 @@ table: $long"
 # table with the names of files. It opens each as descriptor 3, one behind the other, and writes twice for each: its line, and its
 # table or refusal.
 cp "$root/boards/encoder.txt" second.txt
-sed 's/,1,0,0$/,1,5,0/' board.txt > third.txt
+sed 's/,1,0,0,0$/,1,5,0,0/' board.txt > third.txt
 cat > page.second <<'PAGE'
 master,slave,wait,serve
 0,0,2,16
@@ -382,10 +382,10 @@ writes
 streams
 through_pipes 3
 
-# 1,000 records of 75 bytes: the first 65,536 have 873 of them, and 61 bytes of the next one.
+# 1,000 records of 77 bytes: the first 65,536 have 851 of them, and 9 bytes of the next one.
 seq 1000 | while read -r _; do head -n 6 records; done > records.many
 seq 1000 | while read -r _; do head -n 6 read; done > all
-head -n $((873 * 6)) all > first
+head -n $((851 * 6)) all > first
 subject texts records.many all
 pieces
 try 'FAULT_CALL=write FAULT_FD=1 FAULT_AT=1' '' none 'texts: standard output: Input/output error'

@@ -69,7 +69,7 @@ sed -n '/^gcc /p' "$root/README.md" > build
 sh -e build
 {
     printf '#include <stdio.h>\n#include "fabric.h"\nstatic const uint8_t text[] = '
-    printf '"master,4,8\\nslave,4096,4096,4,8,0,0,0\\nshare,0,0,1\\n";\n'
+    printf '"master,4,8\\nslave,4096,4096,4,8,0,0,0,0\\nshare,0,0,1\\n";\n'
     printf 'int main(void)\n{\nsize_t text_length = sizeof text - 1;\n'
     example README.md 'struct fabric_board board;'
     printf 'return 0;\n}\n'
@@ -118,6 +118,12 @@ example docs/SIMULATE.md 'post,0,write,4096,12' > script.txt
 example docs/SIMULATE.md 'slave,0,2,0,2,3,1,0' > shown
 target/bin/simulate board.txt < script.txt > is 2>&1
 same 'docs/SIMULATE.md, a write with some of the lanes: something else is printed'
+
+example docs/SIMULATE.md 'slave,4096,4096,2,8,1,0,0,3' > latency.txt
+example docs/SIMULATE.md 'post,1,write,4098' > script.txt
+example docs/SIMULATE.md '1122a1b2' > shown
+target/bin/simulate latency.txt < script.txt > is 2>&1
+same 'docs/SIMULATE.md, a card with latency: something else is printed'
 
 echo "readme: $examples examples, $different differences"
 [ "$different" -eq 0 ]

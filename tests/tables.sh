@@ -136,20 +136,20 @@ board crane.txt "$(cat "$given/crane.txt")\n" "$head
 board largest.txt "$(cat "$given/largest.txt")\n" "$head
 $(awk 'BEGIN { for (m = 0; m < 8; m++) for (s = 0; s < 16; s++) print m "," s ",2336768,131072" }')"
 # The longer wait is that of a read: 4 clocks an access, turns 8 + 64 and 2 * 4 + 4.
-board read.txt "$(sed 's/,1,0,0$/,3,0,0/' document01.txt)\n" "$head
+board read.txt "$(sed 's/,1,0,0,0$/,3,0,0,0/' document01.txt)\n" "$head
 0,0,12,64
 1,0,72,4"
 # It is that of a write: 6 clocks an access, turns 12 + 96 and 2 * 6 + 6.
-board write.txt "$(sed 's/,1,0,0$/,1,5,0/' document01.txt)\n" "$head
+board write.txt "$(sed 's/,1,0,0,0$/,1,5,0,0/' document01.txt)\n" "$head
 0,0,18,96
 1,0,108,6"
 # Nobody else requests, and no more than two words fit in the card.
-board single.txt 'master,4,8\nslave,0,8,1,1,0,0,0\nshare,0,0,1\n' "$head
+board single.txt 'master,4,8\nslave,0,8,1,1,0,0,0,0\nshare,0,0,1\n' "$head
 0,0,0,8"
 # 3 clocks an access, a word of the masters 6 and 7 is two accesses: turns 3, 3 + 192, 2 * 3 + 6, 3 * 3 + 96, 4 * 3 + 12,
 # 5 * 3 + 48, 6 * 6 + 48, 99 * 6 + 6, together 1086.
 board masters.txt "master,1,1\nmaster,1,64\nmaster,2,2\nmaster,2,32\nmaster,4,4\nmaster,4,16\nmaster,8,8\nmaster,8,1\n\
-slave,65536,1024,4,8,0,2,0\nshare,0,0,1\nshare,1,0,2\nshare,2,0,3\nshare,3,0,4\nshare,4,0,5\nshare,5,0,6\nshare,6,0,7\n\
+slave,65536,1024,4,8,0,2,0,0\nshare,0,0,1\nshare,1,0,2\nshare,2,0,3\nshare,3,0,4\nshare,4,0,5\nshare,5,0,6\nshare,6,0,7\n\
 share,7,0,100\n" "$head
 0,0,1083,3
 1,0,891,192
@@ -162,7 +162,7 @@ share,7,0,100\n" "$head
 # Card k waits k clocks for a read and 15 - k for a write, an access there takes v = 16 - k clocks, from card 8 on k + 1. A word of
 # master 0 is 8, 4, 2 or 1 accesses by the card's width: turns of 17 words and of 3 * v.
 board cards.txt "master,8,16\nmaster,1,1\n$(awk 'BEGIN {
-    for (k = 0; k < 16; k++) printf "slave,%d,4096,%d,16,%d,%d,0\\n", 4096 * k, 2 ^ (k % 4), k, 15 - k
+    for (k = 0; k < 16; k++) printf "slave,%d,4096,%d,16,%d,%d,0,0\\n", 4096 * k, 2 ^ (k % 4), k, 15 - k
     for (k = 0; k < 32; k++) printf "share,%d,%d,%d\\n", k / 16, k % 16, k < 16 ? 2 : 3
 }')" "$head
 0,0,48,2048
@@ -198,18 +198,43 @@ board cards.txt "master,8,16\nmaster,1,1\n$(awk 'BEGIN {
 1,14,510,15
 1,15,272,16"
 # A native card: each word is one access of 3 clocks, turns 3 + 12, 6 and 3 * 3 + 3. Card 0 has no share line.
-board native.txt "master,8,4\nmaster,4,2\nmaster,2,1\nslave,64,64,8,8,9,9,0\nslave,0,64,2,4,1,2,1\nshare,0,1,2\nshare,1,1,1\n\
+board native.txt "master,8,4\nmaster,4,2\nmaster,2,1\nslave,64,64,8,8,9,9,0,0\nslave,0,64,2,4,1,2,1,0\nshare,0,1,2\nshare,1,1,1\n\
 share,2,1,4\n" "$head
 0,1,18,12
 1,1,27,6
 2,1,21,3"
 taken='document01.txt encoder.txt crane.txt largest.txt read.txt write.txt single.txt masters.txt cards.txt native.txt'
 
+# Cards with latency (rule 5.6): all grants of a turn but the last are writes. In document01 a write waits for 0 clocks, 1 clock an
+# access: turns 2 + 32 and 2 * 1 + 2. With a read wait of 3 they are 2 + 64 and 2 * 1 + 4.
+board late.txt "$(sed 's/,1,0,0,0$/,1,0,0,3/' document01.txt)\n" "$head
+0,0,4,32
+1,0,34,2"
+board latest.txt "$(sed 's/,1,0,0,0$/,3,0,0,63/' document01.txt)\n" "$head
+0,0,6,64
+1,0,66,4"
+# Where a write waits the longer, or as long, latency changes nothing.
+board latewrite.txt "$(sed 's/,0$/,1/' write.txt)\n" "$head
+0,0,18,96
+1,0,108,6"
+board lateequal.txt "$(sed 's/,1,0,0,0$/,1,1,0,1/' document01.txt)\n" "$head
+0,0,6,32
+1,0,36,2"
+# Each card has its own: of the encoder board's two the native one, 3 clocks a read and 2 a write: turns 2 + 24 and 3.
+board lateencoder.txt "$(sed '/^slave,8192,/s/,0$/,5/' encoder.txt)\n" "$head
+0,0,2,16
+0,1,3,24
+1,0,22,2
+1,1,26,3"
+late='late.txt latest.txt latewrite.txt lateequal.txt lateencoder.txt'
+
 # Boards that are refused, one for each number at least.
 line='line 3: refusal 1: no final line feed, unknown first word, wrong count of fields, or bad number'
 board text.txt "$(sed 's/^slave/card/' document01.txt)\n" refused,1 "$line"
-board old.txt "$(sed 's/,0$//' document01.txt)\n" refused,1 \
-    "$line; a slave line has 7 numbers, the last is native: 0 bus sizing, 1 native alignment"
+board old.txt "$(sed 's/,0,0$//' document01.txt)\n" refused,1 \
+    "$line; a slave line has 8 numbers, the last two are native and latency: 0 bus sizing, 1 native alignment; 0 to 63 clocks"
+board seven.txt "$(sed 's/,0$//' document01.txt)\n" refused,1 \
+    "$line; a slave line has 8 numbers, the last is latency: 0 to 63 clocks"
 board unended.txt "$(cat document01.txt)" refused,1 "line 5${line#line 3}"
 board full.txt "$(head -n 2 document01.txt)\n$(printf '%08169d' 0)\n" refused,1 "$line"
 board long.txt "$(head -n 2 document01.txt)\n$(printf '%08170d' 0)\n" refused,1 'refusal 1: text over 8192 bytes'
@@ -217,6 +242,8 @@ board order.txt "$(sed 2q document01.txt)\nshare,0,0,2\n" refused,2 'line 3: ref
 board empty.txt '' refused,2 'refusal 2: at the end, no master or no slave'
 board value.txt "$(sed 's/^share,1,0,3/share,1,0,101/' document01.txt)\n" refused,3 \
     'line 5: refusal 3: value outside its list or range'
+board toolate.txt "$(sed 's/,1,0,0,0$/,1,0,0,64/' document01.txt)\n" refused,3 \
+    'line 3: refusal 3: value outside its list or range'
 board base.txt "$(sed 's/^slave,4096,/slave,4100,/' document01.txt)\n" refused,4 'line 3: refusal 4: base no multiple of span'
 board overlap.txt "$(sed 's/^slave,8192,/slave,4096,/' encoder.txt)\n" refused,5 'line 4: refusal 5: slave overlaps an earlier one'
 board spans.txt "$(sed 's/^slave,0,16384,/slave,131072,65536,/' crane.txt)\n" refused,6 'line 7: refusal 6: spans total over 65536'
@@ -234,12 +261,12 @@ board byword.txt "$(grep -v '^share,' cards.txt && grep '^share,' cards.txt | so
     "line 27: refusal 21: $unordered"
 board backwards.txt "$(sed '/^share,/d' unshared.txt && sed '/^share,/!d' unshared.txt | sort -r)\n" refused,21 \
     "line 13: refusal 21: $unordered"
-refused='text.txt old.txt unended.txt full.txt long.txt order.txt empty.txt value.txt base.txt overlap.txt spans.txt share.txt
-narrow.txt unshared.txt byslave.txt byword.txt backwards.txt'
-boards="$taken $refused"
+refused='text.txt old.txt seven.txt unended.txt full.txt long.txt order.txt empty.txt value.txt toolate.txt base.txt overlap.txt
+spans.txt share.txt narrow.txt unshared.txt byslave.txt byword.txt backwards.txt'
+boards="$taken $late $refused"
 holds 'full.txt has 8,192 bytes' "$(wc -c < full.txt)" -eq 8192
 holds 'long.txt has 8,193 bytes' "$(wc -c < long.txt)" -eq 8193
-printf 'master,4,64\nmaster,8,64\nslave,0,4096,4,64,10,77,0\nshare,0,0,1\nshare,1,0,1\n' > ../input
+printf 'master,4,64\nmaster,8,64\nslave,0,4096,4,64,10,77,0,0\nshare,0,0,1\nshare,1,0,1\n' > ../input
 # shellcheck disable=SC2086
 cksum $boards > ../before
 
@@ -261,7 +288,7 @@ done
 {
     try $boards
     try_behind $boards
-    try $refused $taken
+    try $refused $late $taken
     try $(printf '%s\n' $boards | sort)
     try $(printf '%s\n' $boards | sort -r)
     try $(for name in $boards; do printf '%s\n' $boards | sed "s/^/$name /"; done)
@@ -281,8 +308,8 @@ done
     same $boards
 }
 
-# The longer of a card's two waits counts, whichever it is: a table stays where the two are exchanged in every slave line or in
-# every second one, where the shorter becomes as long, and where it becomes 0.
+# The longer of a card's two waits counts, whichever it is, where the card has no latency: a table stays where the two are exchanged
+# in every slave line or in every second one, where the shorter becomes as long, and where it becomes 0.
 for name in $taken; do
     for change in exchanged second equal none; do
         mkdir -p "$change"
@@ -303,8 +330,8 @@ for name in $taken; do
     done
     try "$name" "exchanged/$name" "second/$name" "equal/$name" "none/$name"
 done
-holds 'the waits were exchanged' "$(sed -n 3p exchanged/document01.txt)" = slave,4096,4096,2,8,0,1,0
-holds 'the shorter wait is 0' "$(sed -n 3p none/write.txt)" = slave,4096,4096,2,8,0,5,0
+holds 'the waits were exchanged' "$(sed -n 3p exchanged/document01.txt)" = slave,4096,4096,2,8,0,1,0,0
+holds 'the shorter wait is 0' "$(sed -n 3p none/write.txt)" = slave,4096,4096,2,8,0,5,0,0
 for waits in 255,0 0,255 254,255 255,254; do
     mkdir "$waits"
     sed "s/,255,255,/,$waits,/" largest.txt > "$waits/largest.txt"
@@ -344,7 +371,7 @@ awk '
         for (r = 0; r < 256; r += 15) for (w = 0; w < 256; w += 17) {
             name = "variant-" r "-" w
             v = 1 + (r > w ? r : w)
-            printf "master,4,8\nmaster,2,1\nslave,4096,4096,2,8,%d,%d,0\nshare,0,0,2\nshare,1,0,3\n", r, w > name
+            printf "master,4,8\nmaster,2,1\nslave,4096,4096,2,8,%d,%d,0,0\nshare,0,0,2\nshare,1,0,3\n", r, w > name
             printf "master,slave,wait,serve\n0,0,%d,%d\n1,0,%d,%d\n", 3 * v, 16 * v, 18 * v, v > ("../pages/" name)
             printf "" > ("../said/" name)
             close(name)
@@ -424,7 +451,7 @@ try document01.txt '' base.txt
 try '' --help
 
 # A name may have a line feed.
-printf 'master,4,8\nslave,0,8,1,1,0,0,0\nshare,0,0,1\n' > "two${newline}lines"
+printf 'master,4,8\nslave,0,8,1,1,0,0,0,0\nshare,0,0,1\n' > "two${newline}lines"
 cat > ../output.expected <<'END'
 file,two
 lines
