@@ -1,7 +1,8 @@
 /*
  * What the calls do to the numbers and bytes they are lent: which numbers are refused and with what (refusal k is rule 7.k),
  * that a refusal leaves everything as it was (rule 8.1), which master is named where one has no share line (rule 8.3), what a
- * native slave does with a master's word (rule 4.10), and that a run of clocks leaves what as many clocks leave (rule 4.15).
+ * native slave does with a master's word (rule 4.10), when a read at a slave with latency is finished (rule 4.16), and that a run
+ * of clocks leaves what as many clocks leave (rule 4.15).
  */
 #include <stdio.h>
 #include <stdlib.h>
@@ -13,8 +14,8 @@
 static const char description[] =
     "master,4,8\n"
     "master,2,1\n"
-    "slave,4096,4096,2,8,1,0,0\n"
-    "slave,0,64,4,1,0,3,0\n"
+    "slave,4096,4096,2,8,1,0,0,0\n"
+    "slave,0,64,4,1,0,3,0,0\n"
     "share,0,0,2\n"
     "share,0,1,1\n"
     "share,1,0,3\n";
@@ -217,17 +218,21 @@ static void readings(void)
     refuses_text("a text that is too long", longest, sizeof longest, FABRIC_BAD_TEXT, 0);
     refuses_text("a text as long as may be", longest, FABRIC_TEXT_BYTES, FABRIC_BAD_TEXT, 1);
     refuses_text("no final line feed", description, strlen(description) - 1, FABRIC_BAD_TEXT, 7);
-    refuses_text("a wait of 300 in a text", "master,4,8\nslave,0,8,4,8,300,0,0\n", 33, FABRIC_BAD_VALUE, 2);
-    refuses_text("a base of 4", "master,4,8\nslave,4,8,4,8,0,0,0\n", 31, FABRIC_BAD_BASE, 2);
-    refuses_text("a slave line without native", "master,4,8\nslave,0,8,4,8,0,0\n", 29, FABRIC_BAD_TEXT, 2);
-    refuses_text("a native of 2 in a text", "master,4,8\nslave,0,8,4,8,0,0,2\n", 31, FABRIC_BAD_VALUE, 2);
-    refuses_text("a master narrower than a native slave", "master,2,8\nslave,0,8,4,8,0,0,1\nshare,0,0,1\n", 43,
+    refuses_text("a wait of 300 in a text", "master,4,8\nslave,0,8,4,8,300,0,0,0\n", 35, FABRIC_BAD_VALUE, 2);
+    refuses_text("a base of 4", "master,4,8\nslave,4,8,4,8,0,0,0,0\n", 33, FABRIC_BAD_BASE, 2);
+    refuses_text("a slave line without native and latency", "master,4,8\nslave,0,8,4,8,0,0\n", 29, FABRIC_BAD_TEXT, 2);
+    refuses_text("a slave line without latency", "master,4,8\nslave,0,8,4,8,0,0,0\n", 31, FABRIC_BAD_TEXT, 2);
+    refuses_text("a slave line of nine numbers", "master,4,8\nslave,0,8,4,8,0,0,0,0,0\n", 35, FABRIC_BAD_TEXT, 2);
+    refuses_text("a native of 2 in a text", "master,4,8\nslave,0,8,4,8,0,0,2,0\n", 33, FABRIC_BAD_VALUE, 2);
+    refuses_text("a latency of 64 in a text", "master,4,8\nslave,0,8,4,8,0,0,0,64\n", 34, FABRIC_BAD_VALUE, 2);
+    refuses_text("a latency of 63 in a text", "master,4,8\nslave,0,8,4,8,0,0,0,63\nshare,0,0,1\n", 46, FABRIC_TAKEN, 0);
+    refuses_text("a master narrower than a native slave", "master,2,8\nslave,0,8,4,8,0,0,1,0\nshare,0,0,1\n", 45,
                  FABRIC_TOO_NARROW, 3);
     refuses_text("no slave", "master,4,8\n", 11, FABRIC_BAD_ORDER, 0);
 }
 
 #define MASTERS "master,4,8\nmaster,2,1\nmaster,8,4\n"
-#define SLAVE "slave,0,64,2,1,0,0,0\n"
+#define SLAVE "slave,0,64,2,1,0,0,0,0\n"
 
 /* A text, what it is refused with, and the line that is charged. */
 struct judged_text {
@@ -251,12 +256,12 @@ static void unshared_texts(void)
         {MASTERS SLAVE "share,0,0,1\n\n", FABRIC_BAD_TEXT, 6},
         {MASTERS SLAVE "share,0,0,1\n" SLAVE, FABRIC_BAD_ORDER, 6},
         {MASTERS SLAVE "share,0,0,0\n", FABRIC_BAD_VALUE, 5},
-        {MASTERS SLAVE "slave,32,64,2,1,0,0,0\n", FABRIC_BAD_BASE, 5},
+        {MASTERS SLAVE "slave,32,64,2,1,0,0,0,0\n", FABRIC_BAD_BASE, 5},
         {MASTERS SLAVE SLAVE, FABRIC_OVERLAP, 5},
-        {MASTERS SLAVE "slave,65536,65536,2,1,0,0,0\n", FABRIC_SPAN_TOTAL, 5},
+        {MASTERS SLAVE "slave,65536,65536,2,1,0,0,0,0\n", FABRIC_SPAN_TOTAL, 5},
         {MASTERS SLAVE "share,3,0,1\n", FABRIC_BAD_SHARE, 5},
         {MASTERS SLAVE "share,2,0,1\nshare,2,0,1\n", FABRIC_BAD_SHARE, 6},
-        {MASTERS "slave,0,64,4,1,0,0,1\nshare,2,0,1\nshare,1,0,1\n", FABRIC_TOO_NARROW, 6},
+        {MASTERS "slave,0,64,4,1,0,0,1,0\nshare,2,0,1\nshare,1,0,1\n", FABRIC_TOO_NARROW, 6},
     };
 
     names_master("no share line", MASTERS SLAVE, 0);
@@ -266,11 +271,11 @@ static void unshared_texts(void)
     names_master("a share line of the first master alone", MASTERS SLAVE "share,0,0,1\n", 1);
     names_master("none of the last", MASTERS SLAVE "share,0,0,1\nshare,1,0,100\n", 2);
     names_master("three share lines of two masters",
-                 MASTERS SLAVE "slave,64,64,2,1,0,0,1\nshare,0,0,1\nshare,0,1,1\nshare,2,1,1\n", 1);
+                 MASTERS SLAVE "slave,64,64,2,1,0,0,1,0\nshare,0,0,1\nshare,0,1,1\nshare,2,1,1\n", 1);
     refuses_texts("what comes before a missing share line", earlier, sizeof earlier / sizeof earlier[0]);
 }
 
-#define TWO_SLAVES "slave,0,64,2,1,0,0,0\nslave,64,64,4,1,0,0,1\n"
+#define TWO_SLAVES "slave,0,64,2,1,0,0,0,0\nslave,64,64,4,1,0,0,1,0\n"
 
 /*
  * Share lines by master, then slave (rule 1.4). In a line that is out of order 1, 3, 7 and 19 come first, and 21 comes before what
@@ -317,7 +322,7 @@ static void shared_text(char *text, uint32_t count, uint32_t set, int backwards)
 {
     for (uint32_t m = 0; m < count; m++)
         text += sprintf(text, "master,4,8\n");
-    text += sprintf(text, "slave,0,8,4,8,0,0,0\nslave,8,8,4,8,0,0,0\n");
+    text += sprintf(text, "slave,0,8,4,8,0,0,0,0\nslave,8,8,4,8,0,0,0,0\n");
     for (uint32_t i = 0; i < count; i++) {
         uint32_t m = backwards ? count - 1 - i : i;
 
@@ -352,7 +357,7 @@ static void shared_sets(void)
 static void board_read(void)
 {
     static const uint32_t masters[2 * FABRIC_MASTERS] = {4, 8, 2, 1};
-    static const uint32_t slaves[7 * FABRIC_SLAVES] = {4096, 4096, 2, 8, 1, 0, 0, 0, 64, 4, 1, 0, 3, 0};
+    static const uint32_t slaves[8 * FABRIC_SLAVES] = {4096, 4096, 2, 8, 1, 0, 0, 0, 0, 64, 4, 1, 0, 3, 0, 0};
     static const uint32_t shares[FABRIC_MASTERS * FABRIC_SLAVES] = {2, 1, 0, 0, 0, 0, 0, 0, 0, 0, 0, 0, 0, 0, 0, 0, 3};
     struct fabric_board board;
 
@@ -369,6 +374,7 @@ static void board_read(void)
     memset(&fresh.state, 0xa5, sizeof fresh.state);
     check_number("reset", reset(&fresh), FABRIC_TAKEN);
     check("no transfers after a reset", all_zero(fresh.state.transfer, sizeof fresh.state.transfer));
+    check("no latency clocks after a reset", all_zero(fresh.state.late, sizeof fresh.state.late));
     check("the last owners after a reset", fresh.state.slot[0].owner == 1 && fresh.state.slot[1].owner == 1);
     fresh.state.slot[0].owner = fresh.state.slot[1].owner = 0;
     check("all else 0 after a reset", all_zero(&fresh.state, sizeof fresh.state));
@@ -468,6 +474,20 @@ static void native_boards(void)
     refuses_board("shares of a narrower master at a native slave", &tried.board.shares[1][1], 1, FABRIC_TOO_NARROW);
     refuses_board("101 shares of a narrower master", &tried.board.shares[1][1], 101, FABRIC_BAD_VALUE);
     refuses_board("shares of no master at a native slave", &tried.board.shares[2][1], 1, FABRIC_BAD_SHARE);
+}
+
+/* The same of slaves with latency, 63 clocks at the most. */
+static void late_boards(void)
+{
+    tried = fresh;
+    refuses_board("a latency of 64", &tried.board.slave[0].latency, 64, FABRIC_BAD_VALUE);
+    refuses_board("a latency of 256", &tried.board.slave[1].latency, 256, FABRIC_BAD_VALUE);
+    refuses_board("the largest latency", &tried.board.slave[1].latency, UINT32_MAX, FABRIC_BAD_VALUE);
+    tried.board.slave[0].latency = tried.board.slave[1].latency = 63;
+    check_number("a latency of 63", reset(&tried), FABRIC_TAKEN);
+    refuses_board("a base of 32 with latency", &tried.board.slave[1].base, 32, FABRIC_BAD_BASE);
+    tried.board.slave[2].latency = 64;
+    check_number("a latency of 64 of no slave of the board's", reset(&tried), FABRIC_TAKEN);
 }
 
 /* A master without shares at any slave: 2 to 7 and 19 come before it (rule 8.5). */
@@ -586,6 +606,43 @@ static void states(void)
     check("the access is carried out", tried.lines.line[0].phase == FABRIC_ACCESS && x->done == 1 && x->waited == 0);
 }
 
+/*
+ * Counts of latency clocks (rule 7.9). Slave 0 has a latency of 3, slave 1 none; a count above the latency is refused, and one of a
+ * write, of a master that holds no transfer and of a master that is served.
+ */
+static void late_states(void)
+{
+    struct fabric_transfer *t = &tried.state.transfer[0];
+
+    tried = fresh;
+    tried.board.slave[0].latency = 3;
+    for (uint32_t m = 0; m < FABRIC_MASTERS; m++)
+        refuses_state(m < 2 ? "a latency clock of no transfer" : "a latency clock of no master", &tried.state.late[m], 1);
+    check_number("a read", post(&tried, 0, 0, 4096, 15, 1, 0), FABRIC_TAKEN);
+    refuses_state("4 latency clocks of 3", &tried.state.late[0], 4);
+    refuses_state("256 latency clocks", &tried.state.late[0], 256);
+    refuses_state("the most latency clocks", &tried.state.late[0], UINT32_MAX);
+    refuses_state("a latency clock of another master", &tried.state.late[1], 1);
+    t->write = 256;
+    refuses_state("a latency clock of a write", &tried.state.late[0], 1);
+    refuses_state("as many latency clocks of a write as the slave has", &tried.state.late[0], 3);
+    t->write = 0;
+    t->held = 0;
+    refuses_state("a latency clock of a read that is not held", &tried.state.late[0], 1);
+    t->held = 1;
+    t->address = 0;
+    refuses_state("a latency clock at a slave without latency", &tried.state.late[0], 1);
+    t->address = 4096;
+    check_number("its first clock", clock_once(&tried), FABRIC_TAKEN);
+    refuses_state("a latency clock of a master that is served", &tried.state.late[0], 1);
+    refuses_state("as many latency clocks of a master that is served as the slave has", &tried.state.late[0], 3);
+    check_number("a read that waits beside it", post(&tried, 1, 0, 4096, 3, 1, 0), FABRIC_TAKEN);
+    refuses_state("4 latency clocks of 3 beside a master that is served", &tried.state.late[1], 4);
+    tried.state.late[1] = 3;
+    check_number("3 latency clocks beside a master that is served", clock_once(&tried), FABRIC_TAKEN);
+    check("one is passed", tried.state.late[1] == 2 && tried.mask == 0 && tried.lines.line[0].owner == 0);
+}
+
 static void posts(void)
 {
     tried = fresh;
@@ -643,6 +700,31 @@ static void lengths(void)
     refuses_lengths("no memory", FABRIC_BAD_LENGTH, 0, sizeof tried.buffer);
     refuses_lengths("a buffer with a byte less", FABRIC_BAD_LENGTH, sizeof tried.memory, sizeof tried.buffer - 1);
     refuses_lengths("no buffer", FABRIC_BAD_LENGTH, sizeof tried.memory, 0);
+}
+
+/* A count that is refused comes before what is posted (11 to 18), and behind the board and the lengths: rule 8.4. */
+static void late_first(void)
+{
+    tried = fresh;
+    tried.board.slave[0].latency = 3;
+    check_number("a read to be set late", post(&tried, 0, 0, 4096, 15, 1, 0), FABRIC_TAKEN);
+    tried.state.late[0] = 4;
+    refuses_post("latency clocks before no such master", FABRIC_BAD_STATE, 2, 0, 4096, 15, 1, 0);
+    refuses_post("latency clocks before a transfer held", FABRIC_BAD_STATE, 0, 0, 4096, 15, 1, 0);
+    refuses_post("latency clocks before no beats", FABRIC_BAD_STATE, 1, 0, 4096, 3, 0, 0);
+    refuses_lengths("the memory's length before latency clocks", FABRIC_BAD_LENGTH, 0, sizeof tried.buffer);
+    refuses_board("a latency of 64 before latency clocks", &tried.board.slave[0].latency, 64, FABRIC_BAD_VALUE);
+    tried.state.late[0] = 3;
+    refuses_post("a transfer held, with latency clocks", FABRIC_HELD, 0, 0, 4096, 15, 1, 0);
+    refuses_post("a transfer held before no beats, with latency clocks", FABRIC_HELD, 0, 0, 4096, 15, 0, 0);
+    refuses_lengths("a memory with a byte less, with latency clocks", FABRIC_BAD_LENGTH, sizeof tried.memory - 1,
+                    sizeof tried.buffer);
+    refuses_board("a latency of 64, with latency clocks", &tried.board.slave[0].latency, 64, FABRIC_BAD_VALUE);
+    tried.board.slave[0].latency = 2;
+    refuses_clock("a latency that falls below the count", FABRIC_BAD_STATE);
+    tried.board.slave[0].latency = 63;
+    check_number("a reset with latency clocks", reset(&tried), FABRIC_TAKEN);
+    check("it leaves none", memcmp(&tried.state, &fresh.state, sizeof tried.state) == 0);
 }
 
 /* A master without shares comes before lengths (8), the state (9) and what is posted (11 to 18): rule 8.4. */
@@ -738,6 +820,123 @@ static void native_reads(void)
     check("a read changes no byte", memcmp(tried.memory, fresh.memory, sizeof tried.memory) == 0);
 }
 
+/* A clock in which slave 0 is idle, with the mask that is due and the latency clocks that master 0 has to pass behind it. */
+static void idles(const char *name, uint32_t mask, uint32_t late)
+{
+    check_number(name, clock_once(&tried), FABRIC_TAKEN);
+    check_number(name, tried.lines.line[0].phase, FABRIC_IDLE);
+    check_number(name, tried.mask, mask);
+    check_number(name, tried.state.late[0], late);
+}
+
+/*
+ * Slave 0 has a latency of 3. The last access of a read brings its bytes and frees the slave: master 1, which has stood since,
+ * writes there in the next clock. The read is finished 3 clocks after that access, and held until then (rule 4.16).
+ */
+static void late_reads(void)
+{
+    tried = fresh;
+    tried.board.slave[0].latency = 3;
+    check_number("a read of two accesses, with latency", post(&tried, 0, 0, 4096, 15, 1, 0), FABRIC_TAKEN);
+    check_number("a write to what is read", post(&tried, 1, 1, 4098, 3, 1, 2), FABRIC_TAKEN);
+    check_number("the clocks before the last access", run(&tried, 3), FABRIC_TAKEN);
+    check_number("no latency clock before it", tried.state.late[0], 0);
+    accesses("the last access", 2, 3, 2, 1);
+    check("it finishes no master", tried.mask == 0 && tried.state.late[0] == 3);
+    check("it brings the bytes", memcmp(tried.buffer, fresh.memory, 4) == 0);
+    check("it frees the slave", tried.state.slot[0].serving == 0 && tried.state.slot[0].done == 0);
+    refuses_post("a post before the finish", FABRIC_HELD, 0, 0, 4096, 15, 1, 0);
+    check_number("the clock behind it", clock_once(&tried), FABRIC_TAKEN);
+    check("master 1 is served", tried.lines.line[0].phase == FABRIC_ACCESS && tried.lines.line[0].owner == 1);
+    check("and finished", tried.mask == 2 && tried.state.late[0] == 2);
+    idles("the second latency clock", 0, 1);
+    idles("the third latency clock", 1, 0);
+    check("no transfer is held", all_zero(tried.state.transfer, sizeof tried.state.transfer));
+    check("the bytes of the read stay", memcmp(tried.buffer, fresh.memory, 4) == 0);
+    check("the bytes of the write are there", memcmp(tried.memory + 2, words, 2) == 0);
+    check_number("a write with latency", post(&tried, 0, 1, 4096, 15, 1, 4), FABRIC_TAKEN);
+    check_number("its clocks", run(&tried, 1000), FABRIC_TAKEN);
+    check("it is finished with its last access", tried.clocks == 2 && tried.mask == 1 && tried.state.late[0] == 0);
+    check_number("a second read", post(&tried, 0, 0, 4096, 15, 1, 0), FABRIC_TAKEN);
+    check_number("its clocks, in one run", run(&tried, 1000), FABRIC_TAKEN);
+    check("they are 4 and 3", tried.clocks == 7 && tried.mask == 1 && tried.lines.line[0].phase == FABRIC_IDLE);
+}
+
+/* Every count that is legal, set by hand for a read that nobody serves: so many clocks, and the last finishes the master. */
+static void late_counts(uint32_t latency)
+{
+    for (uint32_t count = 1; count <= latency; count++) {
+        struct lent at_once;
+
+        tried = fresh;
+        tried.board.slave[0].latency = latency;
+        check_number("a read, to be set late", post(&tried, 0, 0, 4096, 15, 1, 0), FABRIC_TAKEN);
+        tried.state.late[0] = count;
+        tried.state.transfer[0].held = UINT32_MAX;
+        refuses_post("a post with latency clocks to pass", FABRIC_HELD, 0, 1, 4096, 15, 1, 4);
+        at_once = tried;
+        check_number("a run of the latency clocks", run(&at_once, 1000), FABRIC_TAKEN);
+        check("it ends with the last of them", at_once.clocks == count && at_once.mask == 1);
+        for (uint32_t left = count - 1; left > 0; left--)
+            idles("a latency clock", 0, left);
+        idles("the last latency clock", 1, 0);
+        check("both leave the same", same_lent(&tried, &at_once) && same_answer(&tried, &at_once));
+        check("it is as after a reset", memcmp(&tried.state, &fresh.state, sizeof tried.state) == 0);
+        check("no byte is read", all_zero(tried.buffer, sizeof tried.buffer));
+        check_number("a post behind the finish", post(&tried, 0, 0, 4096, 15, 1, 0), FABRIC_TAKEN);
+        check_number("it has no latency clock", tried.state.late[0], 0);
+    }
+}
+
+/*
+ * A read of master 0, which has 2 shares, leaves it a grant. Without latency its next transfer is served before that of master 1;
+ * with latency it does not request in the next clock, and the grant is lost (rules 4.3 and 4.16).
+ */
+static void late_grants(uint32_t latency)
+{
+    const struct fabric_slot *x = &tried.state.slot[0];
+    uint32_t first = latency == 0 ? 0 : 1;
+
+    tried = fresh;
+    tried.board.slave[0].latency = latency;
+    check_number("a read that leaves a grant", post(&tried, 0, 0, 4096, 15, 1, 0), FABRIC_TAKEN);
+    check_number("its four clocks", run(&tried, 4), FABRIC_TAKEN);
+    check("a grant remains", x->owner == 0 && x->remaining == 1 && x->serving == 0 && tried.state.late[0] == latency);
+    check_number("the clocks of the latency", run(&tried, latency), FABRIC_TAKEN);
+    check("they are as many as the latency", latency == 0 || (tried.clocks == latency && tried.mask == 1));
+    check("with them the grant is lost", x->owner == 0 && x->remaining == (latency == 0 ? 1u : 0u));
+    check_number("a post of each, master 0", post(&tried, 0, 0, 4096, 15, 1, 0), FABRIC_TAKEN);
+    check_number("a post of each, master 1", post(&tried, 1, 0, 4096, 3, 1, 0), FABRIC_TAKEN);
+    check_number("the clock behind", clock_once(&tried), FABRIC_TAKEN);
+    check_number("who is served first", tried.lines.line[0].owner, first);
+    check("one is waiting for its access", tried.lines.line[0].phase == FABRIC_WAITING && x->waited == 1);
+}
+
+/*
+ * Two reads at slave 0 with a latency of 5, their latencies side by side: the last access of master 0 is in clock 4, that of
+ * master 1 in clock 6. Master 0 then writes in the clock in which master 1 is finished.
+ */
+static void late_together(void)
+{
+    tried = fresh;
+    tried.board.slave[0].latency = 5;
+    check_number("the first of two reads", post(&tried, 0, 0, 4096, 15, 1, 0), FABRIC_TAKEN);
+    check_number("the second of two reads", post(&tried, 1, 0, 4098, 3, 1, 0), FABRIC_TAKEN);
+    for (uint32_t clock = 1; clock <= 10; clock++) {
+        check_number("a clock of two reads", clock_once(&tried), FABRIC_TAKEN);
+        check_number("the first is finished in clock 9", tried.mask, clock == 9 ? 1 : 0);
+        check_number("the clocks that the first has left", tried.state.late[0], clock < 4 || clock > 9 ? 0 : 9 - clock);
+        check_number("the clocks that the second has left", tried.state.late[1], clock < 6 ? 0 : 11 - clock);
+        check("the slave is free behind clock 6", clock <= 6 || tried.lines.line[0].phase == FABRIC_IDLE);
+    }
+    check_number("a write of one access", post(&tried, 0, 1, 4096, 12, 1, 4), FABRIC_TAKEN);
+    check_number("a clock that finishes both", clock_once(&tried), FABRIC_TAKEN);
+    check_number("a write and a read are finished", tried.mask, 3);
+    check("the write is carried out in it", tried.lines.line[0].phase == FABRIC_ACCESS && tried.lines.line[0].owner == 0);
+    check("the second read has its bytes", memcmp(tried.buffer + FABRIC_PART_BYTES, fresh.memory + 2, 2) == 0);
+    check("no count is left", all_zero(tried.state.late, sizeof tried.state.late));
+}
+
 /* Both of two that are the same post a master's transfer number i; lengths, kinds and addresses go by turns. */
 static void post_both(uint32_t m, uint32_t i)
 {
@@ -752,13 +951,14 @@ static void post_both(uint32_t m, uint32_t i)
 }
 
 /* Runs of clocks beside as many clocks: the same numbers and bytes, and no master finished before the last clock. */
-static void runs(uint32_t native)
+static void runs(uint32_t native, uint32_t latency)
 {
     uint32_t posted[2] = {0, 0};
     unsigned long finished = 0, cut = 0;
 
     tried = fresh;
     tried.board.slave[0].native = tried.board.slave[1].native = native;
+    tried.board.slave[0].latency = latency;
     other = tried;
     for (uint32_t i = 0; i < 400; i++) {
         uint32_t most = i % 7 == 0 ? i % 5 : 1000;
@@ -793,18 +993,30 @@ int main(void)
     board_read();
     boards();
     native_boards();
+    late_boards();
     unshared_boards();
     unordered_boards();
     unshared_counts();
     states();
+    late_states();
     posts();
     lengths();
+    late_first();
     unshared_first();
     unshared_between();
     native_writes();
     native_reads();
-    runs(0);
-    runs(1);
+    late_reads();
+    late_counts(3);
+    late_counts(63);
+    late_grants(0);
+    late_grants(1);
+    late_grants(63);
+    late_together();
+    runs(0, 0);
+    runs(1, 0);
+    runs(0, 5);
+    runs(1, 63);
     if (!failed)
         printf("calls: ok, %d checks\n", checks);
     return failed;

@@ -175,6 +175,7 @@ static void check_line(uint32_t s)
 static void check_due(void)
 {
     check("every transfer", same_transfers(&tried.state, &due.state));
+    check("every count of latency clocks", memcmp(tried.state.late, due.state.late, sizeof tried.state.late) == 0);
     check_slot(0);
     check_slot(1);
     check("the slots behind the board's slaves",
@@ -545,8 +546,8 @@ static void try_board(uint32_t width, uint32_t slave_width, uint32_t burst, uint
     uint32_t number;
 
     sprintf(text,
-            "master,%" PRIu32 ",%d\nmaster,%" PRIu32 ",%d\nslave,0,%d,1,1,0,0,0\n"
-            "slave,%d,%d,%" PRIu32 ",%" PRIu32 ",%" PRIu32 ",%" PRIu32 ",%" PRIu32 "\n"
+            "master,%" PRIu32 ",%d\nmaster,%" PRIu32 ",%d\nslave,0,%d,1,1,0,0,0,0\n"
+            "slave,%d,%d,%" PRIu32 ",%" PRIu32 ",%" PRIu32 ",%" PRIu32 ",%" PRIu32 ",0\n"
             "share,0,0,1\nshare,0,1,%d\nshare,1,1,%d\n",
             width, OTHER_BURST, width, BURST, FRONT, BASE, SPAN, slave_width, burst, read_wait, write_wait, native, OTHER_SHARES,
             SHARES);

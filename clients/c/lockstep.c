@@ -4,10 +4,10 @@
  *   lockstep [--mistake NAME] BOARD CLOCKS [SEED]
  *
  * Both get the same transfers: reads and writes, singles with some lanes or all, and bursts, drawn from SEED, now many at a
- * time, now few. After each clock the line of every slave, the mask and every byte of memory and buffer are compared. Where
- * all agree it prints one line, and the exit status is 0; of a board with native slaves the line also says what they got. At
- * a difference it prints what each side has, and the status is 1. Status 2: wrong arguments, a board that is refused, a file
- * that cannot be read, or output that cannot be written.
+ * time, now few. After each clock the line of every slave, the mask, the latency clocks that each master has to pass and every
+ * byte of memory and buffer are compared. Where all agree it prints one line, and the exit status is 0; of a board with native
+ * slaves or slaves with latency the line also says what they got. At a difference it prints what each side has, and the status
+ * is 1. Status 2: wrong arguments, a board that is refused, a file that cannot be read, or output that cannot be written.
  *
  * The simulator here is simulator.c; simulator.h says what another one has to offer. --mistake makes it go wrong on purpose,
  * to see that a difference is found; --mistakes lists the names.
@@ -41,13 +41,19 @@ static uint8_t *memory;
 static uint8_t *buffer;
 static size_t memory_length;
 
-/* The traffic: who holds a transfer, and what was posted. */
+/* The traffic: who holds a transfer, for which slave, and what was posted. */
 static uint32_t held;
+static uint32_t goal[FABRIC_MASTERS];
 static unsigned long posts, writes, bursts, parts;
 /* Writes that leave accesses out. */
 static unsigned long shortened;
 /* At native slaves: transfers to narrower ones than the master and to equally wide ones, their bursts, writes to no lane. */
 static unsigned long narrower, narrower_bursts, equal, equal_bursts, laneless;
+/*
+ * At slaves with latency (rule 4.16): reads that have passed it, reads that lose grants by it, clocks in which the slave serves
+ * others meanwhile, writes that are finished with their last access.
+ */
+static unsigned long passed, losing, meanwhile, at_once;
 static uint64_t drawn;
 
 /* A number below n, the next of a series that SEED fixes. */
@@ -145,6 +151,7 @@ static int post(const struct post *p, uint32_t clock)
     }
     simulator_post(p->master, p->write, p->address, p->lanes, p->beats, p->words);
     held |= 1u << p->master;
+    goal[p->master] = p->slave;
     tally(p);
     return 0;
 }
@@ -187,6 +194,20 @@ static int bytes_differ(const char *name, uint32_t clock, const uint8_t *ours, c
     return 1;
 }
 
+/* The first count of latency clocks that differs, printed for both sides: also of masters that the board does not have. */
+static int counts_differ(uint32_t clock)
+{
+    uint32_t m = 0;
+
+    while (m < FABRIC_MASTERS && state->late[m] == simulator_late[m])
+        m++;
+    if (m == FABRIC_MASTERS)
+        return 0;
+    printf("library:   clock %" PRIu32 " master %" PRIu32 " latency clocks %" PRIu32 "\n", clock, m, state->late[m]);
+    printf("simulator: clock %" PRIu32 " master %" PRIu32 " latency clocks %" PRIu32 "\n", clock, m, simulator_late[m]);
+    return 1;
+}
+
 /* Whether the sides differ after a clock; the first difference is printed. */
 static int differ(uint32_t clock, const struct fabric_lines *theirs, uint32_t our_mask, uint32_t their_mask)
 {
@@ -202,8 +223,24 @@ static int differ(uint32_t clock, const struct fabric_lines *theirs, uint32_t ou
         printf("simulator: clock %" PRIu32 " mask %" PRIu32 "\n", clock, their_mask);
         return 1;
     }
-    return bytes_differ("memory", clock, memory, simulator_memory, memory_length)
+    return counts_differ(clock) || bytes_differ("memory", clock, memory, simulator_memory, memory_length)
            || bytes_differ("buffer", clock, buffer, simulator_buffer, FABRIC_BUFFER_BYTES);
+}
+
+/* Counts what a clock, with its mask, was to the transfers at slaves with latency (rule 4.16). */
+static void tally_latency(uint32_t mask)
+{
+    for (uint32_t m = 0; m < board->master_count; m++) {
+        const struct fabric_line *l = &lines->line[goal[m]];
+        int served = l->phase != FABRIC_IDLE && l->owner == m;
+
+        if ((held >> m & 1) == 0 || board->slave[goal[m]].latency == 0)
+            continue;
+        passed += (mask >> m & 1) != 0 && !served;
+        at_once += (mask >> m & 1) != 0 && served;
+        losing += state->late[m] > 0 && served && state->slot[goal[m]].remaining > 0;
+        meanwhile += state->late[m] > 0 && !served && l->phase != FABRIC_IDLE;
+    }
 }
 
 /* Clocks both sides; 1 at the first difference. */
@@ -228,6 +265,7 @@ static int clock_both(uint32_t clocks)
         their_mask = simulator_clock(&theirs);
         if (differ(clock, &theirs, our_mask, their_mask))
             return 1;
+        tally_latency(our_mask);
         held &= ~our_mask;
     }
     return 0;
@@ -298,6 +336,9 @@ static void print_agreed(const char *name, uint32_t clocks)
     if (narrower + equal > 0)
         printf("; native: %lu narrower (%lu bursts), %lu equal (%lu bursts), %lu writes to no lane", narrower, narrower_bursts,
                equal, equal_bursts, laneless);
+    if (passed + at_once > 0)
+        printf("; latency: %lu reads passed it, %lu lost grants by it, %lu clocks of others meanwhile, %lu writes finished at once",
+               passed, losing, meanwhile, at_once);
     putchar('\n');
 }
 

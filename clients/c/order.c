@@ -78,8 +78,8 @@ static void put_slaves(const struct fabric_board *b, struct text *t)
         const struct fabric_slave *sl = &b->slave[s];
 
         sprintf(t->line[t->count++],
-                "slave,%" PRIu32 ",%" PRIu32 ",%" PRIu32 ",%" PRIu32 ",%" PRIu32 ",%" PRIu32 ",%" PRIu32 "\n", sl->base,
-                sl->span, sl->width, sl->burst, sl->read_wait, sl->write_wait, sl->native);
+                "slave,%" PRIu32 ",%" PRIu32 ",%" PRIu32 ",%" PRIu32 ",%" PRIu32 ",%" PRIu32 ",%" PRIu32 ",%" PRIu32 "\n",
+                sl->base, sl->span, sl->width, sl->burst, sl->read_wait, sl->write_wait, sl->native, sl->latency);
     }
 }
 
@@ -268,6 +268,7 @@ static void draw_slaves(struct fabric_board *b)
         sl->read_wait = below(256);
         sl->write_wait = below(256);
         sl->native = s == 0 ? 0 : below(2);
+        sl->latency = below(2) * below(64);
     }
 }
 

@@ -42,6 +42,7 @@ struct card {
 
 uint8_t simulator_memory[FABRIC_MEMORY_BYTES];
 uint8_t simulator_buffer[FABRIC_BUFFER_BYTES];
+uint32_t simulator_late[FABRIC_MASTERS];
 
 const char *const simulator_mistakes[] = {
     "from-zero",     /* rule 4.5: the lowest requester is granted, whoever was the last owner */
@@ -57,6 +58,12 @@ const char *const simulator_mistakes[] = {
     "read-words",    /* rule 4.10: a read carries out only the accesses of the lanes that it names */
     "runs-of-all",   /* rule 4.12: runs count the accesses that a write leaves out */
     "waits-of-all",  /* rule 4.8: a write takes the clocks of the accesses that it leaves out before its first one */
+    "late-none",     /* rule 4.16: a read is finished with its last access */
+    "late-more",     /* rule 4.16: a read is finished a clock after its latency */
+    "late-requests", /* rule 4.16: a master requests while it passes a latency */
+    "late-serves",   /* rule 4.16: the slave grants nobody while its last owner passes the latency */
+    "late-writes",   /* rule 4.16: a write passes the latency too */
+    "late-keeps",    /* rules 4.3 and 4.16: where nobody requests, grants remain while the last owner passes the latency */
     NULL,
 };
 
@@ -78,6 +85,7 @@ void simulator_reset(const struct fabric_board *started, const char *on_purpose)
     made = on_purpose;
     memset(request, 0, sizeof request);
     memset(card, 0, sizeof card);
+    memset(simulator_late, 0, sizeof simulator_late);
     for (uint32_t s = 0; s < board.slave_count; s++) {
         card[s].owner = board.master_count - 1;
         card[s].bytes = bytes;
@@ -218,6 +226,18 @@ void simulator_post(uint32_t m, uint32_t write, uint32_t address, uint32_t lanes
     list_accesses(r, m);
 }
 
+/* Whether a master requests the slave: while it passes a latency it holds its transfer, and does not (rule 4.16). */
+static int requests(uint32_t m, uint32_t s)
+{
+    return request[m].standing && request[m].slave == s && (simulator_late[m] == 0 || mistake("late-requests"));
+}
+
+/* Whether the slave's last owner passes its latency. By rule 4.16 that is nothing to the slave: only mistakes ask. */
+static int owner_late(uint32_t s)
+{
+    return simulator_late[card[s].owner] > 0 && request[card[s].owner].slave == s;
+}
+
 /* How many masters are tried before m (rule 4.5). */
 static uint32_t tried_before(uint32_t m, uint32_t owner)
 {
@@ -232,7 +252,7 @@ static uint32_t first_requester(uint32_t s)
     uint32_t chosen = board.master_count;
 
     for (uint32_t m = 0; m < board.master_count; m++) {
-        if (!request[m].standing || request[m].slave != s)
+        if (!requests(m, s))
             continue;
         if (chosen == board.master_count || tried_before(m, card[s].owner) < tried_before(chosen, card[s].owner))
             chosen = m;
@@ -247,11 +267,11 @@ static void grant(uint32_t s)
     uint32_t chosen = first_requester(s);
 
     if (chosen == board.master_count) {
-        if (!mistake("silent-keeps"))
+        if (!mistake("silent-keeps") && !(mistake("late-keeps") && owner_late(s)))
             c->grants = 0;
         return;
     }
-    if (c->grants > 0 && request[c->owner].standing && request[c->owner].slave == s) {
+    if (c->grants > 0 && requests(c->owner, s)) {
         c->grants--;
     } else {
         c->owner = chosen;
@@ -279,8 +299,18 @@ static void move_bytes(const struct card *c, const struct request *r, const stru
     }
 }
 
-/* A clock of a slave that serves (rules 4.8 and 4.9): whether its owner is finished. */
-static int serve(struct card *c, struct fabric_line *line)
+/* The clocks from a transfer's last access to its finish (rule 4.16): the slave's latency for a read, none for a write. */
+static uint32_t latency_of(const struct request *r)
+{
+    uint32_t latency = board.slave[r->slave].latency;
+
+    if (latency == 0 || mistake("late-none") || (r->write && !mistake("late-writes")))
+        return 0;
+    return mistake("late-more") ? latency + 1 : latency;
+}
+
+/* A clock of a slave that serves (rules 4.8 and 4.9); the last access frees it, whenever its owner is finished (rule 4.16). */
+static void serve(struct card *c, struct fabric_line *line)
 {
     struct request *r = &request[c->owner];
     struct access *a = &r->access[r->next];
@@ -289,30 +319,47 @@ static int serve(struct card *c, struct fabric_line *line)
     if (c->wait > 0) {
         c->wait--;
         line->phase = FABRIC_WAITING;
-        return 0;
+        return;
     }
     move_bytes(c, r, a);
     r->next++;
     if (r->next < r->count) {
         c->wait = r->access[r->next].wait;
         c->serving = !mistake("between-runs") || a->shown.place + 1 < a->shown.run;
-        return 0;
+        return;
     }
     c->serving = 0;
-    r->standing = 0;
-    return 1;
+    r->next = 0; /* for a mistake: a master that requests again is served again */
+    simulator_late[c->owner] = 1 + latency_of(r);
+}
+
+/*
+ * The end of a clock (rules 4.9 and 4.16): each master behind its last access has one clock less, and one that has none left is
+ * finished. The clock of the last access is counted too, so that without latency the transfer ends in it.
+ */
+static uint32_t finish(void)
+{
+    uint32_t mask = 0;
+
+    for (uint32_t m = 0; m < board.master_count; m++) {
+        if (simulator_late[m] == 0)
+            continue;
+        simulator_late[m]--;
+        request[m].standing = simulator_late[m] > 0;
+        if (!request[m].standing)
+            mask |= 1u << m;
+    }
+    return mask;
 }
 
 uint32_t simulator_clock(struct fabric_lines *lines)
 {
-    uint32_t mask = 0;
-
     memset(lines, 0, sizeof *lines);
     for (uint32_t s = 0; s < board.slave_count; s++) {
-        if (!card[s].serving)
+        if (!card[s].serving && !(mistake("late-serves") && owner_late(s)))
             grant(s);
-        if (card[s].serving && serve(&card[s], &lines->line[s]))
-            mask |= 1u << card[s].owner;
+        if (card[s].serving)
+            serve(&card[s], &lines->line[s]);
     }
-    return mask;
+    return finish();
 }

@@ -15,6 +15,9 @@ extern "C" {
 extern uint8_t simulator_memory[FABRIC_MEMORY_BYTES];
 extern uint8_t simulator_buffer[FABRIC_BUFFER_BYTES];
 
+/* The latency clocks that each master's read still has to pass behind the last clock (rule 4.16): read by lockstep.c. */
+extern uint32_t simulator_late[FABRIC_MASTERS];
+
 /* Mistakes that can be made on purpose, ended by a null pointer: a comparison that does not find one is worth nothing. */
 extern const char *const simulator_mistakes[];
 

@@ -9,7 +9,7 @@
 static const char board[] =
     "master,4,8\n"
     "master,2,1\n"
-    "slave,4096,4096,2,8,1,0,0\n"
+    "slave,4096,4096,2,8,1,0,0,0\n"
     "share,0,0,2\n"
     "share,1,0,3\n";
 
@@ -17,7 +17,15 @@ static const char board[] =
 static const char native_board[] =
     "master,4,8\n"
     "master,2,1\n"
-    "slave,4096,4096,2,8,1,0,1\n"
+    "slave,4096,4096,2,8,1,0,1,0\n"
+    "share,0,0,2\n"
+    "share,1,0,3\n";
+
+/* The first with latency: all grants of a turn but the last are writes (rule 5.6), without a wait here. */
+static const char late_board[] =
+    "master,4,8\n"
+    "master,2,1\n"
+    "slave,4096,4096,2,8,1,0,0,3\n"
     "share,0,0,2\n"
     "share,1,0,3\n";
 
@@ -25,8 +33,8 @@ static const char native_board[] =
 static const char two_slaves[] =
     "master,4,8\n"
     "master,4,8\n"
-    "slave,0,8,4,1,0,0,0\n"
-    "slave,8,8,4,1,0,0,0\n"
+    "slave,0,8,4,1,0,0,0,0\n"
+    "slave,8,8,4,1,0,0,0,0\n"
     "share,0,0,1\n"
     "share,1,1,1\n";
 
@@ -60,8 +68,8 @@ static void expect(const char *name, const char *text, uint32_t master, uint32_t
 /* A master without a share line: every pair of the board is refused, what is asked for it comes behind (rules 8.2 and 8.4). */
 static void unshared(void)
 {
-    static const char second[] = "master,4,8\nmaster,2,1\nslave,4096,4096,2,8,1,0,0\nshare,0,0,2\n";
-    static const char none[] = "master,4,8\nslave,4096,4096,2,8,1,0,0\n";
+    static const char second[] = "master,4,8\nmaster,2,1\nslave,4096,4096,2,8,1,0,0,0\nshare,0,0,2\n";
+    static const char none[] = "master,4,8\nslave,4096,4096,2,8,1,0,0,0\n";
 
     expect("a master without a share line", second, 1, 0, 16, 20, NULL, 0);
     expect("another master of that board", second, 0, 0, 16, 20, NULL, 0);
@@ -70,18 +78,18 @@ static void unshared(void)
     expect("no share line before master", none, 1, 0, 16, 20, NULL, 0);
     expect("no share line before slave", none, 0, 1, 16, 20, NULL, 0);
     expect("no slave before no share line", "master,4,8\n", 0, 0, 16, 2, NULL, 0);
-    expect("a share line's value before no share line", "master,4,8\nslave,0,8,4,1,0,0,0\nshare,0,0,0\n", 0, 0, 16, 3, NULL, 0);
-    expect("no such pair before no share line", "master,4,8\nslave,0,8,4,1,0,0,0\nshare,1,0,1\n", 0, 0, 16, 7, NULL, 0);
-    expect("narrower master before no share line", "master,4,8\nmaster,1,8\nslave,0,8,2,1,0,0,1\nshare,1,0,1\n", 0, 0, 16, 19,
+    expect("a share line's value before no share line", "master,4,8\nslave,0,8,4,1,0,0,0,0\nshare,0,0,0\n", 0, 0, 16, 3, NULL, 0);
+    expect("no such pair before no share line", "master,4,8\nslave,0,8,4,1,0,0,0,0\nshare,1,0,1\n", 0, 0, 16, 7, NULL, 0);
+    expect("narrower master before no share line", "master,4,8\nmaster,1,8\nslave,0,8,2,1,0,0,1,0\nshare,1,0,1\n", 0, 0, 16, 19,
            NULL, 0);
 }
 
 /* A share line out of order: 3, 7 and 19 of that line come first, all else behind (rules 8.2, 8.4). */
 static void unordered(void)
 {
-    static const char lines[] = "master,4,8\nmaster,2,1\nslave,4096,4096,2,8,1,0,0\nshare,1,0,3\nshare,0,0,2\n";
-    static const char slaves[] = "master,4,8\nslave,0,8,4,1,0,0,0\nslave,8,8,4,1,0,0,0\nshare,0,1,1\nshare,0,0,1\n";
-    static const char third[] = "master,4,8\nmaster,4,8\nmaster,4,8\nslave,0,8,4,1,0,0,0\nshare,1,0,1\nshare,0,0,1\n";
+    static const char lines[] = "master,4,8\nmaster,2,1\nslave,4096,4096,2,8,1,0,0,0\nshare,1,0,3\nshare,0,0,2\n";
+    static const char slaves[] = "master,4,8\nslave,0,8,4,1,0,0,0,0\nslave,8,8,4,1,0,0,0,0\nshare,0,1,1\nshare,0,0,1\n";
+    static const char third[] = "master,4,8\nmaster,4,8\nmaster,4,8\nslave,0,8,4,1,0,0,0,0\nshare,1,0,1\nshare,0,0,1\n";
 
     expect("masters out of order", lines, 0, 0, 16, 21, NULL, 0);
     expect("the other master of that board", lines, 1, 0, ROOM, 21, NULL, 0);
@@ -90,11 +98,11 @@ static void unordered(void)
     expect("order before master", lines, 2, 0, 16, 21, NULL, 0);
     expect("order before slave", slaves, 0, 2, 16, 21, NULL, 0);
     expect("order before no share line", third, 0, 0, 16, 21, NULL, 0);
-    expect("a share line's value before order", "master,4,8\nmaster,4,8\nslave,0,8,4,1,0,0,0\nshare,1,0,1\nshare,0,0,0\n", 0, 0,
+    expect("a share line's value before order", "master,4,8\nmaster,4,8\nslave,0,8,4,1,0,0,0,0\nshare,1,0,1\nshare,0,0,0\n", 0, 0,
            16, 3, NULL, 0);
-    expect("no such pair before order", "master,4,8\nmaster,4,8\nslave,0,8,4,1,0,0,0\nshare,1,0,1\nshare,0,1,1\n", 0, 0, 16, 7,
+    expect("no such pair before order", "master,4,8\nmaster,4,8\nslave,0,8,4,1,0,0,0,0\nshare,1,0,1\nshare,0,1,1\n", 0, 0, 16, 7,
            NULL, 0);
-    expect("narrower master before order", "master,1,8\nmaster,4,8\nslave,0,8,2,1,0,0,1\nshare,1,0,1\nshare,0,0,1\n", 0, 0, 16,
+    expect("narrower master before order", "master,1,8\nmaster,4,8\nslave,0,8,2,1,0,0,1,0\nshare,1,0,1\nshare,0,0,1\n", 0, 0, 16,
            19, NULL, 0);
 }
 
@@ -104,11 +112,15 @@ int main(void)
     static const uint8_t second[16] = {36, 0, 0, 0, 0, 0, 0, 0, 2};
     static const uint8_t native_first[16] = {6, 0, 0, 0, 0, 0, 0, 0, 16};
     static const uint8_t native_second[16] = {18, 0, 0, 0, 0, 0, 0, 0, 2};
+    static const uint8_t late_first[16] = {4, 0, 0, 0, 0, 0, 0, 0, 32};
+    static const uint8_t late_second[16] = {34, 0, 0, 0, 0, 0, 0, 0, 2};
 
     expect("exact output", board, 0, 0, 16, 0, first, 16);
     expect("long output", board, 1, 0, ROOM, 0, second, 16);
     expect("a wider master's native slave", native_board, 0, 0, 16, 0, native_first, 16);
     expect("an equal master's native slave", native_board, 1, 0, 16, 0, native_second, 16);
+    expect("a slave with latency", late_board, 0, 0, 16, 0, late_first, 16);
+    expect("the other master's wait there", late_board, 1, 0, 16, 0, late_second, 16);
     expect("short output", board, 0, 0, 15, 10, NULL, 0);
     expect("no output", board, 0, 0, 0, 10, NULL, 0);
     expect("no such master", board, 2, 0, 16, 11, NULL, 0);
@@ -117,7 +129,7 @@ int main(void)
     expect("largest slave", board, 0, UINT32_MAX, 16, 16, NULL, 0);
     expect("not connected", two_slaves, 1, 0, 16, 16, NULL, 0);
     expect("refused text", "master,3,8\n", 0, 0, 16, 3, NULL, 0);
-    expect("narrower master", "master,1,8\nslave,0,8,2,1,0,0,1\nshare,0,0,1\n", 0, 0, 16, 19, NULL, 0);
+    expect("narrower master", "master,1,8\nslave,0,8,2,1,0,0,1,0\nshare,0,0,1\n", 0, 0, 16, 19, NULL, 0);
     expect("text before output", "master,4,8", 0, 0, 0, 1, NULL, 0);
     expect("output before master", board, 2, 0, 15, 10, NULL, 0);
     expect("master before slave", board, 2, 1, 16, 11, NULL, 0);

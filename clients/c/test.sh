@@ -83,11 +83,21 @@ expect 1 "refused,11" "$board" 2 0
 expect 1 "refused,16" "$board" 0 1
 printf 'master,4,8' >"$work/unended"
 expect 1 "refused,1" "$work/unended" 0 0
-printf 'master,4,8\nslave,4,8,4,8,0,0,0\n' >"$work/fourth"
+printf 'master,4,8\nslave,4,8,4,8,0,0,0,0\n' >"$work/fourth"
 expect 1 "refused,4" "$work/fourth" 0 0
 printf 'master,4,8\nslave,0,8,4,8,0,0\n' >"$work/six"
 expect 1 "refused,1" "$work/six" 0 0
-printf 'master,2,8\nslave,0,8,4,8,0,0,1\nshare,0,0,1\n' >"$work/narrow"
+printf 'master,4,8\nslave,0,8,4,8,0,0,0\n' >"$work/seven"
+expect 1 "refused,1" "$work/seven" 0 0
+printf 'master,4,8\nslave,0,8,4,8,0,0,0,64\n' >"$work/toolate"
+expect 1 "refused,3" "$work/toolate" 0 0
+# with a latency of 3 all grants of a turn but the last are writes, which have no wait: turns 2 + 32 and 2 * 1 + 2
+sed '/^slave,/s/,0$/,3/' "$board" >"$work/late"
+expect 0 "wait,4
+serve,32" "$work/late" 0 0
+expect 0 "wait,34
+serve,2" "$work/late" 1 0
+printf 'master,2,8\nslave,0,8,4,8,0,0,1,0\nshare,0,0,1\n' >"$work/narrow"
 expect 1 "refused,19" "$work/narrow" 0 0
 # the crane without the share lines of its master 4 has no wait, not even of another master; nor has a board without share lines
 grep -v '^share,4,' "$root/boards/crane.txt" >"$work/unshared"
@@ -113,12 +123,12 @@ master,8,64
 master,4,16
 master,2,4
 master,1,2
-slave,0,1024,1,4,0,2,1
-slave,1024,512,2,16,1,0,1
-slave,2048,256,4,1,2,1,1
-slave,4096,2048,8,32,0,0,1
-slave,16384,8,2,64,1,1,1
-slave,8192,64,2,8,1,3,0
+slave,0,1024,1,4,0,2,1,0
+slave,1024,512,2,16,1,0,1,0
+slave,2048,256,4,1,2,1,1,0
+slave,4096,2048,8,32,0,0,1,0
+slave,16384,8,2,64,1,1,1,0
+slave,8192,64,2,8,1,3,0,0
 share,0,0,2
 share,0,1,1
 share,0,2,3
@@ -143,12 +153,12 @@ master,8,4
 master,4,8
 master,2,2
 master,1,1
-slave,0,256,1,2,0,1,0
-slave,256,256,1,64,2,3,0
-slave,1024,512,2,1,1,0,0
-slave,2048,512,2,2,0,2,0
-slave,4096,1024,4,1,3,1,0
-slave,8192,1024,8,4,1,2,0
+slave,0,256,1,2,0,1,0,0
+slave,256,256,1,64,2,3,0,0
+slave,1024,512,2,1,1,0,0,0
+slave,2048,512,2,2,0,2,0,0
+slave,4096,1024,4,1,3,1,0,0
+slave,8192,1024,8,4,1,2,0,0
 share,0,0,2
 share,0,1,1
 share,0,2,3
@@ -167,6 +177,37 @@ share,3,4,1
 share,3,5,2
 END
 
+# latency, from 1 to 63 clocks, and none: the cards' shares are such that a read loses grants; one card is native, one takes no
+# write wait and one no read wait
+cat >"$work/latency" <<'END'
+master,8,4
+master,4,8
+master,2,2
+master,1,1
+slave,0,256,2,4,0,1,0,1
+slave,256,256,4,8,2,0,0,2
+slave,512,512,1,2,0,0,0,7
+slave,1024,512,2,8,1,1,1,3
+slave,2048,1024,8,4,0,3,0,63
+slave,4096,1024,4,1,1,0,0,0
+share,0,0,3
+share,0,1,2
+share,0,3,4
+share,0,4,2
+share,1,0,2
+share,1,2,5
+share,1,3,2
+share,1,5,3
+share,2,1,3
+share,2,2,2
+share,2,3,1
+share,2,4,6
+share,3,0,4
+share,3,2,3
+share,3,4,2
+share,3,5,1
+END
+
 # every pair of the larger boards and of generated ones, against the model's table
 model="$root/target/model/release/model"
 cargo build --release --offline --quiet --manifest-path "$root/model/Cargo.toml" --target-dir "$root/target/model"
@@ -175,6 +216,7 @@ mkdir "$work/boards"
 cp "$root/boards/crane.txt" "$root/boards/encoder.txt" "$root/boards/largest.txt" "$work/boards"
 cp "$work/native" "$work/boards/native.txt"
 cp "$work/widths" "$work/boards/widths.txt"
+cp "$work/latency" "$work/boards/latency.txt"
 pairs=0
 for described in "$work"/boards/*.txt; do
     "$model" table <"$described" | grep '^[0-9]' >"$work/lines" || true
@@ -244,7 +286,7 @@ says "plan: $work: Is a directory"
 for suffix in '' $cpp; do
     "$work/slices$suffix" || failed=1
     "$work/calls$suffix" || failed=1
-    "$work/order$suffix" "$root"/boards/*.txt "$work/native" || failed=1
+    "$work/order$suffix" "$root"/boards/*.txt "$work/native" "$work/latency" || failed=1
     "$work/lanes$suffix" || failed=1
 done
 for client in slices calls order; do
@@ -280,7 +322,7 @@ for described in "$root"/boards/*.txt "$work"/boards/[0-9]*.txt; do
 done
 [ "$compared" -gt 30 ] || { echo "only $compared boards were compared"; failed=1; }
 lockstep "$work/lockstep" 0 "$root/boards/largest.txt" 200000
-for described in "$root"/boards/*.txt "$work/native" "$work/widths"; do
+for described in "$root"/boards/*.txt "$work/native" "$work/widths" "$work/latency"; do
     lockstep "$watch $work/lockstep$watched" 0 "$described" 500
 done
 
@@ -302,21 +344,35 @@ for described in "$root/boards/document01.txt" "$root/boards/crane.txt" "$work/w
 done
 compared=$((compared + 1))
 
-# a difference is found: every mistake of the simulator, printed for both sides
+# cards with latency: of each of the four kinds of events that lockstep counts there, enough to find a difference
+for described in "$work/late" "$work/latency"; do
+    for suffix in '' $cpp; do
+        lockstep "$work/lockstep$suffix" 0 "$described" 50000
+    done
+    compared=$((compared + 1))
+    kinds=$(sed -n 's/.*; latency: //p' "$work/printed" | grep -o '[0-9]*' | awk '$1 > 100' | wc -l)
+    [ "$kinds" = 4 ] || { echo "too little traffic at cards with latency:"; cat "$work/printed"; failed=1; }
+done
+
+# a difference is found: every mistake of the simulator, printed for both sides; those of latency need cards that have it
 mistakes=0
 for mistake in $("$work/lockstep" --mistakes); do
-    for suffix in '' $cpp; do
-        lockstep "$work/lockstep$suffix" 1 --mistake "$mistake" "$root/boards/crane.txt" 20000
-        if [ "$(cut -c 1-17 "$work/printed")" != "library:   clock 
+    boards="$root/boards/crane.txt"
+    case $mistake in late-*) boards="$work/late $work/latency" ;; esac
+    for described in $boards; do
+        for suffix in '' $cpp; do
+            lockstep "$work/lockstep$suffix" 1 --mistake "$mistake" "$described" 50000
+            if [ "$(cut -c 1-17 "$work/printed")" != "library:   clock 
 simulator: clock " ]; then
-            echo "lockstep does not print both sides of $mistake but:"
-            cat "$work/printed"
-            failed=1
-        fi
+                echo "lockstep does not print both sides of $mistake but:"
+                cat "$work/printed"
+                failed=1
+            fi
+        done
     done
     mistakes=$((mistakes + 1))
 done
-[ "$mistakes" -gt 5 ] || { echo "only $mistakes mistakes were tried"; failed=1; }
+[ "$mistakes" -gt 18 ] || { echo "only $mistakes mistakes were tried"; failed=1; }
 lockstep "$work/lockstep" 1 --mistake wait-per-beat "$board" 100
 printf '%s\n' 'library:   clock 3 slave 0 phase 1 owner 0 offset 3598 lanes 3 run 8 place 1' \
     'simulator: clock 3 slave 0 phase 2 owner 0 offset 3598 lanes 3 run 8 place 1' >"$work/difference"
@@ -324,6 +380,10 @@ cmp "$work/difference" "$work/printed" || failed=1
 lockstep "$work/lockstep" 1 --mistake no-lane "$board" 100
 printf '%s\n' 'library:   clock 78 slave 0 phase 2 owner 0 offset 1100 lanes 3 run 1 place 0' \
     'simulator: clock 78 slave 0 phase 2 owner 0 offset 1100 lanes 3 run 2 place 0' >"$work/difference"
+cmp "$work/difference" "$work/printed" || failed=1
+lockstep "$work/lockstep" 1 --mistake late-more "$work/late" 100
+printf '%s\n' 'library:   clock 24 master 0 latency clocks 3' \
+    'simulator: clock 24 master 0 latency clocks 4' >"$work/difference"
 cmp "$work/difference" "$work/printed" || failed=1
 
 # words that say nothing, boards that are none, output that is lost
