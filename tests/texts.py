@@ -30,6 +30,8 @@ SLAVE = "slave,4096,4096,2,8,1,0,0,0"
 SHARE = "share,0,0,2"
 NATIVE = "slave,4096,4096,4,8,1,0,1,0"
 LATE = "slave,4096,4096,2,8,1,0,0,63"
+SECOND = "slave,0,8,1,1,0,0,0,0"
+DEFAULT = "default"
 
 
 def text(*lines):
@@ -40,6 +42,11 @@ def text(*lines):
 def small(master=MASTER, slave=SLAVE, share=SHARE):
     """A board of three lines that is taken, with another line instead of one of them."""
     return text(master, slave, share)
+
+
+def closed(*lines):
+    """The same board with the line default, and these lines behind it."""
+    return small() + text(DEFAULT, *lines)
 
 
 def unshared(*bases_and_spans):
@@ -145,7 +152,7 @@ LIST = [
         (0, "the board of docs/RULES.md, section 9", stored("document01.txt")),
         (0, "a board of a usual size, some of its pairs not connected", stored("crane.txt")),
         (0, "the largest board: 8 masters, 16 slaves, every pair connected, shares at their most", stored("largest.txt")),
-        (0, "the longest text that a board can have", longest()),
+        (0, "the longest text that a board without the line default can have", longest()),
         (0, "every value of the lists, and spans that total exactly 65,536", every_value()),
         (0, "the widest span, the whole total by itself, at the highest base it can have", slaves((4294901760, 65536))),
         (0, "the highest base of all and the lowest: what ends at 2^32 does not reach round to 0", slaves(
@@ -198,6 +205,20 @@ LIST = [
         (0, "from 0 to 60 by fours: each line keeps its own number", text(
             MASTER, *(f"slave,{8 * index},8,2,8,1,0,0,{4 * index}" for index in range(16)), SHARE)),
     ]),
+    ("0: the line default", [
+        (0, "the least of everything", text("master,1,1", "slave,0,8,1,1,0,0,0,0", "share,0,0,1", DEFAULT)),
+        (0, "the board of docs/RULES.md, section 9", stored("document01.txt") + text(DEFAULT)),
+        (0, "a board of a usual size, some of its pairs not connected", stored("crane.txt") + text(DEFAULT)),
+        (0, "the largest board", stored("largest.txt") + text(DEFAULT)),
+        (0, "the longest text that a board can have", longest() + text(DEFAULT)),
+        (0, "every value of the lists, and spans that total exactly 65,536", every_value() + text(DEFAULT)),
+        (0, "the whole of the spans' total in one slave", slaves((4294901760, 65536)) + text(DEFAULT)),
+        (0, "native cards", stored("encoder.txt") + text(DEFAULT)),
+        (0, "a slave with a latency", small(slave=LATE) + text(DEFAULT)),
+        (0, "a slave without a share line, the last of two", text(MASTER, SLAVE, SECOND, SHARE, DEFAULT)),
+        (0, "behind the last pair of the most masters and slaves", grid(
+            8, 16, *((master, 0) for master in range(8)), (7, 15)) + text(DEFAULT)),
+    ]),
     ("1: the text as a whole", [
         (2, "8,192 bytes are not too many: the first line answers", long(8192)),
         (1, "with one byte more the length answers", long(8193)),
@@ -233,6 +254,33 @@ LIST = [
         (1, "seven numbers in the second of two slave lines", text(MASTER, SLAVE, "slave,0,8,1,1,0,0,0", SHARE)),
         (1, "a share line with one too few", small(share="share,0,0")),
         (1, "a share line with one too many, an empty one behind a last comma", small(share="share,0,0,2,")),
+    ]),
+    # As default they would be taken.
+    ("1: lines that are nearly default, behind the share lines", [
+        (1, "a number behind the word", small() + text("default,1")),
+        (1, "0 behind the word", small() + text("default,0")),
+        (1, "an empty field behind the word", small() + text("default,")),
+        (1, "two empty fields behind the word", small() + text("default,,")),
+        (1, "a field behind the word that is no number", small() + text("default,x")),
+        (1, "the numbers of a master line behind the word", small() + text("default,4,8")),
+        (1, "the numbers of a share line behind the word", small() + text("default,0,0,2")),
+        (1, "the numbers of a slave line behind the word", small() + text("default,0,8,1,1,0,0,0,0")),
+        (1, "the word twice", small() + text("default,default")),
+        (1, "an empty field in front", small() + text(",default")),
+        (1, "another word in front", small() + text("share,default")),
+        (1, "a capital letter", small() + text("Default")),
+        (1, "capital letters", small() + text("DEFAULT")),
+        (1, "a letter too few", small() + text("defaul")),
+        (1, "a letter too many", small() + text("defaults")),
+        (1, "another letter at the end", small() + text("defaulx")),
+        (1, "another letter in front", small() + text("xefault")),
+        (1, "a space in front", small() + text(" default")),
+        (1, "a space behind", small() + text("default ")),
+        (1, "a carriage return behind", small() + text("default\r")),
+        (1, "a 0 byte behind", small() + text("default\0")),
+        (1, "quotes", small() + text('"default"')),
+        (1, "no line feed", small() + DEFAULT),
+        (1, "the word of a share line alone", small() + text("share")),
     ]),
     ("1: how a number is spelled; every field has one of these", [
         (1, "nothing, in a master's width", small(master="master,,8")),
@@ -270,6 +318,17 @@ LIST = [
         (2, "a slave behind a share", small() + text("slave,0,8,1,1,0,0,0,0")),
         (2, "a ninth master", text(*[MASTER] * 9, SLAVE, *shares(9))),
         (2, "a seventeenth slave", slaves(*row(17))),
+        (2, "default before any line", text(DEFAULT) + small()),
+        (2, "default behind the masters, before any slave", text(MASTER, DEFAULT, SLAVE, SHARE)),
+        (2, "default twice", closed(DEFAULT)),
+        (2, "default twice, behind the largest board", stored("largest.txt") + text(DEFAULT, DEFAULT)),
+        (2, "a master behind default", closed(MASTER)),
+        (2, "a slave behind default", closed(SECOND)),
+        (2, "a slave behind default, and no share line before it", text(MASTER, SLAVE, DEFAULT, SECOND)),
+        (2, "a share behind default", text(MASTER, SLAVE, SECOND, SHARE, DEFAULT, "share,0,1,2")),
+        (2, "a share behind default, the first share line of the board", text(MASTER, SLAVE, DEFAULT, SHARE)),
+        (2, "the last share line of the largest board behind default", text(
+            *stored("largest.txt").splitlines()[:-1], DEFAULT, stored("largest.txt").splitlines()[-1])),
     ]),
     # The values just inside are those of the boards above.
     ("3: values that a field does not have", [
@@ -385,6 +444,11 @@ LIST = [
             *(f"share,1,{slave},2" for slave in range(16)))),
         (20, "the last of two, at a slave with a latency", text(MASTER, MASTER, LATE, SHARE)),
         (20, "one that no slave takes: the only slave is native and wider", narrow("share,1,0,1", "share,2,0,1")),
+        (20, "the only one, on a board with default", text("master,1,1", "slave,0,8,1,1,0,0,0,0", DEFAULT)),
+        (20, "the first of two, on a board with default", text(MASTER, "master,2,1", SLAVE, "share,1,0,3", DEFAULT)),
+        (20, "the last of two, on a board with default", text(MASTER, "master,2,1", SLAVE, SHARE, DEFAULT)),
+        (20, "the last of the most, on the largest board with default", without(stored("largest.txt"), 7) + text(DEFAULT)),
+        (20, "all of them, on the largest board with default", without(stored("largest.txt"), *range(8)) + text(DEFAULT)),
     ]),
     # Without the rule each of them is a board: every master has a share line.
     ("21: share lines that do not come by master, then slave", [
@@ -448,11 +512,34 @@ LIST = [
         (1, "1 before 21: shares with a leading zero", grid(2, 1, (1, 0)) + text("share,0,0,01")),
         (1, "1 before 21: a field too few", grid(2, 1, (1, 0)) + text("share,0,0")),
         (1, "1 before 21: no line feed", grid(2, 1, (1, 0), (0, 0))[:-1]),
+        (1, "1 before 2: default before any slave, with an empty field behind it", text(MASTER, "default,", SLAVE)),
+        (1, "1 before 2: default before any line, and no line feed", DEFAULT),
+        (1, "1 before 2: default twice, the second without its line feed", closed() + DEFAULT),
+        (1, "1 before 2: another word behind default", closed("bus,4,8")),
+        (1, "1 before 2: an empty line behind default", closed("")),
+        (1, "1 before 2: a master's line with one too few behind default", closed("master,4")),
+        (1, "1 before 2: a slave's line of seven numbers behind default", closed("slave,0,8,1,1,0,0,0")),
+        (1, "1 before 2: shares with a leading zero behind default", closed("share,0,0,02")),
+        (1, "1 before 2: a share line without its line feed behind default", closed() + SHARE),
         (2, "2 before 3: a ninth master, with a width of 0", text(*[MASTER] * 8, "master,0,8", SLAVE)),
         (2, "2 before 3: a seventeenth slave, with a native field of 2", unshared(*row(16)) + text("slave,4096,8,2,8,1,0,2,0")),
         (2, "2 before 3: a seventeenth slave, with a latency of 64", unshared(*row(16)) + text("slave,4096,8,2,8,1,0,0,64")),
         (2, "2 before 4 to 6: a seventeenth slave, with each of them", slaves(*row(16), (4, 65536))),
         (2, "2 before 3 and 7: a share before any slave, of 0 and for no master", text(MASTER, "share,1,0,0", SLAVE)),
+        (2, "2 before 3: a master behind default, with a width of 3", closed("master,3,8")),
+        (2, "2 before 3: a slave behind default, with a latency of 64", closed("slave,0,8,1,1,0,0,0,64")),
+        (2, "2 before 4: a slave behind default, the base no multiple", closed("slave,4,8,1,1,0,0,0,0")),
+        (2, "2 before 5: a slave behind default, the same bytes again", closed(SLAVE)),
+        (2, "2 before 6: a slave behind default, the total passed", closed("slave,65536,65536,1,1,0,0,0,0")),
+        (2, "2 before 3: a share behind default, of 0", closed("share,0,0,0")),
+        (2, "2 before 3: a share behind default, of one too many", closed("share,0,0,101")),
+        (2, "2 before 3 and 7: a share behind default, of 0 and for no master", closed("share,1,0,0")),
+        (2, "2 before 7: a share behind default, for no master", closed("share,1,0,2")),
+        (2, "2 before 7: a share behind default, for no slave", closed("share,0,1,2")),
+        (2, "2 before 7: a pair twice, the second behind default", closed(SHARE)),
+        (2, "2 before 19: a narrow master behind default", narrow("share,1,0,1", "share,2,0,1", DEFAULT, "share,0,0,1")),
+        (2, "2 before 21: a share behind default that comes before the pair above", grid(2, 1, (1, 0)) + text(
+            DEFAULT, "share,0,0,1")),
         (3, "3 before 4: a wait of 256, the base no multiple", small(slave="slave,4100,4096,2,8,256,0,0,0")),
         (3, "3 before 4: a native field of 2, the base no multiple", small(slave="slave,4100,4096,2,8,1,0,2,0")),
         (3, "3 before 4: a latency of 64, the base no multiple", small(slave="slave,4100,4096,2,8,1,0,0,64")),
@@ -508,6 +595,15 @@ LIST = [
         (7, "a pair twice, then a share line out of order", grid(2, 1, (1, 0), (1, 0), (0, 0))),
         (19, "a master narrower than the native slave, then a share line out of order", narrow(
             "share,0,0,1", "share,2,0,1", "share,1,0,1")),
+        (2, "default alone: then the end without a master", text(DEFAULT)),
+        (2, "default before any line, then a width of 3", text(DEFAULT, "master,3,8")),
+        (2, "default twice, then an empty line", closed(DEFAULT, "")),
+        (2, "a share of 0 behind default, then another word", closed("share,0,0,0", "bus,4,8")),
+        (1, "a capital letter, then default twice", small() + text("Default", DEFAULT, DEFAULT)),
+        (3, "shares of 0, then default twice", small(share="share,0,0,0") + text(DEFAULT, DEFAULT)),
+        (7, "a pair twice, then default twice", small() + text(SHARE, DEFAULT, DEFAULT)),
+        (19, "a master narrower than the native slave, then default twice", narrow("share,0,0,1", DEFAULT, DEFAULT)),
+        (21, "a share line out of order, then default twice", grid(2, 1, (1, 0), (0, 0)) + text(DEFAULT, DEFAULT)),
         (3, "a width of 3, then the end without a slave", text("master,3,8")),
         (1, "a line without its line feed, then the end without a slave", MASTER),
     ]),
@@ -521,6 +617,11 @@ LIST = [
         (2, "a master behind the share lines, which has none itself", small() + text(MASTER)),
         (2, "a slave behind the share lines", text(MASTER, MASTER, SLAVE, SHARE, "slave,0,8,1,1,0,0,0,0")),
         (2, "its only line stands before any slave", text(MASTER, SHARE, SLAVE)),
+        (1, "default without its line feed", text(MASTER, SLAVE) + DEFAULT),
+        (1, "default with an empty field behind it", text(MASTER, SLAVE, "default,")),
+        (2, "default behind the masters, and no slave", text(MASTER, DEFAULT)),
+        (2, "default twice", text(MASTER, SLAVE, DEFAULT, DEFAULT)),
+        (2, "its only line stands behind default", text(MASTER, MASTER, SLAVE, SHARE, DEFAULT, "share,1,0,2")),
         (3, "a width of 3, in the first line", text("master,3,8", SLAVE)),
         (3, "its only line has shares of 0", text(MASTER, MASTER, SLAVE, SHARE, "share,1,0,0")),
         (3, "its only line has shares of 0, and stands before others", text(MASTER, MASTER, SLAVE, "share,0,0,0", "share,1,0,2")),

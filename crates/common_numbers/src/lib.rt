@@ -46,8 +46,15 @@ pub const NO_SHARE: u32 = 20;
 
 pub const SHARE_ORDER: u32 = 21;
 
+pub const EMPTY_LOG: u32 = 22;
+
 // The highest refusal.
-pub const LAST_REFUSAL: u32 = SHARE_ORDER;
+pub const LAST_REFUSAL: u32 = EMPTY_LOG;
+
+// The responses of a clock (rules 4.13, 4.17).
+pub const OKAY: u32 = 0;
+
+pub const DECODE_ERROR: u32 = 3;
 
 // Rules 1.1, 1.8: the most masters and slaves, and the most pairs, each with a number for its shares.
 pub const MASTERS: usize = 8;
@@ -97,7 +104,9 @@ pub const SLAVES_FROM: usize = MASTERS_FROM + MASTERS * MASTER_NUMBERS;
 
 pub const SHARES_FROM: usize = SLAVES_FROM + SLAVES * SLAVE_NUMBERS;
 
-pub const BOARD_NUMBERS: usize = SHARES_FROM + PAIRS;
+pub const DEFAULT_AT: usize = SHARES_FROM + PAIRS;
+
+pub const BOARD_NUMBERS: usize = DEFAULT_AT + 1;
 
 pub const TRANSFER_NUMBERS: usize = 5;
 
@@ -107,7 +116,18 @@ pub const SLOTS_FROM: usize = MASTERS * TRANSFER_NUMBERS;
 
 pub const LATE_FROM: usize = SLOTS_FROM + SLAVES * SLOT_NUMBERS;
 
-pub const STATE_NUMBERS: usize = LATE_FROM + MASTERS;
+pub const LOG_FROM: usize = LATE_FROM + MASTERS;
+
+pub const LOST_AT: usize = LOG_FROM + 1;
+
+pub const ENTRIES_FROM: usize = LOG_FROM + 2;
+
+pub const ENTRY_NUMBERS: usize = 3;
+
+// Rule 4.18: the most entries of the log.
+pub const LOG_ENTRIES: usize = 8;
+
+pub const STATE_NUMBERS: usize = ENTRIES_FROM + LOG_ENTRIES * ENTRY_NUMBERS;
 
 pub const LINE_FIELDS: usize = 6;
 

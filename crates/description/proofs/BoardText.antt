@@ -13,8 +13,8 @@ use Rattle.common_text.specs.Code.Scanning.{Put}
 use Rattle.common_text.proofs.Puts.{put-then, put-front}
 use Rattle.description_board.specs.declared.Board.{Board}
 use Rattle.description_board.specs.declared.Item.{Item}
-use Rattle.description_board.specs.declared.Item.the-variants.{Malformed, MasterLine, SlaveLine, ShareLine}
-use Rattle.description_board.specs.Items.{masterItem, slaveItem, shareItem, items, boardRefusal}
+use Rattle.description_board.specs.declared.Item.the-variants.{Malformed, MasterLine, SlaveLine, ShareLine, DefaultLine}
+use Rattle.description_board.specs.Items.{masterItem, slaveItem, shareItem, defaultItem, items, boardRefusal}
 use Rattle.description_board.proofs.Accepted.{accepted-legal}
 use Rattle.description_board.proofs.ItemLaws.{line-none, line-some}
 use Rattle.description_check.specs.Code.Entries.{entryCount, lineAt, present, linesTo}
@@ -71,9 +71,10 @@ text-present Malformed = refl
 text-present (MasterLine w u) = text-one (MasterLine w u)
 text-present (SlaveLine n) = text-one (SlaveLine n)
 text-present (ShareLine m s n) = text-one (ShareLine m s n)
+text-present DefaultLine = text-one DefaultLine
 
 -- an accepted board has at most 8 masters and 16 slaves
-pub few-places : (b : Board) → boardRefusal b ≡ 0 → entryCount b ≤ 152
+pub few-places : (b : Board) → boardRefusal b ≡ 0 → entryCount b ≤ 153
 few-places b e = let l = accepted-legal b e in omega (arith, l .fewMasters, l .fewSlaves)
 
 -- The text of a board entry by entry.
@@ -103,20 +104,22 @@ module _ (b : Board) where
       → Put o at (itemsText (linesTo b (k + 1))) q t
   put-next k x y = rw (text-next k) (put-then x y)
 
--- a board's text in three parts
+-- a board's text in four parts
 module _ (b : Board) where
   pub text-parts :
       writeText b
       ≡ itemsText (table (masterItem (b .masters)) (b .«master_count»))
-      ++ (itemsText (table (slaveItem (b .slaves)) (b .«slave_count»)) ++ itemsText (gather (shareItem (b .shares)) 128))
+      ++ (itemsText (table (slaveItem (b .slaves)) (b .«slave_count»))
+      ++ (itemsText (gather (shareItem (b .shares)) 128) ++ itemsText (defaultItem (b .«default_line»))))
   unfolding writeText items
-  text-parts = rw (text-append, text-append)
+  text-parts = rw (text-append, text-append, text-append)
 
   pub length-parts :
       length (writeText b)
       ≡ length (itemsText (table (masterItem (b .masters)) (b .«master_count»)))
       + length (itemsText (table (slaveItem (b .slaves)) (b .«slave_count»)))
       + length (itemsText (gather (shareItem (b .shares)) 128))
+      + length (itemsText (defaultItem (b .«default_line»)))
   length-parts = rw text-parts (simp length-append (omega arith))
 
 -- what is promised of the answer r and of the output after

@@ -9,12 +9,12 @@ use lib.Dec.{eqb}
 use borrow.Author.Tests.{eqb-true}
 use Rattle.common_laws.specs.Lists.{same, gather, table}
 use Rattle.common_laws.proofs.TextLists.{same-true}
-use Rattle.common_text.specs.Digits.{lineText}
+use Rattle.common_text.specs.Digits.{fieldsText, lineText}
 use Rattle.common_text.specs.Fields.{comma, lineFeed, split, mostNumbers, numbersOf}
 use Rattle.common_text.proofs.Spelling.{joined, joined-split, line-spelling}
 use Rattle.description_board.specs.declared.Item.{Item}
-use Rattle.description_board.specs.declared.Item.the-variants.{Malformed}
-use Rattle.description_lines.specs.Reader.{masterWord, slaveWord, shareWord, value, masterLine, slaveLine, shareLine}
+use Rattle.description_board.specs.declared.Item.the-variants.{Malformed, DefaultLine}
+use Rattle.description_lines.specs.Reader.{masterWord, slaveWord, shareWord, defaultWord, value, masterLine, slaveLine, shareLine}
 use Rattle.description_lines.specs.Reader.{itemOf, itemOfFields, itemsOf, itemsOfPieces, unended}
 use Rattle.description_lines.specs.Writer.{itemText, itemsText}
 use Rattle.description.proofs.LineTrip.{Writable, AllWritable}
@@ -47,10 +47,15 @@ module _ (line word : List ℕ) (fs : List (List ℕ)) (e : split comma line ≡
       (has-chosen _ (same word slaveWord) _ _ (has-numbers slaveWord mostNumbers _ (omega arith) (omega arith) refl)
       (has-chosen _ (same word shareWord) _ _ (has-numbers shareWord 3 _ (omega arith) (omega arith) refl) (λ h. absurd h)))
 
+-- the line `default`
+has-default : (line : List ℕ) → same line defaultWord ≡ true → Has (line ++ (lineFeed ∷ [])) DefaultLine
+unfolding itemText lineText fieldsText
+has-default line s h = rw (same-true line defaultWord s)
+
 -- rules 1.2, 1.3: a line read and written again
 pub line-text : (p : List ℕ) → Writable (itemOf p) → itemText (itemOf p) ≡ p ++ (lineFeed ∷ [])
 unfolding itemOf itemOfFields
-line-text p = go (split comma p) refl
+line-text p = has-chosen _ (same p defaultWord) DefaultLine _ (has-default p) (go (split comma p) refl)
   where
     go : (fs : List (List ℕ)) → split comma p ≡ fs → Has (p ++ (lineFeed ∷ [])) (itemOfFields fs)
     go [] e h = absurd h

@@ -1,6 +1,6 @@
 -- Lines written and read again, and how many bytes the lines of a legal board take.
 -- Assumes nothing.
-use mathlib.Core.Bool.{false}
+use mathlib.Core.Bool.{Bool, true, false}
 use mathlib.Core.List.{List, [], _∷_, _++_, map}
 use mathlib.Core.Logic.{_≢_}
 use mathlib.Core.Path.{_≡_, refl, ap, _∙_}
@@ -16,13 +16,13 @@ use Rattle.common_text.proofs.Decimal.{digits-most, line-length}
 use Rattle.common_text.proofs.Round.{Short, split-fields, split-line, numbers-digits}
 use Rattle.description_board.specs.declared.Board.{Board}
 use Rattle.description_board.specs.declared.Item.{Item}
-use Rattle.description_board.specs.declared.Item.the-variants.{Malformed, MasterLine, SlaveLine, ShareLine}
+use Rattle.description_board.specs.declared.Item.the-variants.{Malformed, MasterLine, SlaveLine, ShareLine, DefaultLine}
 use Rattle.description_board.specs.Records.{masterAt, slaveAt}
-use Rattle.description_board.specs.Items.{masterItem, slaveNumbers, slaveItem, shareItem, items}
+use Rattle.description_board.specs.Items.{masterItem, slaveNumbers, slaveItem, shareItem, defaultItem, items}
 use Rattle.description_board.specs.Legal.{Legal}
 use Rattle.description_board.proofs.RuleLaws.{width-bound, burst-bound, span-bound}
-use Rattle.description_board.proofs.ItemLaws.{line-none, line-some}
-use Rattle.description_lines.specs.Reader.{masterWord, slaveWord, shareWord, masterLine, slaveLine, shareLine}
+use Rattle.description_board.proofs.ItemLaws.{line-none, line-some, default-none, default-some}
+use Rattle.description_lines.specs.Reader.{masterWord, slaveWord, shareWord, defaultWord, masterLine, slaveLine, shareLine}
 use Rattle.description_lines.specs.Reader.{itemOf, itemOfFields, itemsOf, itemsOfPieces, unended}
 use Rattle.description_lines.specs.Writer.{slaveFields, itemText, itemsText}
 use Rattle.description_lines.proofs.ReadLaws.{items-more}
@@ -36,28 +36,34 @@ Writable Malformed = ⊥
 Writable (MasterLine w u) = Short (w ∷ u ∷ [])
 Writable (SlaveLine n) = Short (slaveFields n)
 Writable (ShareLine m s n) = Short (m ∷ s ∷ n ∷ [])
+Writable DefaultLine = Unit {0}
 
 abbrev pub AllWritable : List Item → Type 0
 AllWritable [] = Unit {0}
 AllWritable (x ∷ xs) = Writable x × AllWritable xs
 
 -- one line, with more text behind it
-module _ (word ns rest : List ℕ) (feed : member lineFeed word ≡ false) (part : member comma word ≡ false) where
-  line-read : itemsOf (lineText word ns ++ rest) ≡ itemOfFields (word ∷ map digits ns) ∷ itemsOf rest
-  unfolding itemsOf itemOf
-  line-read =
-      ap itemsOfPieces (split-line word ns rest feed) ∙ items-more (word ++ fieldsText ns) rest
-      ∙ ap (λ (fs : List (List ℕ)). itemOfFields fs ∷ itemsOf rest) (split-fields word ns part)
+module _ (word ns rest : List ℕ) (feed : member lineFeed word ≡ false) where
+  line-first : itemsOf (lineText word ns ++ rest) ≡ itemOf (word ++ fieldsText ns) ∷ itemsOf rest
+  unfolding itemsOf
+  line-first = ap itemsOfPieces (split-line word ns rest feed) ∙ items-more (word ++ fieldsText ns) rest
+
+  -- one that is not `default` is read by its fields
+  module _ (part : member comma word ≡ false) (other : same (word ++ fieldsText ns) defaultWord ≡ false) where
+    line-read : itemsOf (lineText word ns ++ rest) ≡ itemOfFields (word ∷ map digits ns) ∷ itemsOf rest
+    unfolding itemOf
+    line-read = rw (line-first, other, split-fields word ns part)
 
 pub item-read : (x : Item) (rest : List ℕ) → Writable x → itemsOf (itemText x ++ rest) ≡ x ∷ itemsOf rest
-unfolding itemText itemOfFields masterLine slaveLine shareLine bytesOf member same
+unfolding itemText itemOf itemOfFields masterLine slaveLine shareLine fieldsText bytesOf member same
 item-read Malformed rest h = absurd h
 item-read (MasterLine w u) rest h =
-    line-read masterWord (w ∷ u ∷ []) rest refl refl ∙ rw (numbers-digits (w ∷ u ∷ []) (omega arith) h)
+    line-read masterWord (w ∷ u ∷ []) rest refl refl refl ∙ rw (numbers-digits (w ∷ u ∷ []) (omega arith) h)
 item-read (SlaveLine n) rest h =
-    line-read slaveWord (slaveFields n) rest refl refl ∙ rw (numbers-digits (slaveFields n) (omega arith) h)
+    line-read slaveWord (slaveFields n) rest refl refl refl ∙ rw (numbers-digits (slaveFields n) (omega arith) h)
 item-read (ShareLine m s n) rest h =
-    line-read shareWord (m ∷ s ∷ n ∷ []) rest refl refl ∙ rw (numbers-digits (m ∷ s ∷ n ∷ []) (omega arith) h)
+    line-read shareWord (m ∷ s ∷ n ∷ []) rest refl refl refl ∙ rw (numbers-digits (m ∷ s ∷ n ∷ []) (omega arith) h)
+item-read DefaultLine rest h = line-first defaultWord [] rest refl
 
 -- the lines of a written text are the lines that were written
 pub items-read : (xs : List Item) → AllWritable xs → itemsOf (itemsText xs) ≡ xs
@@ -87,6 +93,16 @@ length-field n ns = omega (arith, length-append (digits n) (fieldsText ns))
 record Line (most : ℕ) (x : Item) : Type 0 where
   writable : Writable x
   short : length (itemText x) ≤ most
+
+-- the line `default`, where the board has it
+default-writable : (has : Bool) → AllWritable (defaultItem has)
+default-writable true = rw (default-some true refl) (tt, tt)
+default-writable false = rw (default-none false refl) tt
+
+default-short : (has : Bool) → length (itemsText (defaultItem has)) ≤ 8
+unfolding itemsText itemText lineText fieldsText bytesOf
+default-short true = rw (default-some true refl) (omega arith)
+default-short false = rw (default-none false refl) (omega arith)
 
 -- The lines of a legal board.
 module _ (b : Board) (k : Legal b) where
@@ -189,7 +205,9 @@ module _ (b : Board) (k : Legal b) where
       (all-table _ _ (λ m l. master-line m l .writable))
       (all-append (table (slaveItem (b .slaves)) (b .«slave_count»)) _
       (all-table _ _ (λ s l. slave-line s l .writable))
-      (all-gather _ _ pair-writable))
+      (all-append (gather (shareItem (b .shares)) 128) _
+      (all-gather _ _ pair-writable)
+      (default-writable (b .«default_line»))))
 
   pub items-short : length (writeText b) ≤ longest
   unfolding longest
@@ -200,6 +218,7 @@ module _ (b : Board) (k : Legal b) where
         lines-most (masterItem (b .masters)) 12 (b .«master_count») (λ m l. master-line m l .short),
         lines-most (slaveItem (b .slaves)) 41 (b .«slave_count») (λ s l. slave-line s l .short),
         gather-most (shareItem (b .shares)) 15 128 pair-short,
+        default-short (b .«default_line»),
         k .fewMasters,
         k .fewSlaves,
       )

@@ -11,8 +11,9 @@ use Rattle.common_laws.proofs.TableLaws.{getD-table}
 use Rattle.description_board.specs.declared.Board.{Board}
 use Rattle.description_board.specs.declared.Reading.{Reading}
 use Rattle.description_board.specs.Records.{noMaster, noSlave, masterAt, slaveAt, totalSpan, startOf, memoryLength}
+use Rattle.description_board.specs.declared.Item.the-variants.{DefaultLine}
 use Rattle.description_board.specs.Rules.{slaveValues, masterRefusal, slaveRefusal, pairRank, shareRefusal, itemRefusal}
-use Rattle.description_board.specs.Rules.{start, stepAll, endRefusal, finish, described}
+use Rattle.description_board.specs.Rules.{defaultRefusal, start, stepAll, endRefusal, finish, described}
 use Rattle.description_board.specs.Items.{masterItem, slaveItem, items, boardRefusal}
 use Rattle.description_board.specs.Rebuilt.{trimmed}
 use Rattle.description_board.specs.Legal.{Legal}
@@ -41,7 +42,7 @@ unfolding boardRefusal described allRead
 legal-trimmed b e =
     let a = finish-accepted (stepAll start (items b)) e in
     let read = read-items (λ r. r .number ≡ 0) run-accepted b (λ m l n. step-accepted _ _ n .1)
-    (λ s l n. step-accepted _ _ n .1) (λ k l z n. step-accepted _ _ n .1) (a .0) in
+    (λ s l n. step-accepted _ _ n .1) (λ k l z n. step-accepted _ _ n .1) (λ d n. step-accepted _ _ n .1) (a .0) in
     rw (a .2, read) at (described-legal (items b) e)
 
 pub accepted-legal : (b : Board) → boardRefusal b ≡ 0 → Legal b
@@ -131,6 +132,10 @@ module _ (b : Board) (k : Legal b) where
         le-ltb (i + 1) (lastRank b i) (omega (arith, last-within b i)),
       )
 
+  default-clear : itemRefusal (readTo b (b .«master_count») (b .«slave_count») 128) DefaultLine ≡ 0
+  unfolding readTo itemRefusal defaultRefusal
+  default-clear = rw (ne-eqb (b .«slave_count») 0 (omega (arith, k .someSlave)))
+
   -- nothing is missing at the end
   end-none : endRefusal (trimmed b) ≡ 0
   unfolding trimmed
@@ -146,7 +151,7 @@ module _ (b : Board) (k : Legal b) where
   legal-described =
       rw (
         read-items (λ r. Unit {0}) (λ r xs e. tt) b (λ m l _. master-clear m l) (λ s l _. slave-clear s l)
-            (λ i l z _. share-clear i l z) tt,
+            (λ i l z _. share-clear i l z) (λ d _. default-clear) tt,
         end-none,
       )
 

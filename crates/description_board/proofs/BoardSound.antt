@@ -16,15 +16,15 @@ use Rattle.common_laws.proofs.TableLaws.{getD-replicate-all}
 use Rattle.description_board.specs.declared.SlaveNumbers.{SlaveNumbers}
 use Rattle.description_board.specs.declared.Board.{Board}
 use Rattle.description_board.specs.declared.Item.{Item}
-use Rattle.description_board.specs.declared.Item.the-variants.{Malformed, MasterLine, SlaveLine, ShareLine}
+use Rattle.description_board.specs.declared.Item.the-variants.{Malformed, MasterLine, SlaveLine, ShareLine, DefaultLine}
 use Rattle.description_board.specs.declared.Reading.{Reading}
 use Rattle.description_board.specs.Records.{noMaster, noSlave, noBoard, masterAt, slaveAt, totalSpan, startOf, memoryLength}
 use Rattle.description_board.specs.Rules.{slaveValues, slaveOf, meets}
-use Rattle.description_board.specs.Rules.{masterRefusal, slaveRefusal, tooNarrow, shareRefusal}
-use Rattle.description_board.specs.Rules.{itemRefusal, withMaster, withSlave, withShare}
+use Rattle.description_board.specs.Rules.{masterRefusal, slaveRefusal, tooNarrow, shareRefusal, defaultRefusal}
+use Rattle.description_board.specs.Rules.{itemRefusal, withMaster, withSlave, withShare, withDefault}
 use Rattle.description_board.specs.Rules.{withItem, refused, start, taken, step, stepAll, endRefusal, finish, described}
 use Rattle.description_board.specs.Legal.{LegalMaster, LegalSlave, Legal}
-use Rattle.description_board.proofs.RuleLaws.{values-fit, master-taken, slave-taken, share-taken}
+use Rattle.description_board.proofs.RuleLaws.{values-fit, master-taken, slave-taken, share-taken, default-taken}
 use Rattle.description_board.proofs.EndLaws.{EndTaken, end-taken}
 use Rattle.description_board.proofs.SpanLaws.{apart-at, total-suc}
 
@@ -60,6 +60,7 @@ pub record Sound (b : Board) : Type 0 where
   pub wide : (i : ℕ) → i < 128 → getD (b .shares) i 0 ≢ 0 → tooNarrow (masterAt b (i / 16)) (slaveAt b (i % 16)) ≡ false
   pub masterEnd : (m : ℕ) → b .«master_count» ≤ m → masterAt b m ≡ noMaster
   pub slaveEnd : (s : ℕ) → b .«slave_count» ≤ s → slaveAt b s ≡ noSlave
+  pub defaultLast : b .«slave_count» ≤ 0 → b .«default_line» ≡ false
 
 pub sound-start : Sound noBoard
 unfolding noBoard memoryLength startOf totalSpan
@@ -77,6 +78,7 @@ sound-start = record {
   wide = λ i h n. absurd (n (getD-replicate-all 128 i 0));
   masterEnd = λ m h. getD-replicate-all 8 m noMaster;
   slaveEnd = λ s h. getD-replicate-all 16 s noSlave;
+  defaultLast = λ h. refl;
 }
 
 sound-master : (b : Board) (w u : ℕ) → masterRefusal b w u ≡ 0 → Sound b → Sound (withMaster b w u)
@@ -102,6 +104,7 @@ sound-master b w u e k =
       masterEnd = λ m l.
           getD-set-other (b .masters) (b .«master_count») m _ noMaster (omega arith) ∙ k .masterEnd m (omega arith);
       slaveEnd = k .slaveEnd;
+      defaultLast = k .defaultLast;
     }
 
 sound-slave : (b : Board) (sharing : Bool) (n : SlaveNumbers) → slaveRefusal b sharing n ≡ 0
@@ -133,6 +136,7 @@ sound-slave b sharing n e k =
           rw (getD-set-other (b .slaves) c (i % 16) x noSlave (omega arith)) (k .wide i l z);
       masterEnd = k .masterEnd;
       slaveEnd = λ s l. getD-set-other (b .slaves) c s x noSlave (omega arith) ∙ k .slaveEnd s (omega arith);
+      defaultLast = λ h. t .before-default;
     }
 
 sound-share : (b : Board) (above m s n : ℕ) → shareRefusal b above m s n ≡ 0 → Sound b → Sound (withShare b m s n)
@@ -158,6 +162,28 @@ sound-share b above m s n e k =
           (b .shares) (16 * m + s) n 0 (omega arith) (λ _. rw (row, column) (t .wide)) i (λ _. k .wide i l);
       masterEnd = k .masterEnd;
       slaveEnd = k .slaveEnd;
+      defaultLast = k .defaultLast;
+    }
+
+sound-default : (b : Board) → defaultRefusal b ≡ 0 → Sound b → Sound (withDefault b)
+unfolding withDefault memoryLength startOf
+sound-default b e k =
+    let t = default-taken b e in
+    record {
+      masterPlaces = k .masterPlaces;
+      slavePlaces = k .slavePlaces;
+      sharePlaces = k .sharePlaces;
+      fewMasters = k .fewMasters;
+      fewSlaves = k .fewSlaves;
+      master = k .master;
+      slave = k .slave;
+      apart = k .apart;
+      total = k .total;
+      shares = k .shares;
+      wide = k .wide;
+      masterEnd = k .masterEnd;
+      slaveEnd = k .slaveEnd;
+      defaultLast = λ h. absurd (t .slave-there (omega (arith, h)));
     }
 
 pub sound-item : (r : Reading) (x : Item) → itemRefusal r x ≡ 0 → Sound (r .board) → Sound (withItem (r .board) x)
@@ -166,6 +192,7 @@ sound-item r Malformed e k = absurd (omega arith)
 sound-item r (MasterLine w u) e k = sound-master (r .board) w u e k
 sound-item r (SlaveLine n) e k = sound-slave (r .board) (ltb 0 (r .above)) n e k
 sound-item r (ShareLine m s n) e k = sound-share (r .board) (r .above) m s n e k
+sound-item r DefaultLine e k = sound-default (r .board) e k
 
 -- a line, lines or an end that is not refused
 pub step-accepted : (r : Reading) (x : Item) → step r x .number ≡ 0

@@ -1,7 +1,7 @@
 -- A board's own lines, read: as long as none is refused, the board so far has the board's own entries.
 -- Assumes nothing.
 use mathlib.Core.Path.{_≡_, refl, sym, _∙_}
-use mathlib.Core.Bool.{cond}
+use mathlib.Core.Bool.{Bool, true, false, cond}
 use mathlib.Core.List.{List, [], _∷_, _++_}
 use mathlib.Core.Logic.{_≢_}
 use Prim.Native.Nat.{ℕ, zero, suc, _+_, _*_, _/_, _%_, _≤_, _<_}
@@ -16,15 +16,15 @@ use Rattle.common_laws.proofs.Tests.{at-most}
 use Rattle.common_laws.proofs.FrontLaws.{front, front-none, front-next, front-skip, front-all}
 use Rattle.description_board.specs.declared.Board.{Board}
 use Rattle.description_board.specs.declared.Item.{Item}
-use Rattle.description_board.specs.declared.Item.the-variants.{ShareLine}
+use Rattle.description_board.specs.declared.Item.the-variants.{ShareLine, DefaultLine}
 use Rattle.description_board.specs.declared.Reading.{Reading}
 use Rattle.description_board.specs.Records.{noMaster, noSlave, noBoard, masterAt, slaveAt}
-use Rattle.description_board.specs.Rules.{itemRefusal, withItem, withMaster, withSlave, withShare}
+use Rattle.description_board.specs.Rules.{itemRefusal, withItem, withMaster, withSlave, withShare, withDefault}
 use Rattle.description_board.specs.Rules.{pairRank, rankOf, refused, start, taken, step, stepAll}
-use Rattle.description_board.specs.Items.{masterItem, slaveItem, shareItem, items}
+use Rattle.description_board.specs.Items.{masterItem, slaveItem, shareItem, defaultItem, items}
 use Rattle.description_board.specs.Rebuilt.{trimmed}
 use Rattle.description_board.proofs.RuleLaws.{master-taken, slave-taken}
-use Rattle.description_board.proofs.ItemLaws.{line-none, line-some}
+use Rattle.description_board.proofs.ItemLaws.{line-none, line-some, default-none, default-some}
 use Rattle.description_board.proofs.StepAllLaws.{step-taken, run-append}
 
 -- the rank of the last connected pair of b among its first k, 0 where there is none
@@ -37,7 +37,7 @@ unfolding lastRank
 last-within b zero = omega arith
 last-within b (suc k) = at-most (ltb 0 (getD (b .shares) k 0)) (k + 1) _ (omega arith) (omega (arith, last-within b k))
 
--- what has been read after b's first m masters, its first s slaves and its first k shares
+-- what has been read after b's first m masters, its first s slaves and its first k shares, so before the line `default`
 unfoldable pub readTo : Board → ℕ → ℕ → ℕ → Reading
 readTo b m s k = record {
   number = 0;
@@ -48,14 +48,15 @@ readTo b m s k = record {
     masters = front (masterAt b) noMaster 8 m;
     slaves = front (slaveAt b) noSlave 16 s;
     shares = front (λ i. getD (b .shares) i 0) 0 128 k;
+    «default_line» = false;
   };
 }
 
--- what has been read after all of its lines
+-- what has been read after all of its lines; the line above is a pair's only where the board has no line `default`
 unfoldable pub allRead : Board → Reading
 allRead b = record {
   number = 0;
-  above = lastRank b 128;
+  above = cond (b .«default_line») 0 (lastRank b 128);
   board = trimmed b;
 }
 
@@ -69,10 +70,19 @@ module _ (b : Board) where
   read-none =
       rw (front-none (masterAt b) noMaster 8, front-none (slaveAt b) noSlave 16, front-none (λ i. getD (b .shares) i 0) 0 128)
 
-  -- at the end: the board, trimmed
-  pub read-all : readTo b (b .«master_count») (b .«slave_count») 128 ≡ allRead b
-  unfolding readTo allRead trimmed front
-  read-all = rw (← front-all (λ i. getD (b .shares) i 0) 0 128)
+  -- at the end: the board, trimmed, without the line `default` and with it
+  module _ (has : b .«default_line» ≡ false) where
+    read-all : stepAll (readTo b (b .«master_count») (b .«slave_count») 128) (defaultItem (b .«default_line»)) ≡ allRead b
+    unfolding stepAll readTo allRead trimmed front
+    read-all = rw (default-none (b .«default_line») has, has, ← front-all (λ i. getD (b .shares) i 0) 0 128)
+
+  module _ (has : b .«default_line» ≡ true) where
+    read-default : itemRefusal (readTo b (b .«master_count») (b .«slave_count») 128) DefaultLine ≡ 0
+        → stepAll (readTo b (b .«master_count») (b .«slave_count») 128) (defaultItem (b .«default_line»)) ≡ allRead b
+    unfolding stepAll readTo allRead trimmed front taken withItem withDefault rankOf
+    read-default e =
+        rw (default-some (b .«default_line») has)
+        (sym (step-taken _ _ refl refl e) ∙ rw (has, ← front-all (λ i. getD (b .shares) i 0) 0 128))
 
   -- one line more
   pub read-master : (m : ℕ) → itemRefusal (readTo b m 0 0) (masterItem (b .masters) m) ≡ 0
@@ -144,21 +154,37 @@ module _ (E : Reading → Type 0) (back : (r : Reading) (xs : List Item) → E (
         go (yes z) e = read-zero b m s k l z
         go (no z) e = read-share b m s k l z (h z (rw (line-some (b .shares) k z) at e))
 
+    read-last : (b .«default_line» ≡ true → Clear E (readTo b (b .«master_count») (b .«slave_count») 128) DefaultLine)
+        → Leads E (readTo b (b .«master_count») (b .«slave_count») 128) (defaultItem (b .«default_line»)) (allRead b)
+    unfolding stepAll
+    read-last h = record { on = go (b .«default_line») refl }
+      where
+        o : Reading
+        o = readTo b (b .«master_count») (b .«slave_count») 128
+
+        go : (c : Bool) → b .«default_line» ≡ c → E (stepAll o (defaultItem (b .«default_line»)))
+            → stepAll o (defaultItem (b .«default_line»)) ≡ allRead b
+        go false q e = read-all b q
+        go true q e = read-default b q (h q (rw (default-some (b .«default_line») q) at e))
+
     pub read-items : ((m : ℕ) → m < b .«master_count» → Clear E (readTo b m 0 0) (masterItem (b .masters) m))
         → ((s : ℕ) → s < b .«slave_count» → Clear E (readTo b (b .«master_count») s 0) (slaveItem (b .slaves) s))
         → ((k : ℕ) → k < 128 → getD (b .shares) k 0 ≢ 0
         → Clear E (readTo b (b .«master_count») (b .«slave_count») k) (shareLine b k))
+        → (b .«default_line» ≡ true → Clear E (readTo b (b .«master_count») (b .«slave_count») 128) DefaultLine)
         → E (stepAll start (items b)) → stepAll start (items b) ≡ allRead b
     unfolding items table stepAll
-    read-items f g h =
+    read-items f g h d =
         let mc = b .«master_count» in
         let sc = b .«slave_count» in
-        rw (read-none b, ← read-all b)
+        rw (read-none b)
         (leads-on
         (walk (λ m. masterItem (b .masters) m ∷ []) (λ m. readTo b m 0 0) mc
         (λ m l. record { on = λ e. read-master b m (f m l e) }))
         (leads-on
         (walk (λ s. slaveItem (b .slaves) s ∷ []) (λ s. readTo b mc s 0) sc
         (λ s l. record { on = λ e. read-slave b mc s (g s l e) }))
-        (walk (shareItem (b .shares)) (λ k. readTo b mc sc k) 128 (λ k l. read-place mc sc k l (h k l))))
+        (leads-on
+        (walk (shareItem (b .shares)) (λ k. readTo b mc sc k) 128 (λ k l. read-place mc sc k l (h k l)))
+        (read-last d)))
         .on)

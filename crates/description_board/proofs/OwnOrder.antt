@@ -2,7 +2,7 @@
 -- Assumes nothing.
 use mathlib.Core.Bool.{Bool, true, false, cond, _||_}
 use mathlib.Core.List.{List, [], _∷_}
-use mathlib.Core.Path.{_≡_}
+use mathlib.Core.Path.{_≡_, refl}
 use mathlib.Core.Logic.{_≢_}
 use Prim.Native.Nat.{ℕ, zero, suc, _/_, _%_, _≤_}
 use native.Mathlib.Decide.{ℕ-discrete}
@@ -13,13 +13,13 @@ use Rattle.common_laws.specs.Lists.{gather, table}
 use Rattle.common_laws.proofs.Tests.{at-most}
 use Rattle.description_board.specs.declared.Board.{Board}
 use Rattle.description_board.specs.declared.Item.{Item}
-use Rattle.description_board.specs.declared.Item.the-variants.{ShareLine}
+use Rattle.description_board.specs.declared.Item.the-variants.{ShareLine, DefaultLine}
 use Rattle.description_board.specs.declared.Reading.{Reading}
-use Rattle.description_board.specs.Rules.{pairRank, itemRefusal, rankOf, refused, start, taken, step, stepAll}
+use Rattle.description_board.specs.Rules.{pairRank, defaultRefusal, itemRefusal, rankOf, refused, start, taken, step, stepAll}
 use Rattle.description_board.specs.Rules.{withoutShare, endRefusal, finish, described}
-use Rattle.description_board.specs.Items.{masterItem, slaveItem, shareItem, items, boardRefusal}
+use Rattle.description_board.specs.Items.{masterItem, slaveItem, shareItem, defaultItem, items, boardRefusal}
 use Rattle.description_board.proofs.RuleLaws.{item-number}
-use Rattle.description_board.proofs.ItemLaws.{line-none, line-some}
+use Rattle.description_board.proofs.ItemLaws.{line-none, line-some, default-none, default-some}
 use Rattle.description_board.proofs.StepAllLaws.{run-append}
 
 -- no line so far was refused with 21, and the pair on the line above is one of the first k
@@ -65,15 +65,31 @@ order-share shares i r o = go (ℕ-discrete (getD shares i 0) 0)
         rw (line-some shares i e)
         (order-more (rankOf line) (suc i) (step r line) (omega arith) (order-step i r line (omega arith) o))
 
+-- the line `default`, where there is one: it is refused with 2 alone
+default-number : (b : Board) → defaultRefusal b ≤ 2
+unfolding defaultRefusal
+default-number b = at-most (eqb (b .«slave_count») 0 || b .«default_line») 2 0 (omega arith) (omega arith)
+
+order-default : (has : Bool) (r : Reading) → InOrder 128 r → InOrder 128 (stepAll r (defaultItem has))
+unfolding stepAll step taken refused rankOf itemRefusal
+order-default false r o = rw (default-none false refl) o
+order-default true r o = rw (default-some true refl) (go (eqb (r .number) 0) (eqb (itemRefusal r DefaultLine) 0))
+  where
+    go : (c d : Bool) → InOrder 128 (cond c (cond d (taken r DefaultLine) (refused (itemRefusal r DefaultLine))) r)
+    go true true = record { other = λ z. omega arith; rank = omega arith }
+    go true false = record { other = λ z. omega (arith, default-number (r .board)); rank = omega arith }
+    go false d = o
+
 -- all lines of a board
 order-items : (b : Board) → InOrder 128 (stepAll start (items b))
 unfolding items table stepAll masterItem slaveItem rankOf start refused
 order-items b =
-    rw (run-append, run-append)
+    rw (run-append, run-append, run-append)
+    (order-default (b .«default_line») _
     (order-lines (shareItem (b .shares)) (λ i. i) 128 (order-share (b .shares)) _
     (order-lines (λ s. slaveItem (b .slaves) s ∷ []) (λ i. 0) (b .«slave_count») (λ s r o. order-step 0 r _ (omega arith) o) _
     (order-lines (λ m. masterItem (b .masters) m ∷ []) (λ i. 0) (b .«master_count») (λ m r o. order-step 0 r _ (omega arith) o) _
-    (record { other = λ z. omega arith; rank = omega arith }))))
+    (record { other = λ z. omega arith; rank = omega arith })))))
 
 -- nor is the end refused with 21
 end-number : (b : Board) → endRefusal b ≤ 20

@@ -16,11 +16,12 @@ use Rattle.description_board.specs.declared.Slave.{Slave}
 use Rattle.description_board.specs.declared.SlaveNumbers.{SlaveNumbers}
 use Rattle.description_board.specs.declared.Board.{Board}
 use Rattle.description_board.specs.declared.Item.{Item}
-use Rattle.description_board.specs.declared.Item.the-variants.{Malformed, MasterLine, SlaveLine, ShareLine}
+use Rattle.description_board.specs.declared.Item.the-variants.{Malformed, MasterLine, SlaveLine, ShareLine, DefaultLine}
 use Rattle.description_board.specs.declared.Reading.{Reading}
 use Rattle.description_board.specs.Records.{noSlave, masterAt, slaveAt, sharesAt, totalSpan}
 use Rattle.description_board.specs.Rules.{widths, bursts, spans, slaveValues, meets, overlaps}
-use Rattle.description_board.specs.Rules.{masterRefusal, slaveRefusal, tooNarrow, pairRank, shareRefusal, itemRefusal, rankOf}
+use Rattle.description_board.specs.Rules.{masterRefusal, slaveRefusal, tooNarrow, pairRank, shareRefusal, defaultRefusal}
+use Rattle.description_board.specs.Rules.{itemRefusal, rankOf}
 use Rattle.description_board.specs.Legal.{LegalMaster}
 
 pub width-bound : (x : ℕ) → member x widths ≡ true → (1 ≤ x) × (x ≤ 8)
@@ -124,6 +125,7 @@ master-taken b width burst e =
 pub record SlaveTaken (b : Board) (sharing : Bool) (n : SlaveNumbers) : Type 0 where
   pub master-there : b .«master_count» ≡ 0 → ⊥
   pub before-shares : sharing ≡ false
+  pub before-default : b .«default_line» ≡ false
   pub room : b .«slave_count» < 16
   pub values : slaveValues n ≡ true
   pub aligned : n .base % n .span ≡ 0
@@ -134,9 +136,10 @@ pub slave-taken : (b : Board) (sharing : Bool) (n : SlaveNumbers) → slaveRefus
 unfolding slaveRefusal
 slave-taken b sharing n e =
     let earlier = take (b .«slave_count») (b .slaves) in
-    let order = passed (eqb (b .«master_count») 0 || (sharing || leb 16 (b .«slave_count»))) 1 _ e in
+    let order = passed (eqb (b .«master_count») 0 || (sharing || (b .«default_line» || leb 16 (b .«slave_count»)))) 1 _ e in
     let first = neither (eqb (b .«master_count») 0) _ (order .0) in
     let second = neither sharing _ (first .1) in
+    let third = neither (b .«default_line») _ (second .1) in
     let legal = passed (not (slaveValues n)) 2 _ (order .1) in
     let multiple = passed (not (eqb (n .base % n .span) 0)) 3 _ (legal .1) in
     let alone = passed (overlaps (n .base) (n .span) earlier) 4 _ (multiple .1) in
@@ -144,7 +147,8 @@ slave-taken b sharing n e =
     record {
       master-there = eqb-false _ _ (first .0);
       before-shares = second .0;
-      room = leb-false _ _ (second .1);
+      before-default = third .0;
+      room = leb-false _ _ (third .1);
       values = not-false _ (legal .0);
       aligned = eqb-true _ _ (not-false _ (multiple .0));
       apart = alone .0;
@@ -153,6 +157,7 @@ slave-taken b sharing n e =
 
 -- a share line that is not refused
 pub record ShareTaken (b : Board) (above m s shares : ℕ) : Type 0 where
+  pub before-default : b .«default_line» ≡ false
   pub low : 1 ≤ shares
   pub high : shares ≤ 100
   pub master-there : m < b .«master_count»
@@ -164,7 +169,8 @@ pub record ShareTaken (b : Board) (above m s shares : ℕ) : Type 0 where
 pub share-taken : (b : Board) (above m s shares : ℕ) → shareRefusal b above m s shares ≡ 0 → ShareTaken b above m s shares
 unfolding shareRefusal
 share-taken b above m s shares e =
-    let there = passed (eqb (b .«slave_count») 0) 1 _ e in
+    let there = passed (eqb (b .«slave_count») 0 || b .«default_line») 1 _ e in
+    let first = neither (eqb (b .«slave_count») 0) _ (there .0) in
     let legal = passed (ltb shares 1 || ltb 100 shares) 2 _ (there .1) in
     let bounds = neither (ltb shares 1) _ (legal .0) in
     let pair = passed _ 6 _ (legal .1) in
@@ -175,6 +181,7 @@ share-taken b above m s shares e =
     let free = ltb-false _ (sharesAt b m s) (slave .1) in
     let later = ltb-false (pairRank m s) _ (order .0) in
     record {
+      before-default = first .1;
       low = ltb-false _ _ (bounds .0);
       high = ltb-false _ _ (bounds .1);
       master-there = leb-false _ _ (master .0);
@@ -184,11 +191,23 @@ share-taken b above m s shares e =
       behind = omega (arith, later);
     }
 
+-- a line `default` that is not refused
+pub record DefaultTaken (b : Board) : Type 0 where
+  pub slave-there : b .«slave_count» ≡ 0 → ⊥
+  pub before-default : b .«default_line» ≡ false
+
+pub default-taken : (b : Board) → defaultRefusal b ≡ 0 → DefaultTaken b
+unfolding defaultRefusal
+default-taken b e =
+    let order = passed (eqb (b .«slave_count») 0 || b .«default_line») 1 0 e in
+    let first = neither (eqb (b .«slave_count») 0) _ (order .0) in
+    record { slave-there = eqb-false _ _ (first .0); before-default = first .1 }
+
 -- what is true of every number up to 19, and of 21 where the line's pair comes before the pair above, is true of what it is refused
 -- with: so no line is refused with 20
 pub item-number : (P : ℕ → Type 0) (r : Reading) (x : Item) → ((n : ℕ) → n ≤ 19 → P n) → (rankOf x < r .above → P 21)
     → P (itemRefusal r x)
-unfolding itemRefusal masterRefusal slaveRefusal shareRefusal rankOf
+unfolding itemRefusal masterRefusal slaveRefusal shareRefusal defaultRefusal rankOf
 item-number P r Malformed low before = low 1 (omega arith)
 item-number P r (MasterLine w u) low before =
     let b = r .board in
@@ -199,14 +218,14 @@ item-number P r (SlaveLine n) low before =
     let b = r .board in
     let earlier = take (b .«slave_count») (b .slaves) in
     low _
-    (at-most (eqb (b .«master_count») 0 || (ltb 0 (r .above) || leb 16 (b .«slave_count»))) 2 _ (omega arith)
+    (at-most (eqb (b .«master_count») 0 || (ltb 0 (r .above) || (b .«default_line» || leb 16 (b .«slave_count»)))) 2 _ (omega arith)
     (at-most (not (slaveValues n)) 3 _ (omega arith)
     (at-most (not (eqb (n .base % n .span) 0)) 4 _ (omega arith)
     (at-most (overlaps (n .base) (n .span) earlier) 5 _ (omega arith)
     (at-most (ltb 65536 (totalSpan earlier + n .span)) 6 0 (omega arith) (omega arith))))))
 item-number P r (ShareLine m s n) low before =
     let b = r .board in
-    go (eqb (b .«slave_count») 0) (ltb n 1 || ltb 100 n)
+    go (eqb (b .«slave_count») 0 || b .«default_line») (ltb n 1 || ltb 100 n)
     (leb (b .«master_count») m || (leb (b .«slave_count») s || ltb 0 (sharesAt b m s)))
     (tooNarrow (masterAt b m) (slaveAt b s)) (ltb (pairRank m s) (r .above)) refl
   where
@@ -218,3 +237,6 @@ item-number P r (ShareLine m s n) low before =
     go false false false true t q = low 19 (omega arith)
     go false false false false true q = before (ltb-true _ _ q)
     go false false false false false q = low 0 (omega arith)
+item-number P r DefaultLine low before =
+    let b = r .board in
+    low _ (at-most (eqb (b .«slave_count») 0 || b .«default_line») 2 0 (omega arith) (omega arith))

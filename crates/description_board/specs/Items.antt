@@ -1,6 +1,6 @@
 -- A board's lines as the writer puts them (rule 1.9), and what a board that no reader made is refused for (rule 8.5).
 -- Assumes nothing.
-use mathlib.Core.Bool.{cond}
+use mathlib.Core.Bool.{Bool, cond}
 use mathlib.Core.List.{List, [], _∷_, _++_}
 use Prim.Native.Nat.{ℕ, _/_, _%_}
 use lib.Dec.{eqb}
@@ -11,7 +11,7 @@ use Rattle.description_board.specs.declared.Slave.{Slave}
 use Rattle.description_board.specs.declared.SlaveNumbers.{SlaveNumbers}
 use Rattle.description_board.specs.declared.Board.{Board}
 use Rattle.description_board.specs.declared.Item.{Item}
-use Rattle.description_board.specs.declared.Item.the-variants.{MasterLine, SlaveLine, ShareLine}
+use Rattle.description_board.specs.declared.Item.the-variants.{MasterLine, SlaveLine, ShareLine, DefaultLine}
 use Rattle.description_board.specs.Records.{noMaster, noSlave}
 use Rattle.description_board.specs.Rules.{described}
 
@@ -40,11 +40,16 @@ slaveItem ss i = SlaveLine (slaveNumbers (getD ss i noSlave))
 unfoldable pub shareItem : List ℕ → ℕ → List Item
 shareItem shares i = cond (eqb (getD shares i 0) 0) [] (ShareLine (i / 16) (i % 16) (getD shares i 0) ∷ [])
 
--- rules 1.4, 1.9: a line for each master, then for each slave, then for each pair connected, all by number
+-- rules 1.3, 1.11: `default`, the line of a board that has it
+unfoldable pub defaultItem : Bool → List Item
+defaultItem has = cond has (DefaultLine ∷ []) []
+
+-- rules 1.4, 1.9: a line for each master, then for each slave, then for each pair connected, all by number, then `default`
 unfoldable pub items : Board → List Item
 items b =
     table (masterItem (b .masters)) (b .«master_count»)
-    ++ (table (slaveItem (b .slaves)) (b .«slave_count») ++ gather (shareItem (b .shares)) 128)
+    ++ (table (slaveItem (b .slaves)) (b .«slave_count»)
+    ++ (gather (shareItem (b .shares)) 128 ++ defaultItem (b .«default_line»)))
 
 -- rules 1.10, 8.5: what a board is refused for, or 0, by the lines that the writer would put for it
 unfoldable pub boardRefusal : Board → ℕ

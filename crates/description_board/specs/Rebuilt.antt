@@ -15,4 +15,5 @@ trimmed b = record {
   masters = table (λ m. cond (ltb m (b .«master_count»)) (masterAt b m) noMaster) 8;
   slaves = table (λ s. cond (ltb s (b .«slave_count»)) (slaveAt b s) noSlave) 16;
   shares = table (λ i. getD (b .shares) i 0) 128;
+  «default_line» = b .«default_line»;
 }

@@ -1,6 +1,6 @@
 -- The records of a board, and its elements by number (rules 1.1, 1.8, 2.1).
 -- Assumes nothing.
-use mathlib.Core.Bool.{Bool, _&&_}
+use mathlib.Core.Bool.{Bool, false, _&&_}
 use mathlib.Core.List.{List, [], _∷_}
 use Prim.Native.Nat.{ℕ, _+_, _*_}
 use lib.Dec.{ltb, eqb}
@@ -29,6 +29,7 @@ noBoard = record {
   masters = replicate 8 noMaster;
   slaves = replicate 16 noSlave;
   shares = replicate 128 0;
+  «default_line» = false;
 }
 
 -- rule 1.1: master m. Past the end of a list `getD` gives its last argument.

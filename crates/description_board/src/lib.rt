@@ -29,13 +29,15 @@ pub const NO_SLAVE: Slave = Slave {
     latency: 0,
 };
 
-// The shares of master m at slave s stand at index 16 * m + s; 0: not connected (rule 1.8).
+// The shares of master m at slave s stand at index 16 * m + s; 0: not connected (rule 1.8). default_line: the board has the line
+// `default` (rule 1.11).
 pub struct Board {
     pub master_count: u32,
     pub slave_count: u32,
     pub masters: [Master; 8],
     pub slaves: [Slave; 16],
     pub shares: [u32; 128],
+    pub default_line: bool,
 }
 
 // The numbers of a slave line (rule 1.3), not yet checked.
@@ -50,12 +52,13 @@ pub struct SlaveNumbers {
     pub latency: u64,
 }
 
-// One line of a description (rule 1.3): the numbers of its fields, or a line that is none of the three kinds (rule 7.1).
+// One line of a description (rule 1.3): the numbers of its fields, or a line that is none of the four kinds (rule 7.1).
 pub enum Item {
     Malformed,
     MasterLine(u64, u64),
     SlaveLine(SlaveNumbers),
     ShareLine(u64, u64, u64),
+    DefaultLine,
 }
 
 // What has been read of a description (rule 8.2): the refusal's number or 0, the rank of the pair on the line above, from 1, and 0

@@ -16,10 +16,10 @@ use Rattle.description_board.specs.declared.Board.{Board}
 use Rattle.description_board.specs.declared.Item.{Item}
 use Rattle.description_board.specs.declared.Item.the-variants.{Malformed, ShareLine}
 use Rattle.description_board.specs.declared.Reading.{Reading}
-use Rattle.description_board.specs.Items.{masterItem, slaveItem, shareItem, items, boardRefusal}
+use Rattle.description_board.specs.Items.{masterItem, slaveItem, shareItem, defaultItem, items, boardRefusal}
 use Rattle.description_board.specs.Rules.{start, stepAll, finish, described}
 use Rattle.description_board.proofs.StepAllLaws.{run-append, run-stays, finish-stays}
-use Rattle.description_check.specs.Code.Entries.{entryCount, pairItem, lineAt, present, linesTo}
+use Rattle.description_check.specs.Code.Entries.{entryCount, pairItem, lastItem, lineAt, present, linesTo}
 
 -- the numbers below a, and n more
 gather-add : {X : Type 0} (f : ℕ → List X) (a n : ℕ) → gather f (a + n) ≡ gather f a ++ gather (λ i. f (a + i)) n
@@ -36,7 +36,12 @@ pair-present shares i = go (eqb (getD shares i 0) 0)
     go true = refl
     go false = refl
 
--- the line of an entry of each of the three parts
+last-present : (has : Bool) → present (lastItem has) ≡ defaultItem has
+unfolding present lastItem defaultItem
+last-present true = refl
+last-present false = refl
+
+-- the line of an entry of each of the four parts
 module _ (b : Board) where
   pub at-master : (k : ℕ) → k < b .«master_count» → lineAt b k ≡ masterItem (b .masters) k
   unfolding lineAt
@@ -47,18 +52,30 @@ module _ (b : Board) where
   unfolding lineAt
   at-slave k l h = rw (le-ltb _ _ l, lt-ltb _ _ h)
 
-  pub at-pair : (k : ℕ) → b .«master_count» + b .«slave_count» ≤ k
+  pub at-pair : (k : ℕ) → b .«master_count» + b .«slave_count» ≤ k → k < b .«master_count» + b .«slave_count» + 128
       → lineAt b k ≡ pairItem (b .shares) (k - (b .«master_count» + b .«slave_count»))
   unfolding lineAt
-  at-pair k l = rw (le-ltb k (b .«master_count») (omega arith), le-ltb _ _ l)
+  at-pair k l h = rw (le-ltb k (b .«master_count») (omega arith), le-ltb _ _ l, lt-ltb _ _ h)
+
+  pub at-last : (k : ℕ) → b .«master_count» + b .«slave_count» + 128 ≤ k → lineAt b k ≡ lastItem (b .«default_line»)
+  unfolding lineAt
+  at-last k l =
+      rw (
+        le-ltb k (b .«master_count») (omega arith),
+        le-ltb k (b .«master_count» + b .«slave_count») (omega arith),
+        le-ltb _ _ l,
+      )
 
   -- the same, by counts that were read
   module _ (m s k : ℕ) {x : Item} (em : m ≡ b .«master_count») (es : s ≡ b .«slave_count») where
     pub slave-line : m ≤ k → k < m + s → x ≡ slaveItem (b .slaves) (k - m) → x ≡ lineAt b k
     slave-line l h e = e ∙ rw em (sym (at-slave k (omega (arith, em)) (omega (arith, em, es))))
 
-    pub pair-line : m + s ≤ k → x ≡ pairItem (b .shares) (k - (m + s)) → x ≡ lineAt b k
-    pair-line l e = e ∙ rw (em, es) (sym (at-pair k (omega (arith, em, es))))
+    pub pair-line : m + s ≤ k → k < m + s + 128 → x ≡ pairItem (b .shares) (k - (m + s)) → x ≡ lineAt b k
+    pair-line l h e = e ∙ rw (em, es) (sym (at-pair k (omega (arith, em, es)) (omega (arith, em, es))))
+
+    pub last-line : m + s + 128 ≤ k → x ≡ lastItem (b .«default_line») → x ≡ lineAt b k
+    last-line l e = e ∙ sym (at-last k (omega (arith, em, es)))
 
   master-present : (k : ℕ) → k < b .«master_count» → present (lineAt b k) ≡ masterItem (b .masters) k ∷ []
   unfolding present masterItem
@@ -70,11 +87,15 @@ module _ (b : Board) where
       let e : b .«master_count» + i - b .«master_count» ≡ i = omega arith in
       rw (at-slave (b .«master_count» + i) (omega arith) (omega arith), e)
 
-  share-present : (i : ℕ) → present (lineAt b (b .«master_count» + b .«slave_count» + i)) ≡ shareItem (b .shares) i
-  share-present i =
+  share-present : (i : ℕ) → i < 128 → present (lineAt b (b .«master_count» + b .«slave_count» + i)) ≡ shareItem (b .shares) i
+  share-present i h =
       let n = b .«master_count» + b .«slave_count» in
       let e : n + i - n ≡ i = omega arith in
-      rw (at-pair (n + i) (omega arith), e) (pair-present (b .shares) i)
+      rw (at-pair (n + i) (omega arith) (omega arith), e) (pair-present (b .shares) i)
+
+  default-present : present (lineAt b (b .«master_count» + b .«slave_count» + 128)) ≡ defaultItem (b .«default_line»)
+  default-present =
+      rw (at-last (b .«master_count» + b .«slave_count» + 128) (omega arith)) (last-present (b .«default_line»))
 
   -- the lines of all entries are the writer's
   pub lines-all : linesTo b (entryCount b) ≡ items b
@@ -83,11 +104,13 @@ module _ (b : Board) where
       let m = b .«master_count» in
       let s = b .«slave_count» in
       let f : ℕ → List Item = λ k. present (lineAt b k) in
-      gather-add f (m + s) 128
-      ∙ ap (λ (l : List Item). l ++ gather (λ i. f (m + s + i)) 128) (gather-add f m s)
-      ∙ append-assoc (gather f m) (gather (λ i. f (m + i)) s) (gather (λ i. f (m + s + i)) 128)
+      gather-add f (m + s) 129
+      ∙ ap (λ (l : List Item). l ++ gather (λ i. f (m + s + i)) 129) (gather-add f m s)
+      ∙ append-assoc (gather f m) (gather (λ i. f (m + i)) s) (gather (λ i. f (m + s + i)) 129)
       ∙ ap₂ (λ (x y : List Item). x ++ y) (gather-same _ _ m master-present)
-      (ap₂ (λ (x y : List Item). x ++ y) (gather-same _ _ s slave-present) (gather-same _ _ 128 (λ i _. share-present i)))
+      (ap₂ (λ (x y : List Item). x ++ y) (gather-same _ _ s slave-present)
+      (gather-suc (λ i. f (m + s + i)) 128
+      ∙ ap₂ (λ (x y : List Item). x ++ y) (gather-same _ _ 128 share-present) default-present))
 
   -- one entry more
   pub lines-next : (k : ℕ) → linesTo b (k + 1) ≡ linesTo b k ++ present (lineAt b k)

@@ -10,7 +10,7 @@ ghost use Rattle.description_board.specs.Rules.{widths, bursts, spans, stepAll}
 ghost use Rattle.description_board.specs.Items.{masterItem, slaveNumbers, slaveItem, boardRefusal};
 ghost use Rattle.description_layout.specs.Layout.{boardIn};
 ghost use Rattle.description_rules.specs.Code.Readings.{readingOf};
-ghost use Rattle.description_check.specs.Code.Entries.{pairItem, entryCount, lineAt, present};
+ghost use Rattle.description_check.specs.Code.Entries.{pairItem, lastItem, entryCount, lineAt, present};
 ghost use Rattle.description_check.specs.Code.Accept.{MastersFit, SlaveFits, Clear, NativesUpTo, SlavesFit};
 ghost use Rattle.description_check.specs.Code.Accept.{Narrowest, ColumnFits, WideEnough, NativesFit};
 ghost use Rattle.description_check.specs.Code.Accept.{shareLimit, RowFits, RowEmpty, RowPasses, SharesFit};
@@ -71,13 +71,23 @@ fn pair_item(board: &[u32; BOARD_NUMBERS], i: u64) -> Item
     Item::ShareLine(i / 16, i % 16, n as u64)
 }
 
-// How many entries a board's lines have (rule 1.9): its masters, its slaves, the pairs of a master and a slave.
+// The line `default` of a board that has it (rules 1.3, 1.11); Malformed where it has not.
+fn last_item(board: &[u32; BOARD_NUMBERS]) -> Item
+    ensures { λ x. ⌜ x ≡ lastItem (boardIn (now (board .entry)) .«default_line») ⌝ }
+{
+    if description_layout::default_at(board) {
+        return Item::DefaultLine;
+    }
+    Item::Malformed
+}
+
+// How many entries a board's lines have (rule 1.9): its masters, its slaves, the pairs of a master and a slave, the line `default`.
 pub fn entry_count(board: &[u32; BOARD_NUMBERS]) -> usize
     ensures { λ n. ⌜ n ≡ entryCount (boardIn (now (board .entry))) ⌝ }
 {
     let m = description_layout::master_count(board) as usize;
     let s = description_layout::slave_count(board) as usize;
-    m + s + 128
+    m + s + 129
 }
 
 // The line of entry k (rules 1.4, 1.9); Malformed, which no line of a board is, where there is none.
@@ -93,7 +103,10 @@ pub fn line_at(board: &[u32; BOARD_NUMBERS], k: usize) -> Item
     if k < n {
         return slave_item(board, k - m);
     }
-    pair_item(board, (k - n) as u64)
+    if k < n + 128 {
+        return pair_item(board, (k - n) as u64);
+    }
+    last_item(board)
 }
 
 // An entry of a board more (rule 8.5); one that has no line changes nothing.

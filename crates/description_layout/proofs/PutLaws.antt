@@ -13,8 +13,8 @@ use Rattle.common_laws.proofs.FrontLaws.{table-same}
 use Rattle.common_laws.proofs.SetsLaws.{five, two-sets, six-sets, Agree, five-same, sets-apart}
 use Rattle.common_laws.proofs.SetsLaws.{counted-apart, counted-inside, records-apart}
 use Rattle.description_board.specs.declared.Slave.{Slave}
-use Rattle.description_board.specs.Rules.{withMaster, withSlave}
-use Rattle.description_layout.specs.Layout.{slaveLength, sharesFrom, boardLength, masterFrom, slaveFrom, boardIn}
+use Rattle.description_board.specs.Rules.{withMaster, withSlave, withDefault}
+use Rattle.description_layout.specs.Layout.{slaveLength, sharesFrom, defaultAt, boardLength, masterFrom, slaveFrom, boardIn}
 use Rattle.description_layout.specs.Code.Puts.{withShareAt}
 
 -- where slave s begins
@@ -72,6 +72,7 @@ master-put l e w u n q h =
       table-same (λ i. getD y (sharesFrom + i) 0) (λ i. getD l (sharesFrom + i) 0) 128
           (λ i g.
           apart (sharesFrom + i) 1 (inl (omega arith)) (inr (omega arith)) (sharesFrom + i) (omega arith) (omega arith)),
+      apart defaultAt 1 (inl (omega arith)) (inr (omega arith)) defaultAt (omega arith) (omega arith),
     )
 
 -- the stores of the code, of the eight numbers of a slave
@@ -122,6 +123,7 @@ slave-put l e s n q h =
       table-same (λ i. getD y (sharesFrom + i) 0) (λ i. getD l (sharesFrom + i) 0) 128
           (λ i g.
           apart (sharesFrom + i) 1 (inl (omega arith)) (inr (omega arith)) (sharesFrom + i) (omega arith) (omega arith)),
+      apart defaultAt 1 (inl (omega arith)) (inr (omega arith)) defaultAt (omega arith) (omega arith),
     )
 
 -- one share
@@ -143,4 +145,23 @@ share-put l e i n h =
           (λ k d.
           apart (sharesFrom + k) 1 (⊎-elim (λ x. inl (omega arith)) (λ x. inr (omega arith)) (below-above k i d)) (sharesFrom + k)
           (omega arith) (omega arith)),
+      apart defaultAt 1 (inr (omega arith)) defaultAt (omega arith) (omega arith),
+    )
+
+-- the mark of the line `default`
+pub default-put : (l : List ℕ) → length l ≡ boardLength → boardIn (set l defaultAt 1) ≡ withDefault (boardIn l)
+unfolding boardIn withDefault
+default-put l e =
+    let m = set l defaultAt 1 in
+    let apart = sets-apart (1 ∷ []) l defaultAt in
+    rw (
+      apart 0 1 (inl (omega arith)) 0 (omega arith) (omega arith),
+      apart 1 1 (inl (omega arith)) 1 (omega arith) (omega arith),
+      table-same (λ k. masterFrom m (2 + 2 * k)) (λ k. masterFrom l (2 + 2 * k)) 8
+          (λ k g. master-same l m (2 + 2 * k) (apart (2 + 2 * k) 2 (inl (omega arith)))),
+      table-same (λ k. slaveFrom m (at k)) (λ k. slaveFrom l (at k)) 16
+          (λ k g. slave-same l m (at k) (apart (at k) slaveLength (inl (omega arith)))),
+      table-same (λ k. getD m (sharesFrom + k) 0) (λ k. getD l (sharesFrom + k) 0) 128
+          (λ k g. apart (sharesFrom + k) 1 (inl (omega arith)) (sharesFrom + k) (omega arith) (omega arith)),
+      getD-set-same l defaultAt 1 0 (rw e (omega arith)),
     )

@@ -1,28 +1,37 @@
--- A board as an array of 274 numbers, one u32 for each field (rule 1.10).
+-- A board as an array of 275 numbers, one u32 for each field (rule 1.10).
 -- Every list of numbers is read as a board: what is not there is 0, so that no call has to rule an array out.
 -- Assumes nothing.
+use mathlib.Core.Bool.{Bool, not}
 use mathlib.Core.List.{List}
 use Prim.Native.Nat.{ℕ, _+_, _*_}
+use lib.Dec.{eqb}
 use lib.ListN.{getD}
 use Rattle.common_laws.specs.Lists.{table}
 use Rattle.description_board.specs.declared.Master.{Master}
 use Rattle.description_board.specs.declared.Slave.{Slave}
 use Rattle.description_board.specs.declared.Board.{Board}
 
+-- rules 1.10, 2.4: a mark: 0 is no, every other number is yes
+abbrev pub marked : ℕ → Bool
+marked n = not (eqb n 0)
+
 -- rule 1.10: two numbers from index p on are a master
 unfoldable pub masterFrom : List ℕ → ℕ → Master
 masterFrom l p = record { width = getD l p 0; burst = getD l (p + 1) 0 }
 
--- rules 1.3, 1.10: how many numbers a slave has; where the shares begin, behind two counts, 8 masters and 16 slaves; how many
--- numbers a board has. The code has them as constants of common_numbers.
+-- rules 1.3, 1.10: how many numbers a slave has; where the shares begin, behind two counts, 8 masters and 16 slaves; where the mark of
+-- the line `default` stands; how many numbers a board has. The code has them as constants of common_numbers.
 abbrev pub slaveLength : ℕ
 slaveLength = 8
 
 abbrev pub sharesFrom : ℕ
 sharesFrom = 18 + 16 * slaveLength
 
+abbrev pub defaultAt : ℕ
+defaultAt = sharesFrom + 128
+
 abbrev pub boardLength : ℕ
-boardLength = sharesFrom + 128
+boardLength = defaultAt + 1
 
 -- rule 1.10: eight numbers from index p on are a slave
 unfoldable pub slaveFrom : List ℕ → ℕ → Slave
@@ -37,7 +46,8 @@ slaveFrom l p = record {
   latency = getD l (p + 7) 0;
 }
 
--- rule 1.10: the board in 274 numbers: its counts, 8 masters, 16 slaves, the shares of master m at slave s at 146 + 16 * m + s
+-- rule 1.10: the board in 275 numbers: its counts, 8 masters, 16 slaves, the shares of master m at slave s at 146 + 16 * m + s, the mark
+-- of the line `default`
 unfoldable pub boardIn : List ℕ → Board
 boardIn l = record {
   «master_count» = getD l 0 0;
@@ -45,4 +55,5 @@ boardIn l = record {
   masters = table (λ m. masterFrom l (2 + 2 * m)) 8;
   slaves = table (λ s. slaveFrom l (18 + slaveLength * s)) 16;
   shares = table (λ i. getD l (sharesFrom + i) 0) 128;
+  «default_line» = marked (getD l defaultAt 0);
 }

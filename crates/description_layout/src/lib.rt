@@ -1,6 +1,7 @@
-// A board in a lent array of 274 numbers (rule 1.10): each record is read and put at its index.
+// A board in a lent array of 275 numbers (rule 1.10): each record is read and put at its index.
 // specs/Layout.antt says what the numbers mean.
 use common_numbers::BOARD_NUMBERS;
+use common_numbers::DEFAULT_AT;
 use common_numbers::MASTER_NUMBERS;
 use common_numbers::MASTERS_FROM;
 use common_numbers::SHARES_FROM;
@@ -12,7 +13,7 @@ ghost use mathlib.Core.Path.{_≡_};
 ghost use Prim.Native.Nat.{_<_};
 ghost use lib.ListN.{getD, length, replicate};
 ghost use Rattle.description_board.specs.Records.{masterAt, slaveAt, sharesAt};
-ghost use Rattle.description_board.specs.Rules.{withMaster, withSlave};
+ghost use Rattle.description_board.specs.Rules.{withMaster, withSlave, withDefault};
 ghost use Rattle.description_layout.specs.Layout.{boardLength, boardIn};
 ghost use Rattle.description_layout.specs.Code.Puts.{withShareAt};
 
@@ -83,6 +84,13 @@ pub fn shares_at(board: &[u32; BOARD_NUMBERS], m: usize, s: usize) -> u32
     board[SHARES_FROM + (16 * m + s)]
 }
 
+// Whether the board has the line `default` (rules 1.10, 1.11).
+pub fn default_at(board: &[u32; BOARD_NUMBERS]) -> bool
+    ensures { λ r. ⌜ r ≡ boardIn (now (board .entry)) .«default_line» ⌝ }
+{
+    board[DEFAULT_AT] != 0
+}
+
 // One master more (rules 1.1, 1.10).
 pub fn put_master(board: &mut [u32; BOARD_NUMBERS], width: u32, burst: u32)
     requires { ⌜ boardIn (now board) .«master_count» < 8 ⌝ }
@@ -122,6 +130,14 @@ pub fn put_share_at(board: &mut [u32; BOARD_NUMBERS], i: usize, n: u32)
 {
     count(board);
     board[SHARES_FROM + i] = n;
+}
+
+// The line `default` (rules 1.10, 1.11).
+pub fn put_default(board: &mut [u32; BOARD_NUMBERS])
+    ensures { λ _. ⌜ boardIn (now (board .exit)) ≡ withDefault (boardIn (now (board .entry))) ⌝ }
+{
+    count(board);
+    board[DEFAULT_AT] = 1;
 }
 
 // A board's numbers, copied as they stand (rule 1.10).

@@ -10,7 +10,7 @@ use Rattle.common_laws.specs.Lists.{same}
 use Rattle.common_text.specs.Fields.{split, comma, lineFeed, mostNumbers, numbersOf}
 use Rattle.common_text.specs.declared.Numbers.{Numbers}
 use Rattle.description_board.specs.declared.Item.{Item}
-use Rattle.description_board.specs.declared.Item.the-variants.{Malformed, MasterLine, SlaveLine, ShareLine}
+use Rattle.description_board.specs.declared.Item.the-variants.{Malformed, MasterLine, SlaveLine, ShareLine, DefaultLine}
 
 -- rule 1.3: the word of a master line
 abbrev pub masterWord : List ℕ
@@ -23,6 +23,10 @@ slaveWord = bytesOf "slave"
 -- rule 1.3: the word of a share line
 abbrev pub shareWord : List ℕ
 shareWord = bytesOf "share"
+
+-- rule 1.3: the line `default`, which is its word alone
+abbrev pub defaultWord : List ℕ
+defaultWord = bytesOf "default"
 
 -- rule 1.3: number i of a line
 abbrev pub value : Numbers → ℕ → ℕ
@@ -64,7 +68,7 @@ itemOfFields (word ∷ fields) =
 
 -- rules 1.2, 1.3: what a line without its line feed says; an empty one is Malformed (rule 8.2)
 unfoldable pub itemOf : List ℕ → Item
-itemOf line = itemOfFields (split comma line)
+itemOf line = cond (same line defaultWord) DefaultLine (itemOfFields (split comma line))
 
 -- rules 1.2, 7.1, 8.2: what stands behind the last line feed: nothing, or a line that lacks its own
 unfoldable pub unended : List ℕ → List Item

@@ -76,6 +76,10 @@ fn item_of(line: &[u8]) -> Item
     if common_text::same(word, b"share") {
         return share_line(ns);
     }
+    // `default` has no field behind its word: the whole line is looked at
+    if common_text::same(line, b"default") {
+        return Item::DefaultLine;
+    }
     Item::Malformed
 }
 
@@ -138,6 +142,7 @@ pub fn put_item(out: &mut [u8], at: usize, x: Item) -> usize
             b"share",
             &[m, s, shares],
         ),
+        Item::DefaultLine => common_text::put_line(&mut *out, at, b"default", &[]),
     }
 }
 
@@ -153,5 +158,6 @@ pub fn item_length(x: Item) -> usize
             6 + common_text::fields_length(&numbers)
         }
         Item::ShareLine(m, s, shares) => 6 + common_text::fields_length(&[m, s, shares]),
+        Item::DefaultLine => 8,
     }
 }

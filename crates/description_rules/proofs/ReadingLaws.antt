@@ -8,11 +8,11 @@ use lib.Dec.{ltb}
 use lib.ListN.{replicate}
 use lib.Seq.{set-out}
 use Rattle.description_board.specs.declared.Item.{Item}
-use Rattle.description_board.specs.declared.Item.the-variants.{MasterLine, SlaveLine, ShareLine}
+use Rattle.description_board.specs.declared.Item.the-variants.{MasterLine, SlaveLine, ShareLine, DefaultLine}
 use Rattle.description_board.specs.declared.SlaveNumbers.{SlaveNumbers}
 use Rattle.description_board.specs.declared.Slave.{Slave}
-use Rattle.description_board.specs.Rules.{masterRefusal, slaveRefusal, pairRank, shareRefusal, itemRefusal, rankOf}
-use Rattle.description_board.specs.Rules.{withMaster, slaveOf, withSlave, withItem, refused, start, taken, step}
+use Rattle.description_board.specs.Rules.{masterRefusal, slaveRefusal, pairRank, shareRefusal, defaultRefusal, itemRefusal, rankOf}
+use Rattle.description_board.specs.Rules.{withMaster, slaveOf, withSlave, withDefault, withItem, refused, start, taken, step}
 use Rattle.description_board.proofs.StepAllLaws.{step-refused, step-taken}
 use Rattle.description_layout.specs.Layout.{boardLength, boardIn}
 use Rattle.description_layout.specs.Code.Puts.{withShareAt}
@@ -61,3 +61,8 @@ module _ (p : Progress) (l : List ℕ) where
   unfolding withShareAt
   share-past i j k none e h at far = share-added i j k l none e h at
       (rw (set-out (boardIn l .shares) (16 * i + j) k (omega (arith, shares-length l))))
+
+  pub default-added : (m : List ℕ) {n : ℕ} → p .number ≡ 0 → n ≡ defaultRefusal (boardIn l) → n ≡ 0
+      → boardIn m ≡ withDefault (boardIn l) → readingOf (record { number = 0; above = 0 }) m ≡ step (readingOf p l) DefaultLine
+  unfolding readingOf itemRefusal taken withItem rankOf
+  default-added m none e h b = rw b (step-taken (readingOf p l) DefaultLine none e h)

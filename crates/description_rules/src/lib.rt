@@ -12,7 +12,7 @@ ghost use mathlib.Core.Bool.{true};
 ghost use Prim.Native.Nat.{_+_, _*_};
 ghost use lib.Dec.{ltb};
 ghost use lib.ListN.{replicate};
-ghost use Rattle.description_board.specs.declared.Item.the-variants.{MasterLine, SlaveLine, ShareLine};
+ghost use Rattle.description_board.specs.declared.Item.the-variants.{MasterLine, SlaveLine, ShareLine, DefaultLine};
 ghost use Rattle.description_board.specs.Rules.{slaveValues, slaveOf, refused, start, step, finish};
 ghost use Rattle.description_layout.specs.Layout.{boardLength};
 ghost use Rattle.description_rules.specs.Code.Readings.{readingOf};
@@ -136,6 +136,22 @@ fn step_share(
     }
 }
 
+// The line `default` after lines of which none was refused (rule 7.2).
+fn step_default(board: &mut [u32; BOARD_NUMBERS], p: Progress) -> Progress
+    requires { ⌜ p .number ≡ 0 ⌝ }
+    ensures { λ r. ⌜ readingOf r (now (board .exit)) ≡ step (readingOf p (now (board .entry))) DefaultLine ⌝ }
+{
+    let number = refusals::default_refusal(board);
+    if number != 0 {
+        return refused(board, number);
+    }
+    description_layout::put_default(board);
+    Progress {
+        number: 0,
+        above: 0,
+    }
+}
+
 // One line more (rules 7.1 to 7.7, 7.19, 7.21, 8.2); a refusal stays.
 pub fn step(board: &mut [u32; BOARD_NUMBERS], p: Progress, x: Item) -> Progress
     ensures { λ r. ⌜ readingOf r (now (board .exit)) ≡ step (readingOf p (now (board .entry))) x ⌝ }
@@ -148,6 +164,7 @@ pub fn step(board: &mut [u32; BOARD_NUMBERS], p: Progress, x: Item) -> Progress
         Item::MasterLine(width, burst) => step_master(board, p, width, burst),
         Item::SlaveLine(n) => step_slave(board, p, n),
         Item::ShareLine(m, s, shares) => step_share(board, p, m, s, shares),
+        Item::DefaultLine => step_default(board, p),
     }
 }
 

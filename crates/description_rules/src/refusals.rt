@@ -27,7 +27,7 @@ ghost use lib.ListN.{take, getD};
 ghost use Rattle.common_laws.specs.Lists.{member};
 ghost use Rattle.description_board.specs.Records.{masterAt, slaveAt, totalSpan, memoryLength};
 ghost use Rattle.description_board.specs.Rules.{slaveValues, meets, overlaps, tooNarrow};
-ghost use Rattle.description_board.specs.Rules.{masterRefusal, slaveRefusal, pairRank, shareRefusal};
+ghost use Rattle.description_board.specs.Rules.{masterRefusal, slaveRefusal, pairRank, shareRefusal, defaultRefusal};
 ghost use Rattle.description_board.specs.Rules.{hasShare, withoutShare, endRefusal};
 ghost use Rattle.description_layout.specs.Layout.{boardIn};
 
@@ -145,13 +145,15 @@ pub fn master_refusal(board: &[u32; BOARD_NUMBERS], width: u64, burst: u64) -> u
     0
 }
 
-// What a slave line is refused for after lines of which the last was a share line or not, or 0 (rules 7.2 to 7.6).
+// What a slave line is refused for after lines of which the last was a share line or not, or 0 (rules 7.2 to 7.6). The board has the
+// line `default` only where that stands above.
 pub fn slave_refusal(board: &[u32; BOARD_NUMBERS], sharing: bool, n: SlaveNumbers) -> u32
     ensures { λ r. ⌜ r ≡ slaveRefusal (boardIn (now (board .entry))) sharing n ⌝ }
 {
     let masters = description_layout::master_count(board);
     let slaves = description_layout::slave_count(board);
-    if (masters == 0) | (sharing | (16 <= slaves)) {
+    let behind = description_layout::default_at(board);
+    if (masters == 0) | (sharing | (behind | (16 <= slaves))) {
         return BAD_ORDER;
     }
     if !slave_values(n) {
@@ -217,7 +219,8 @@ pub fn share_refusal(board: &[u32; BOARD_NUMBERS], above: u64, m: u64, s: u64, s
 {
     let masters = description_layout::master_count(board);
     let slaves = description_layout::slave_count(board);
-    if slaves == 0 {
+    let behind = description_layout::default_at(board);
+    if (slaves == 0) | behind {
         return BAD_ORDER;
     }
     if (shares < 1) | (MOST_SHARES < shares) {
@@ -237,6 +240,18 @@ pub fn share_refusal(board: &[u32; BOARD_NUMBERS], above: u64, m: u64, s: u64, s
     }
     if pair_rank(m, s) < above {
         return SHARE_ORDER;
+    }
+    0
+}
+
+// What the line `default` is refused for, or 0 (rule 7.2).
+pub fn default_refusal(board: &[u32; BOARD_NUMBERS]) -> u32
+    ensures { λ r. ⌜ r ≡ defaultRefusal (boardIn (now (board .entry))) ⌝ }
+{
+    let slaves = description_layout::slave_count(board);
+    let second = description_layout::default_at(board);
+    if (slaves == 0) | second {
+        return BAD_ORDER;
     }
     0
 }

@@ -11,7 +11,7 @@ use Rattle.description_board.specs.Rules.{masterRefusal, slaveRefusal, pairRank
 use Rattle.description_board.specs.Rules.{withMaster, withSlave, withShare, withItem, rankOf}
 use Rattle.description_board.specs.Rules.{refused, start, taken, step, stepAll, hasShare, withoutShare, endRefusal, finish}
 use Rattle.description_board.specs.Rules.{described}
-use Rattle.description_board.specs.Items.{masterItem, slaveItem, shareItem, items, boardRefusal}
+use Rattle.description_board.specs.Items.{masterItem, slaveItem, shareItem, defaultItem, items, boardRefusal}
 use Rattle.fabric_accesses.specs.Alignment.{ratio}
 use Rattle.wait_turns.specs.Waits.{longestAccess, singleAccess, mostBeats, single, serve, turn}
 use Rattle.wait_turns.specs.Waits.{otherTurn, turnsOf, quotedWait, serveOf}
@@ -23,8 +23,8 @@ pub largest-accepted : boardRefusal largest ≡ 0
 unfolding
     member gather table some firstFrom first noBoard isNative connected totalSpan startOf memoryLength slaveValues meets
     overlaps tooNarrow masterRefusal slaveRefusal pairRank shareRefusal itemRefusal withMaster withSlave withShare withItem rankOf
-    refused start taken step stepAll hasShare withoutShare endRefusal finish described masterItem slaveItem shareItem items
-    boardRefusal largestWith
+    refused start taken step stepAll hasShare withoutShare endRefusal finish described masterItem slaveItem shareItem defaultItem
+    items boardRefusal largestWith
 largest-accepted = refl
 
 pub largest-longest : length (tableText largest) ≡ longestTable

@@ -1,5 +1,6 @@
 -- How long a table can be (rule 5.9).
 -- Assumes nothing.
+use mathlib.Core.Bool.{false}
 use Prim.Native.Nat.{ℕ, _+_, _*_}
 use lib.ListN.{replicate}
 use Rattle.common_laws.specs.Lists.{table}
@@ -28,6 +29,7 @@ largestWith clocks = record {
     latency = clocks;
   }) 16;
   shares = replicate 128 100;
+  «default_line» = false;
 }
 
 abbrev pub largest : Board

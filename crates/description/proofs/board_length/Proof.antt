@@ -1,6 +1,6 @@
 -- `description::board_length` meets its contract.
 -- The loop's invariant: the sum is the length of the lines of the first k entries.
--- An accepted board has at most 152 entries, so that no sum wraps.
+-- An accepted board has at most 153 entries, so that no sum wraps.
 -- Assumes nothing.
 use mathlib.Core.Path.{_≡_, ap, refl, _∙_}
 use Prim.Native.Nat.{_-_, _≤_}

@@ -5,7 +5,7 @@ use mathlib.Core.List.{[], _∷_}
 use borrow.Author.Needs.{needs}
 use Rattle.description_board.proofs.Item.{the-type}
 use Rattle.description_board.specs.declared.Reading.{Reading}
-use Rattle.description_board.specs.declared.Item.the-variants.{Malformed, MasterLine, SlaveLine, ShareLine}
+use Rattle.description_board.specs.declared.Item.the-variants.{Malformed, MasterLine, SlaveLine, ShareLine, DefaultLine}
 use Rattle.description_board.specs.declared.Item.{Item}
 use Rattle.description_board.specs.Rules.{step, stepAll}
 use Rattle.description_check.specs.Code.Entries.{present}
@@ -19,12 +19,13 @@ no-line : (q : Reading) (x : Item) → x ≡ Malformed → q ≡ stepAll q (pres
 unfolding stepAll present
 no-line q x e = rw e
 
-a-line : (q : Reading) (x : Item) → OneOf (1 ∷ 2 ∷ 3 ∷ []) (tagOf the-type x) → step q x ≡ stepAll q (present x)
+a-line : (q : Reading) (x : Item) → OneOf (1 ∷ 2 ∷ 3 ∷ 4 ∷ []) (tagOf the-type x) → step q x ≡ stepAll q (present x)
 unfolding stepAll present
-a-line q Malformed h = absurd (miss (1 ∷ 2 ∷ 3 ∷ []) 0 tt h)
+a-line q Malformed h = absurd (miss (1 ∷ 2 ∷ 3 ∷ 4 ∷ []) 0 tt h)
 a-line q (MasterLine w u) h = refl
 a-line q (SlaveLine n) h = refl
 a-line q (ShareLine m s n) h = refl
+a-line q DefaultLine h = refl
 
 enum-told : tie.Need-enum-told
 enum-told c = search needs

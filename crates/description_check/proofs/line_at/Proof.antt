@@ -3,7 +3,7 @@
 use mathlib.Core.Path.{sym, _∙_}
 use native.Mathlib.Omega.{arith}
 use borrow.Author.Needs.{needs}
-use Rattle.description_check.proofs.EntryLaws.{at-master, slave-line, pair-line}
+use Rattle.description_check.proofs.EntryLaws.{at-master, slave-line, pair-line, last-line}
 use Rattle.description_layout.specs.Layout.{boardIn}
 use Rattle.description_check.proofs.line_at.Statement.{statement}
 use Rattle.description_check.proofs.line_at.Tie as tie
@@ -39,13 +39,25 @@ returns-2 c =
     slave-line _ _ _ _ (c .before .before .before .before .master-count .ensures)
     (c .before .before .before .slave-count .ensures) (omega arith) (omega arith) (c .slave-item .ensures)
 
+add-if3 : tie.Need-add-if3
+add-if3 c = search needs
+
 pair-item-requires : tie.Need-pair-item-requires
 pair-item-requires c κs = search needs
 
 returns-3 : tie.Need-returns-3
 returns-3 c =
-    pair-line _ _ _ _ (c .before .before .before .before .master-count .ensures)
-    (c .before .before .before .slave-count .ensures) (omega arith) (c .pair-item .ensures)
+    let read = c .before .before .before .before in
+    pair-line _ _ _ _ (read .before .master-count .ensures) (read .slave-count .ensures) (omega arith) (omega arith)
+    (c .pair-item .ensures)
+
+last-item-requires : tie.Need-last-item-requires
+last-item-requires c κs = search needs
+
+returns-4 : tie.Need-returns-4
+returns-4 c =
+    let read = c .before .before .before .before in
+    last-line _ _ _ _ (read .before .master-count .ensures) (read .slave-count .ensures) (omega arith) (c .last-item .ensures)
 
 pub line-at-spec : {M : Type 1} → statement M
 line-at-spec =
@@ -60,5 +72,8 @@ line-at-spec =
     add-n
     slave-item-requires
     returns-2
+    add-if3
     pair-item-requires
-    returns-3)
+    returns-3
+    last-item-requires
+    returns-4)

@@ -12,4 +12,5 @@ withShareAt b i n = record {
   masters = b .masters;
   slaves = b .slaves;
   shares = set (b .shares) i n;
+  «default_line» = b .«default_line»;
 }

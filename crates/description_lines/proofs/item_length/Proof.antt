@@ -1,10 +1,13 @@
 -- `description_lines::item_length` meets its contract, kind by kind. A line has few numbers, so that no sum wraps. Assumes
 -- nothing.
+use mathlib.Core.List.{[]}
+use mathlib.Core.Path.{refl}
 use native.Mathlib.Omega.{arith}
 use borrow.Author.Needs.{needs}
 use Rattle.common_laws.specs.Bytes.{bytesOf}
+use Rattle.common_text.specs.Digits.{fieldsText}
 use Rattle.description_lines.specs.Writer.{itemText}
-use Rattle.description_lines.specs.Reader.{masterWord, slaveWord, shareWord}
+use Rattle.description_lines.specs.Reader.{masterWord, slaveWord, shareWord, defaultWord}
 use Rattle.description_lines.proofs.WriteLaws.{line-counted, fields-fit}
 use Rattle.description_lines.proofs.item_length.Statement.{statement}
 use Rattle.description_lines.proofs.item_length.Tie as tie
@@ -51,6 +54,9 @@ fields-length-requires-3 c κs = search needs
 add-result-3 : tie.Need-add-result-3
 add-result-3 c = let h = fields-fit _ _ (c .fields-length3 .ensures) (search needs) in omega arith
 
+enum-told-2 : tie.Need-enum-told-2
+enum-told-2 c = search needs
+
 returns : tie.Need-returns
 unfolding itemText
 returns c = rw (c .enum-told .given .1)
@@ -68,6 +74,10 @@ returns-3 c = let f = c .before .before in
 returns-4 : tie.Need-returns-4
 unfolding itemText bytesOf
 returns-4 c = rw (c .before .before .before .x3 .given .1) (line-counted shareWord _ _ (c .fields-length3 .ensures))
+
+returns-5 : tie.Need-returns-5
+unfolding itemText bytesOf fieldsText
+returns-5 c = rw (c .enum-told2 .given .1) (line-counted defaultWord [] 0 refl)
 
 pub item-length-spec : {M : Type 1} → statement M
 item-length-spec =
@@ -87,7 +97,9 @@ item-length-spec =
     slice-aggregate-fields-length-3
     fields-length-requires-3
     add-result-3
+    enum-told-2
     returns
     returns-2
     returns-3
-    returns-4)
+    returns-4
+    returns-5)

@@ -1,10 +1,11 @@
--- `description_lines::item_of` meets its contract: the first word that the first field is, or none. Assumes nothing.
+-- `description_lines::item_of` meets its contract: the first word that the first field is, the line `default`, or none. Assumes
+-- nothing.
 use mathlib.Core.Path.{ap, sym, _∙_}
 use lib.Seq.{length-take-le}
 use borrow.Author.Needs.{needs}
 use Rattle.common_laws.specs.Bytes.{bytesOf}
 use Rattle.description_lines.specs.Reader.{masterLine, slaveLine, shareLine}
-use Rattle.description_lines.proofs.ReadLaws.{item-master, item-slave, item-share, item-unknown}
+use Rattle.description_lines.proofs.ReadLaws.{item-master, item-slave, item-share, item-default, item-unknown}
 use Rattle.description_lines.proofs.item_of.Statement.{statement}
 use Rattle.description_lines.proofs.item_of.Tie as tie
 
@@ -72,14 +73,31 @@ returns-3 c = let s = c .before .before .before .before in
     (item-share _ _ (f .find-byte .ensures) (m .before .same .ensures) (m .if1 .left) (s .before .same2 .ensures)
     (s .if2 .left) (c .before .before .same3 .ensures) (c .before .if3 .taken))
 
+slice-aggregate-same-4 : tie.Need-slice-aggregate-same-4
+slice-aggregate-same-4 c = search needs
+
+same-requires-4 : tie.Need-same-requires-4
+same-requires-4 c κs = search needs
+
 returns-4 : tie.Need-returns-4
 unfolding bytesOf
-returns-4 c = let s = c .before .before .before in
+returns-4 c = let h = c .before .before .before in
+    let s = h .before .before .before in
+    let m = s .before .before .before in
+    let f = m .before .before .before .before .before in
+    sym
+    (item-default _ _ (f .find-byte .ensures) (m .before .same .ensures) (m .if1 .left) (s .before .same2 .ensures)
+    (s .if2 .left) (h .before .same3 .ensures) (h .if3 .left) (c .before .same4 .ensures) (c .if4 .taken))
+
+returns-5 : tie.Need-returns-5
+unfolding bytesOf
+returns-5 c = let h = c .before .before .before in
+    let s = h .before .before .before in
     let m = s .before .before .before in
     let f = m .before .before .before .before .before in
     sym
     (item-unknown _ _ (f .find-byte .ensures) (m .before .same .ensures) (m .if1 .left) (s .before .same2 .ensures)
-    (s .if2 .left) (c .before .same3 .ensures) (c .if3 .left))
+    (s .if2 .left) (h .before .same3 .ensures) (h .if3 .left) (c .before .same4 .ensures) (c .if4 .left))
 
 pub item-of-spec : {M : Type 1} → statement M
 item-of-spec =
@@ -100,4 +118,7 @@ item-of-spec =
     same-requires-3
     share-line-requires
     returns-3
-    returns-4)
+    slice-aggregate-same-4
+    same-requires-4
+    returns-4
+    returns-5)

@@ -3,7 +3,7 @@ use mathlib.Core.Path.{refl}
 use borrow.Author.Needs.{needs}
 use Rattle.common_laws.specs.Bytes.{bytesOf}
 use Rattle.common_text.proofs.Puts.{put-none}
-use Rattle.description_lines.specs.Reader.{masterWord, slaveWord, shareWord}
+use Rattle.description_lines.specs.Reader.{masterWord, slaveWord, shareWord, defaultWord}
 use Rattle.description_lines.specs.Writer.{itemText}
 use Rattle.description_lines.proofs.WriteLaws.{line-room}
 use Rattle.description_lines.proofs.put_item.Statement.{statement}
@@ -59,6 +59,20 @@ unfolding itemText bytesOf
 put-line-requires-3 c κs = let k = c .before .before .before .before in
     line-room _ _ shareWord _ _ refl (rw (k .x3 .given .1) at (k .before .before .before .pre))
 
+enum-told-2 : tie.Need-enum-told-2
+enum-told-2 c = search needs
+
+slice-aggregate-put-line-7 : tie.Need-slice-aggregate-put-line-7
+slice-aggregate-put-line-7 c = search needs
+
+slice-aggregate-put-line-8 : tie.Need-slice-aggregate-put-line-8
+slice-aggregate-put-line-8 c = search needs
+
+put-line-requires-4 : tie.Need-put-line-requires-4
+unfolding itemText bytesOf
+put-line-requires-4 c κs = let k = c .before .before .before in
+    line-room _ _ defaultWord _ _ refl (rw (k .enum-told2 .given .1) at (k .before .before .before .pre))
+
 returns : tie.Need-returns
 unfolding itemText
 returns c = rw (c .enum-told .given .1) (put-none _ _)
@@ -90,6 +104,15 @@ returns-4 c = let p = c .before .before in
     let start = p .before .before .before .before .before in
     rw (start .x3 .given .1) (p .put-line3 .ensures)
 
+same-length-4 : tie.Need-same-length-4
+same-length-4 c = search needs
+
+returns-5 : tie.Need-returns-5
+unfolding itemText bytesOf
+returns-5 c = let p = c .before .before in
+    let start = p .before .before .before .before in
+    rw (start .enum-told2 .given .1) (p .put-line4 .ensures)
+
 pub put-item-spec : {M : Type 1} → statement M
 put-item-spec =
     tie.close
@@ -108,10 +131,16 @@ put-item-spec =
     slice-aggregate-put-line-5
     slice-aggregate-put-line-6
     put-line-requires-3
+    enum-told-2
+    slice-aggregate-put-line-7
+    slice-aggregate-put-line-8
+    put-line-requires-4
     returns
     same-length
     returns-2
     same-length-2
     returns-3
     same-length-3
-    returns-4)
+    returns-4
+    same-length-4
+    returns-5)

@@ -39,6 +39,12 @@ enum-known-x-3 c = search needs
 step-share-requires : tie.Need-step-share-requires
 step-share-requires c κs = search needs
 
+enum-told-2 : tie.Need-enum-told-2
+enum-told-2 c = search needs
+
+step-default-requires : tie.Need-step-default-requires
+step-default-requires c κs = search needs
+
 returns-2 : tie.Need-returns-2
 unfolding itemRefusal readingOf
 returns-2 c = rw (c .before .before .enum-told .given .1)
@@ -53,6 +59,9 @@ returns-4 c = rw (c .before .before .before .x2 .given .1) (c .step-slave .ensur
 returns-5 : tie.Need-returns-5
 returns-5 c = rw (c .before .before .before .x3 .given .1) (c .step-share .ensures)
 
+returns-6 : tie.Need-returns-6
+returns-6 c = rw (c .before .before .enum-told2 .given .1) (c .step-default .ensures)
+
 pub step-spec : {M : Type 1} → statement M
 step-spec =
     tie.close
@@ -66,7 +75,10 @@ step-spec =
     step-slave-requires
     enum-known-x-3
     step-share-requires
+    enum-told-2
+    step-default-requires
     returns-2
     returns-3
     returns-4
-    returns-5)
+    returns-5
+    returns-6)

@@ -1,11 +1,11 @@
 -- `description_rules::refusals::share_refusal` meets its contract. Each way out answers the definition's tests in their order.
 -- Assumes nothing.
 use mathlib.Core.Path.{_≡_}
-use mathlib.Core.Bool.{cond, _||_}
+use mathlib.Core.Bool.{Bool, true, false, cond, _||_}
 use Prim.Native.Nat.{ℕ, _≤_}
 use native.Mathlib.Omega.{arith}
-use lib.Dec.{leb, ltb}
-use borrow.Author.Tests.{eq-eqb, ne-eqb, le-leb, lt-leb, lt-ltb, le-ltb}
+use lib.Dec.{leb, ltb, eqb}
+use borrow.Author.Tests.{le-leb, lt-leb, lt-ltb, le-ltb}
 use borrow.Author.Needs.{needs}
 use Rattle.description_board.specs.declared.Board.{Board}
 use Rattle.description_board.specs.Rules.{tooNarrow, pairRank, shareRefusal}
@@ -17,7 +17,12 @@ use Rattle.description_rules.proofs.refusals.share_refusal.Tie as tie
 -- from behind the test of the share's value back to the start
 
 abbrev start : tie.Else2 → tie.Start
-start c = c .before .before .before .before
+start c = c .before .before .before .before .before
+
+-- the definition's test of the order, by the count and the mark that were read
+ordered : (b : Board) (slaves : ℕ) (behind test : Bool) → slaves ≡ b .«slave_count» → behind ≡ b .«default_line»
+    → (eqb slaves 0 || behind) ≡ test → (eqb (b .«slave_count») 0 || b .«default_line») ≡ test
+ordered b slaves behind test s d h = rw (← s, ← d) h
 
 -- the last tests of the definition
 abbrev last : Board → ℕ → ℕ → ℕ → ℕ
@@ -30,7 +35,10 @@ legal : (c : tie.Else2) → let a = start c .args in
     ≡ cond (leb (b .«master_count») (a .m) || (leb (b .«slave_count») (a .s) || ltb 0 (sharesAt b (a .m) (a .s)))) 7
     (last b (a .above) (a .m) (a .s))
 unfolding shareRefusal
-legal c = rw (← c .before .before .slave-count .ensures, ne-eqb _ _ (c .before .if1 .left), c .if2 .left)
+legal c =
+    let read = c .before .before in
+    let b = boardIn (start c .args .board .now) in
+    rw (ordered b _ _ false (read .before .slave-count .ensures) (read .default-at .ensures) (c .before .if1 .left), c .if2 .left)
 
 of-master : (c : tie.Else3) → let a = start (c .before) .args in
     let b = boardIn (a .board .now) in
@@ -38,12 +46,14 @@ of-master : (c : tie.Else3) → let a = start (c .before) .args in
     ≡ cond (leb (b .«slave_count») (a .s) || ltb 0 (sharesAt b (a .m) (a .s))) 7 (last b (a .above) (a .m) (a .s))
 of-master c =
     let valued = c .before in
-    rw (legal valued, ← valued .before .before .before .master-count .ensures, lt-leb _ _ (c .if3 .left))
+    rw (legal valued, ← valued .before .before .before .before .master-count .ensures, lt-leb _ _ (c .if3 .left))
 
 there : (c : tie.Else4) → let a = start (c .before .before) .args in
     let b = boardIn (a .board .now) in
     shareRefusal b (a .above) (a .m) (a .s) (a .shares) ≡ cond (ltb 0 (sharesAt b (a .m) (a .s))) 7 (last b (a .above) (a .m) (a .s))
-there c = rw (of-master (c .before), ← c .before .before .before .before .slave-count .ensures, lt-leb _ _ (c .if4 .left))
+there c =
+    let read = c .before .before .before .before in
+    rw (of-master (c .before), ← read .before .slave-count .ensures, lt-leb _ _ (c .if4 .left))
 
 master-count-requires : tie.Need-master-count-requires
 master-count-requires c κs = search needs
@@ -51,14 +61,25 @@ master-count-requires c κs = search needs
 slave-count-requires : tie.Need-slave-count-requires
 slave-count-requires c κs = search needs
 
+default-at-requires : tie.Need-default-at-requires
+default-at-requires c κs = search needs
+
 returns : tie.Need-returns
 unfolding shareRefusal
-returns c = (rw (← c .before .slave-count .ensures, eq-eqb _ _ (c .if1 .taken)), λ z. absurd (omega arith))
+returns c = (
+  rw (ordered (boardIn (c .before .before .before .before .args .board .now)) _ _ true (c .before .before .slave-count .ensures)
+      (c .before .default-at .ensures) (c .if1 .taken)),
+  λ z. absurd (omega arith),
+)
 
 returns-2 : tie.Need-returns-2
 unfolding shareRefusal
 returns-2 c = (
-  rw (← c .before .before .slave-count .ensures, ne-eqb _ _ (c .before .if1 .left), c .if2 .taken),
+  rw (
+    ordered (boardIn (c .before .before .before .before .before .args .board .now)) _ _ false
+        (c .before .before .before .slave-count .ensures) (c .before .before .default-at .ensures) (c .before .if1 .left),
+    c .if2 .taken,
+  ),
   λ z. absurd (omega arith),
 )
 
@@ -67,7 +88,7 @@ cast-if3 c = search needs
 
 returns-3 : tie.Need-returns-3
 returns-3 c = (
-  rw (legal (c .before), ← c .before .before .before .before .master-count .ensures, le-leb _ _ (c .if3 .taken)),
+  rw (legal (c .before), ← c .before .before .before .before .before .master-count .ensures, le-leb _ _ (c .if3 .taken)),
   λ z. absurd (omega arith),
 )
 
@@ -76,7 +97,7 @@ cast-if4 c = search needs
 
 returns-4 : tie.Need-returns-4
 returns-4 c = (
-  rw (of-master (c .before), ← c .before .before .before .before .slave-count .ensures, le-leb _ _ (c .if4 .taken)),
+  rw (of-master (c .before), ← c .before .before .before .before .before .slave-count .ensures, le-leb _ _ (c .if4 .taken)),
   λ z. absurd (omega arith),
 )
 
@@ -144,6 +165,7 @@ share-refusal-spec =
     (tie.spec
     master-count-requires
     slave-count-requires
+    default-at-requires
     returns
     returns-2
     cast-if3

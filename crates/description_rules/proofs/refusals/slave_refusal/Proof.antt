@@ -18,19 +18,21 @@ use Rattle.description_rules.proofs.refusals.slave_refusal.Tie as tie
 
 -- from behind the test of the values back to the start, and from the call of `overlaps` back to behind that test
 abbrev start : tie.Else2 → tie.Start
-start c = c .before .before .before .before .before
+start c = c .before .before .before .before .before .before
 
 abbrev valued : tie.After-struct-known3 → tie.Else2
 valued c = c .before .before .before .before
 
 -- the number of slaves, and the values, once they passed their tests
-room : (c : tie.Else1) → boardIn (c .before .before .before .args .board .now) .«slave_count» < 16
+room : (c : tie.Else1) → boardIn (c .before .before .before .before .args .board .now) .«slave_count» < 16
 room c =
-    let masters = c .before .before .master-count .result in
-    let slaves = c .before .slave-count .result in
+    let counted = c .before .before in
+    let masters = counted .before .master-count .result in
+    let slaves = counted .slave-count .result in
     let order = neither (eqb masters 0) _ (c .if1 .left) in
-    let l : slaves < 16 = leb-false 16 slaves (neither (c .before .before .before .args .sharing) _ (order .1) .1) in
-    omega (arith, c .before .slave-count .ensures)
+    let above = neither (counted .before .before .args .sharing) _ (order .1) in
+    let l : slaves < 16 = leb-false 16 slaves (neither (c .before .default-at .result) _ (above .1) .1) in
+    omega (arith, counted .slave-count .ensures)
 
 fits : (c : tie.Else2) → Values (start c .args .n)
 fits c = values-fit _ (sym (c .before .slave-values .ensures) ∙ not-false _ (c .if2 .left))
@@ -45,9 +47,11 @@ legal : (c : tie.Else2) → let a = start c .args in
 unfolding slaveRefusal
 legal c =
     let e = c .before .before .if1 .left in
+    let read = c .before .before .before in
     rw (
-      ← c .before .before .before .before .master-count .ensures,
-      ← c .before .before .before .slave-count .ensures,
+      ← read .before .before .master-count .ensures,
+      ← read .before .slave-count .ensures,
+      ← read .default-at .ensures,
       e,
       ← c .before .slave-values .ensures,
       c .if2 .left,
@@ -63,7 +67,7 @@ aligned c =
     rw (
       legal values,
       eq-eqb _ _ (c .before .before .before .if3 .left),
-      ← values .before .before .before .slave-count .ensures,
+      ← values .before .before .before .before .slave-count .ensures,
       ← c .overlaps .ensures,
     )
 
@@ -80,18 +84,27 @@ master-count-requires c κs = search needs
 slave-count-requires : tie.Need-slave-count-requires
 slave-count-requires c κs = search needs
 
+default-at-requires : tie.Need-default-at-requires
+default-at-requires c κs = search needs
+
 returns : tie.Need-returns
 unfolding slaveRefusal
-returns c = rw (← c .before .before .master-count .ensures, ← c .before .slave-count .ensures, c .if1 .taken)
+returns c = rw (
+  ← c .before .before .before .master-count .ensures,
+  ← c .before .before .slave-count .ensures,
+  ← c .before .default-at .ensures,
+  c .if1 .taken,
+)
 
 slave-values-requires : tie.Need-slave-values-requires
 slave-values-requires c κs = search needs
 
 returns-2 : tie.Need-returns-2
 unfolding slaveRefusal
-returns-2 c = rw (
-  ← c .before .before .before .before .master-count .ensures,
-  ← c .before .before .before .slave-count .ensures,
+returns-2 c = let read = c .before .before .before in rw (
+  ← read .before .before .master-count .ensures,
+  ← read .before .slave-count .ensures,
+  ← read .default-at .ensures,
   c .before .before .if1 .left,
   ← c .before .slave-values .ensures,
   c .if2 .taken,
@@ -130,13 +143,13 @@ total-span-requires c κs = let l = room (valued (c .before .before .before) .be
 returns-5 : tie.Need-returns-5
 returns-5 c =
     let clear = c .before .before .before in
-    let count = valued (clear .before .before) .before .before .before .slave-count in
+    let count = valued (clear .before .before) .before .before .before .before .slave-count in
     rw (apart clear, ← count .ensures, ← c .before .total-span .ensures, lt-ltb _ _ (c .if5 .taken))
 
 returns-6 : tie.Need-returns-6
 returns-6 c =
     let clear = c .before .before .before in
-    let count = valued (clear .before .before) .before .before .before .slave-count in
+    let count = valued (clear .before .before) .before .before .before .before .slave-count in
     rw (apart clear, ← count .ensures, ← c .before .total-span .ensures, le-ltb _ _ (c .if5 .left))
 
 pub slave-refusal-spec : {M : Type 1} → statement M
@@ -145,6 +158,7 @@ slave-refusal-spec =
     (tie.spec
     master-count-requires
     slave-count-requires
+    default-at-requires
     returns
     slave-values-requires
     returns-2
