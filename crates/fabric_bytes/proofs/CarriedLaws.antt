@@ -165,3 +165,9 @@ pub words-posted : (words : List ℕ) (k n : ℕ) (buffer : List ℕ)
 words-posted words k n buffer =
     move-same all all (bytesFrom words 0) (λ i. getD words i 0) (λ t. k + (0 + t)) (indexFrom k) 0 0 n buffer
     (λ i h. simp zero-add (refl, refl, refl))
+
+-- zeros, to the front of a part
+pub front-cleared : (k n : ℕ) (buffer : List ℕ)
+    → move all (λ t. 0) (λ t. k + (0 + t)) 0 n buffer ≡ move all (λ i. 0) (indexFrom k) 0 n buffer
+front-cleared k n buffer =
+    move-same all all (λ t. 0) (λ i. 0) (λ t. k + (0 + t)) (indexFrom k) 0 0 n buffer (λ i h. simp zero-add (refl, refl, refl))

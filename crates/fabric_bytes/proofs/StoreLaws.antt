@@ -1,29 +1,44 @@
 -- What a post and the accesses of a transfer do to the memory and the buffer.
 -- Assumes nothing.
-use mathlib.Core.Path.{_≡_, refl, ap}
+use mathlib.Core.Path.{_≡_, refl, sym, ap, _∙_}
 use mathlib.Core.Bool.{Bool, true, false, cond}
 use mathlib.Core.List.{List}
 use mathlib.Core.Logic.{⊎-elim, inl, inr, _≢_}
 use Prim.Native.Nat.{ℕ, _+_, _%_, _≤_, _<_}
 use native.Mathlib.Omega.{arith}
-use lib.ListN.{length, getD}
+use lib.ListN.{length, getD, replicate, length-replicate}
 use Rattle.common_laws.specs.Bits.{bit}
 use Rattle.common_laws.proofs.Tests.{both}
+use Rattle.common_laws.proofs.TableLaws.{getD-replicate-all}
+use Rattle.common_laws.proofs.FillLaws.{table-is}
 use Rattle.description_board.specs.declared.Master.{Master}
 use Rattle.description_board.specs.declared.Slave.{Slave}
 use Rattle.fabric_accesses.specs.declared.Transfer.{Transfer}
 use Rattle.fabric_accesses.specs.Alignment.{hasLane}
 use Rattle.fabric_bytes.specs.Moving.{all, bytesFrom, indexFrom, move}
-use Rattle.fabric_bytes.specs.Bytes.{Store, partOf, postedWords, memoryIndex, stores, byteRead}
+use Rattle.fabric_bytes.specs.Bytes.{Store, partOf, postedWords, clearedWords, memoryIndex, stores, byteRead}
 use Rattle.fabric_bytes.specs.Bytes.{written, fetched, carriedBytes, carriedAccess}
 use Rattle.fabric_bytes.proofs.MoveLaws.{length-move, move-join, less-or}
-use Rattle.fabric_bytes.proofs.Ranges.{Agree, agree-refl, Apart, Outside, move-apart, move-agree}
+use Rattle.fabric_bytes.proofs.Ranges.{Agree, agree-refl, Apart, Outside, move-apart, move-agree, front, front-moved}
 
 -- ---- a post
 
 pub length-posted : (m : ℕ) (words buffer : List ℕ) → length (postedWords m words buffer) ≡ length buffer
 unfolding postedWords
 length-posted m words buffer = length-move all (λ i. getD words i 0) (indexFrom (partOf m)) 0 (length words) buffer
+
+-- ---- zeros at the front of a part
+
+pub length-cleared : (m n : ℕ) (buffer : List ℕ) → length (clearedWords m n buffer) ≡ length buffer
+unfolding clearedWords
+length-cleared m n buffer = length-move all (λ i. 0) (indexFrom (partOf m)) 0 n buffer
+
+pub cleared-front : (m n : ℕ) (buffer : List ℕ) → partOf m + n ≤ length buffer
+    → front n (partOf m) (clearedWords m n buffer) ≡ replicate n 0
+unfolding clearedWords
+cleared-front m n buffer h =
+    front-moved (λ i. 0) (partOf m) n buffer h
+    ∙ sym (table-is (λ i. 0) n 0 (replicate n 0) (length-replicate n 0) (λ k l. getD-replicate-all n k 0))
 
 -- ---- bytes of a transfer
 
@@ -177,3 +192,11 @@ module _ (ma : Master) (sl : Slave) (t : Transfer) (m start : ℕ) where
 pub parts-apart : (m k first n : ℕ) → m ≢ k → first + n ≤ 512
     → Apart (partOf m + first) (partOf m + (first + n)) (partOf k) (partOf k + 512)
 parts-apart m k first n h l = ⊎-elim (λ (p : m < k). inl (omega arith)) (λ (p : k ≤ m). inr (omega (arith, h))) (less-or m k)
+
+-- zeros at the front of one leave the other
+pub cleared-apart : (m k n : ℕ) (buffer : List ℕ) → m ≢ k → n ≤ 512
+    → Agree (partOf k) (partOf k + 512) (clearedWords m n buffer) buffer
+unfolding clearedWords
+cleared-apart m k n buffer h l =
+    move-apart all (λ i. 0) (indexFrom (partOf m)) 0 n (partOf k) (partOf k + 512) buffer
+    (λ i p q on. ⊎-elim (λ r. inl (omega arith)) (λ r. inr (omega arith)) (parts-apart m k 0 n h (omega arith)))

@@ -1,4 +1,4 @@
--- Memory and buffer: the bytes that a post and an access move (rules 2.1 to 2.3, 3.2, 4.11).
+-- Memory and buffer: the bytes that a post, an access and an unmapped read move (rules 2.1 to 2.3, 3.2, 4.11, 4.17).
 -- Assumes nothing.
 use mathlib.Core.Bool.{Bool, cond, _&&_}
 use mathlib.Core.List.{List}
@@ -28,6 +28,10 @@ partOf m = 512 * m
 -- rule 3.2: the buffer with the words of a post at the front of the part of master m
 unfoldable pub postedWords : ℕ → List ℕ → List ℕ → List ℕ
 postedWords m words buffer = move all (λ i. getD words i 0) (indexFrom (partOf m)) 0 (length words) buffer
+
+-- rule 4.17: the buffer with n bytes at the front of the part of master m cleared
+unfoldable pub clearedWords : ℕ → ℕ → List ℕ → List ℕ
+clearedWords m n buffer = move all (λ i. 0) (indexFrom (partOf m)) 0 n buffer
 
 -- rules 2.1, 6.8: the index in the memory of byte i of the transfer t, for a slave whose span starts at `start`
 unfoldable pub memoryIndex : Master → Slave → Transfer → ℕ → ℕ → ℕ

@@ -1,4 +1,4 @@
-// The bytes of a post and of an access (rules 3.2, 4.11).
+// The bytes of a post, of an access and of an unmapped read (rules 3.2, 4.11, 4.17).
 // The functions that move bytes are lent their master's part of the buffer alone (rule 2.2).
 use common_numbers::PART_BYTES;
 use description_board::Master;
@@ -9,7 +9,7 @@ ghost use Prim.Native.Nat.{_+_, _≤_, _<_};
 ghost use lib.ListN.{length, getD};
 ghost use Rattle.common_laws.specs.Bits.{bit};
 ghost use Rattle.fabric_bytes.specs.Moving.{all, bytesFrom, indexFrom, move};
-ghost use Rattle.fabric_bytes.specs.Bytes.{bufferLength, partOf, postedWords, carriedAccess};
+ghost use Rattle.fabric_bytes.specs.Bytes.{bufferLength, partOf, postedWords, clearedWords, carriedAccess};
 ghost use Rattle.fabric_bytes.specs.Code.Reaching.{Reached};
 
 // So many bytes of the source from index `from` on go to index `at` of the part and behind it (rule 3.2): the words of a post, or
@@ -47,6 +47,16 @@ pub fn post_words(buffer: &mut [u8], m: usize, words: &[u8])
     let end = start + PART_BYTES;
     let count = words.len();
     store_words(words, 0, &mut buffer[start..end], 0, count);
+}
+
+// So many bytes at the front of the part of master m become 0 (rules 2.2, 4.17).
+pub fn clear_front(buffer: &mut [u8], m: usize, count: usize)
+    requires { ⌜ (length (now buffer) ≡ bufferLength) × (m < 8) × (count ≤ 512) ⌝ }
+    ensures { λ r. ⌜ now (buffer .exit) ≡ clearedWords m count (now (buffer .entry)) ⌝ }
+{
+    let start = PART_BYTES * m;
+    let end = start + PART_BYTES;
+    clear_words(&mut buffer[start..end], 0, count);
 }
 
 // The bytes of a read access of master m that the slave has lanes for (rules 2.2, 3.2, 3.5).

@@ -65,18 +65,13 @@ module _ (b : Board) (m : ℕ) (t : Transfer) (late : ℕ) (before : List ℕ) w
   abbrev passes : Bool
   passes = eqb (transferRefusal b m t) 0 && leb late (latencyAt b m t)
 
-  -- the latency is asked of a transfer that is not refused
-  fits : {number latency : ℕ} → number ≡ transferRefusal b m t → (transferRefusal b m t ≡ 0 → latency ≡ latencyAt b m t)
+  fits : {number latency : ℕ} → number ≡ transferRefusal b m t → latency ≡ latencyAt b m t
       → (eqb number 0 && leb late latency) ≡ passes
-  fits {number} {latency} f g = rw f (go (eqb (transferRefusal b m t) 0) refl)
-    where
-      go : (c : Bool) → eqb (transferRefusal b m t) 0 ≡ c → (c && leb late latency) ≡ (c && leb late (latencyAt b m t))
-      go true q = ap (leb late) (g (eqb-true (transferRefusal b m t) 0 q))
-      go false q = refl
+  fits f g = rw (f, g)
 
   pub held-ours : {masters target number latency : ℕ} → t .held ≡ true → masters ≡ b .«master_count» → m < masters
       → target ≡ targetOf b m (t .address) → number ≡ transferRefusal b m t
-      → (transferRefusal b m t ≡ 0 → latency ≡ latencyAt b m t)
+      → latency ≡ latencyAt b m t
       → Held b m t late (eqb number 0 && leb late latency) before (set before m target)
   unfolding soundHeld heldTarget
   held-ours on em h e f g = record {

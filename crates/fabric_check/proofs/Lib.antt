@@ -1,3 +1,4 @@
 pub mod TargetLaws
+pub mod UnmappedMask
 pub mod RefusalLaws
 pub mod CheckLaws

@@ -18,10 +18,22 @@ ghost use Rattle.fabric_accesses.specs.Code.Numbers.{Posted};
 ghost use Rattle.fabric_state.specs.Soundness.{soundTransfer, soundSlotBy, soundSlot, sound};
 ghost use Rattle.description_layout.specs.Layout.{boardIn};
 ghost use Rattle.fabric_layout.specs.Layout.{stateIn};
-ghost use Rattle.fabric_check.specs.Code.Checks.{Held, Answered, Decoded, Preconditions};
+ghost use Rattle.fabric_check.specs.Code.Checks.{latencyBy, Held, Answered, Decoded, Preconditions};
+ghost use Rattle.fabric_check.specs.Code.Targets.{unmappedMask};
 pub use transfers::request_masks;
 pub use transfers::transfer_refusal;
 pub use transfers::weight_of;
+
+// The latency of the transfer t at the slave of this number, which is the count of slaves where the transfer is unmapped: that has
+// none (rules 4.16, 4.17).
+fn latency_by(sl: Slave, t: Transfer, target: u32, count: u32) -> u32
+    ensures { λ r. ⌜ r ≡ latencyBy sl t target count ⌝ }
+{
+    if target == count {
+        return 0;
+    }
+    fabric_accesses::latency_of(sl, t)
+}
 
 // Whether the transfer t of master m breaks no rule with so many latency clocks to pass (rule 7.9); where it breaks none, the slave
 // that it is for is left in `targets`. The rules ask for that slave and so does the call that follows: an address is decoded once.
@@ -43,8 +55,9 @@ fn held_at(
             // the number of slaves can be 16: what stands for no slave is looked up, and not used
             let sl = description_layout::slave_at(board, (target % 16) as usize);
             let ma = description_layout::master_at(board, m);
-            let number = transfers::transfer_refusal_by(ma, sl, t, target, count);
-            return (number == 0) & (late <= fabric_accesses::latency_of(sl, t));
+            let default = description_layout::default_at(board);
+            let number = transfers::transfer_refusal_by(ma, sl, t, target, count, default);
+            return (number == 0) & (late <= latency_by(sl, t, target, count));
         }
         return false;
     }
@@ -140,9 +153,37 @@ fn sound(
         (sound (boardIn (now (board .entry))) (stateIn (now (st .entry)))) r (now (targets .exit)) ⌝ }
 {
     if sound_transfers(board, st, targets) {
-        return sound_slots(board, st, targets);
+        if sound_slots(board, st, targets) {
+            return fabric_layout::log_count(st) <= 8;
+        }
+        return false;
     }
     false
+}
+
+// The masters that hold an unmapped transfer (rule 4.17): bit m for master m. Without the line `default` there is none in a state that
+// breaks no rule, and no master is looked at.
+pub fn unmapped_mask(
+    board: &[u32; BOARD_NUMBERS],
+    st: &[u32; STATE_NUMBERS],
+    targets: &[u32; MASTERS],
+) -> u32
+    requires { ⌜ Decoded (boardIn (now board)) (stateIn (now st)) (now targets) ⌝ }
+    ensures { λ r. ⌜ r ≡ unmappedMask (boardIn (now (board .entry))) (stateIn (now (st .entry))) ⌝ }
+{
+    if !description_layout::default_at(board) {
+        return 0;
+    }
+    let count = description_layout::slave_count(board);
+    let mut mask: u32 = 0;
+    let mut m: u32 = 0;
+    while m < 8 {
+        let t = fabric_layout::transfer_at(st, m as usize);
+        let target = targets[m as usize];
+        mask += transfers::weight_of(t.held & (target == count), m);
+        m += 1;
+    }
+    mask
 }
 
 // What a call finds of a board and a state before it acts: the board's refusal, or 0 (rule 8.5); where it is 0, whether the state

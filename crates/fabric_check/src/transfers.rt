@@ -1,4 +1,4 @@
-// Transfers: which slave each is for, who requests a slave, and what a transfer is refused for (rules 3.6, 4.3, 7.13 to 7.17).
+// Transfers: which slave each is for, who requests a slave, and what a transfer is refused for (rules 3.6, 3.7, 4.3, 7.13 to 7.17).
 // Tests are joined by & and |, not by && and ||: each part is safe by itself, and a proof meets the whole as one test.
 use common_numbers::BAD_ADDRESS;
 use common_numbers::BAD_BEATS;
@@ -69,11 +69,26 @@ pub fn request_masks(targets: &[u32; MASTERS], out: &mut [u32; SLAVES])
     }
 }
 
-// What a transfer is refused for (rules 7.13 to 7.17), or 0: of the master, the slave that it is for, that slave's number, or the
-// count of slaves where it is for none. A width is a power of two, so that a mask leaves what is over a multiple of it.
-pub fn transfer_refusal_by(ma: Master, sl: Slave, t: Transfer, target: u32, count: u32) -> u32
+// What an unmapped transfer is refused for, or 0 (rules 3.7, 7.16).
+fn unmapped_number(default: bool) -> u32
+    ensures { λ r. ⌜ r ≡ cond default 0 16 ⌝ }
+{
+    if default { 0 } else { NOT_CONNECTED }
+}
+
+// What a transfer is refused for (rules 3.7, 7.13 to 7.17), or 0: of the master, the slave that it is for, that slave's number, or the
+// count of slaves where it is for none, and whether the board has the line `default`. A width is a power of two, so that a mask leaves
+// what is over a multiple of it.
+pub fn transfer_refusal_by(
+    ma: Master,
+    sl: Slave,
+    t: Transfer,
+    target: u32,
+    count: u32,
+    default: bool,
+) -> u32
     requires { ⌜ member (ma .width) widths ≡ true ⌝ }
-    ensures { λ r. ⌜ r ≡ transferRefusalBy ma sl t target count ⌝ }
+    ensures { λ r. ⌜ r ≡ transferRefusalBy ma sl t target count default ⌝ }
 {
     if (t.beats == 0) | (ma.burst < t.beats) {
         return BAD_BEATS;
@@ -85,7 +100,7 @@ pub fn transfer_refusal_by(ma: Master, sl: Slave, t: Transfer, target: u32, coun
         return BAD_LANES;
     }
     if target == count {
-        return NOT_CONNECTED;
+        return unmapped_number(default);
     }
     // an end can pass the last address, so it is a u64
     let bytes = t.beats as u64 * ma.width as u64;
@@ -104,5 +119,6 @@ pub fn transfer_refusal(board: &[u32; BOARD_NUMBERS], m: usize, t: Transfer) -> 
     // the number of slaves can be 16: what stands for no slave is looked up, and not used
     let sl = description_layout::slave_at(board, (at % 16) as usize);
     let ma = description_layout::master_at(board, m);
-    transfer_refusal_by(ma, sl, t, at, description_layout::slave_count(board))
+    let count = description_layout::slave_count(board);
+    transfer_refusal_by(ma, sl, t, at, count, description_layout::default_at(board))
 }

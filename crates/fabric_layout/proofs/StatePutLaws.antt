@@ -14,12 +14,14 @@ use Rattle.common_laws.proofs.FrontLaws.{table-same}
 use Rattle.fabric_accesses.specs.declared.Transfer.{Transfer}
 use Rattle.fabric_accesses.specs.Accesses.{noTransfer}
 use Rattle.fabric_state.specs.declared.Slot.{Slot}
+use Rattle.fabric_state.specs.declared.Log.{Log}
 use Rattle.fabric_state.specs.declared.State.{State}
 use Rattle.fabric_state.specs.declared.Line.{Line}
-use Rattle.fabric_state.specs.Records.{noSlot, noLine, transferAt, slotAt, lateAt}
+use Rattle.fabric_state.specs.Records.{noSlot, noLine, noLog, transferAt, slotAt, lateAt}
 use Rattle.fabric_state.specs.Posting.{withTransfer}
+use Rattle.fabric_state.specs.Logging.{withLog}
 use Rattle.fabric_state.specs.Resetting.{resetState}
-use Rattle.fabric_layout.specs.Layout.{stateIn, transferFrom, slotFrom, lineFrom, linesIn}
+use Rattle.fabric_layout.specs.Layout.{stateIn, transferFrom, slotFrom, entryFrom, logFrom, lineFrom, linesIn}
 use Rattle.fabric_layout.specs.Code.Puts.{withSlot, withLate, firstLines, resetSlot}
 
 module _ (l : List ℕ) where
@@ -34,6 +36,10 @@ module _ (l : List ℕ) where
   pub lates-length : length (stateIn l .late) ≡ 8
   unfolding stateIn
   lates-length = length-table (λ m. getD l (120 + m) 0) 8
+
+  pub entries-length : length (stateIn l .log .entries) ≡ 8
+  unfolding stateIn logFrom
+  entries-length = length-table (λ i. entryFrom l (130 + 3 * i)) 8
 
   pub lines-length : length (linesIn l) ≡ 16
   unfolding linesIn
@@ -116,6 +122,34 @@ module _ (u v : State) where
   unfolding withLate
   transfers-late m n e = ap (λ (y : State). y .transfers) e
 
+  pub log-held : (m : ℕ) (t : Transfer) → u ≡ withTransfer v m t → u .log ≡ v .log
+  unfolding withTransfer
+  log-held m t e = ap (λ (y : State). y .log) e
+
+  pub log-left : (s : ℕ) (x : Slot) → u ≡ withSlot v s x → u .log ≡ v .log
+  unfolding withSlot
+  log-left s x e = ap (λ (y : State). y .log) e
+
+  pub log-late : (m n : ℕ) → u ≡ withLate v m n → u .log ≡ v .log
+  unfolding withLate
+  log-late m n e = ap (λ (y : State). y .log) e
+
+  pub log-put : (x : Log) → u ≡ withLog v x → u .log ≡ x
+  unfolding withLog
+  log-put x e = ap (λ (y : State). y .log) e
+
+  pub transfers-logged : (x : Log) → u ≡ withLog v x → u .transfers ≡ v .transfers
+  unfolding withLog
+  transfers-logged x e = ap (λ (y : State). y .transfers) e
+
+  pub slots-logged : (x : Log) → u ≡ withLog v x → u .slots ≡ v .slots
+  unfolding withLog
+  slots-logged x e = ap (λ (y : State). y .slots) e
+
+  pub lates-logged : (x : Log) → u ≡ withLog v x → u .late ≡ v .late
+  unfolding withLog
+  lates-logged x e = ap (λ (y : State). y .late) e
+
 -- ---- a reset
 
 pub idle-all : {l : List Transfer} → l ≡ table (λ k. noTransfer) 8 → l ≡ replicate 8 noTransfer
@@ -127,9 +161,9 @@ unfolding table gather
 none-late e = e
 
 pub reset-end : (u : State) (owner n : ℕ) → u .transfers ≡ replicate 8 noTransfer → u .slots ≡ table (resetSlot owner n) 16
-    → u .late ≡ replicate 8 0 → u ≡ resetState owner n
+    → u .late ≡ replicate 8 0 → u .log ≡ noLog → u ≡ resetState owner n
 unfolding resetState resetSlot
-reset-end u owner n t s l = rw (← t, ← s, ← l) refl
+reset-end u owner n t s l g = rw (← t, ← s, ← l, ← g) refl
 
 pub fresh-owned : (owner n s : ℕ) → s < n
     → _≡_ {A = Slot} (record { owner = owner; remaining = 0; serving = Bool.false; done = 0; waited = 0 }) (resetSlot owner n s)

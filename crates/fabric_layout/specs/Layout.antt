@@ -2,20 +2,17 @@
 -- Every array of numbers is a state, or lines: what the numbers mean is said for each of them, and the rules refuse what is out
 -- of range.
 -- Assumes nothing.
-use mathlib.Core.Bool.{Bool, not}
 use mathlib.Core.List.{List}
 use Prim.Native.Nat.{ℕ, _+_, _*_}
-use lib.Dec.{eqb}
 use lib.ListN.{getD}
 use Rattle.common_laws.specs.Lists.{table}
+use Rattle.description_layout.specs.Layout.{marked}
 use Rattle.fabric_accesses.specs.declared.Transfer.{Transfer}
 use Rattle.fabric_state.specs.declared.Slot.{Slot}
+use Rattle.fabric_state.specs.declared.Entry.{Entry}
+use Rattle.fabric_state.specs.declared.Log.{Log}
 use Rattle.fabric_state.specs.declared.State.{State}
 use Rattle.fabric_state.specs.declared.Line.{Line}
-
--- rule 2.4: a mark: 0 is no, every other number is yes
-abbrev pub marked : ℕ → Bool
-marked n = not (eqb n 0)
 
 -- rule 2.4: five numbers from index p on are a transfer
 unfoldable pub transferFrom : List ℕ → ℕ → Transfer
@@ -37,12 +34,25 @@ slotFrom l p = record {
   waited = getD l (p + 4) 0;
 }
 
--- rule 2.4: the state in 128 numbers: 8 transfers, then 16 slots, then 8 masters' latency clocks to pass
+-- rule 2.4: three numbers from index p on are an entry of the log
+unfoldable pub entryFrom : List ℕ → ℕ → Entry
+entryFrom l p = record { master = getD l p 0; address = getD l (p + 1) 0; write = marked (getD l (p + 2) 0) }
+
+-- rule 2.4: 26 numbers from index p on are the log: its count, its lost mark, 8 entries
+unfoldable pub logFrom : List ℕ → ℕ → Log
+logFrom l p = record {
+  count = getD l p 0;
+  lost = marked (getD l (p + 1) 0);
+  entries = table (λ i. entryFrom l (p + 2 + 3 * i)) 8;
+}
+
+-- rule 2.4: the state in 154 numbers: 8 transfers, then 16 slots, then 8 masters' latency clocks to pass, then the log
 unfoldable pub stateIn : List ℕ → State
 stateIn l = record {
   transfers = table (λ m. transferFrom l (5 * m)) 8;
   slots = table (λ s. slotFrom l (40 + 5 * s)) 16;
   late = table (λ m. getD l (120 + m) 0) 8;
+  log = logFrom l 128;
 }
 
 -- rule 4.13: six numbers from index p on are a clock's line

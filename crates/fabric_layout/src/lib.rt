@@ -1,27 +1,38 @@
-// A state and a clock's lines in lent arrays of numbers (rules 2.4, 4.13): each record is read and put at its index.
+// A state, a clock's responses and its lines in lent arrays of numbers (rules 2.4, 4.13): each record is read and put at its index.
+use common_numbers::DECODE_ERROR;
+use common_numbers::ENTRIES_FROM;
+use common_numbers::ENTRY_NUMBERS;
 use common_numbers::LATE_FROM;
 use common_numbers::LINE_FIELDS;
 use common_numbers::LINES_NUMBERS;
+use common_numbers::LOG_FROM;
+use common_numbers::LOST_AT;
+use common_numbers::MASTERS;
+use common_numbers::OKAY;
 use common_numbers::SLOT_NUMBERS;
 use common_numbers::SLOTS_FROM;
 use common_numbers::STATE_NUMBERS;
 use common_numbers::TRANSFER_NUMBERS;
 use fabric_accesses::NO_TRANSFER;
 use fabric_accesses::Transfer;
+use fabric_state::Entry;
 use fabric_state::Line;
+use fabric_state::NO_ENTRY;
 use fabric_state::NO_LINE;
 use fabric_state::NO_SLOT;
 use fabric_state::Slot;
 ghost use mathlib.Core.Path.{_≡_};
 ghost use mathlib.Core.Bool.{cond};
-ghost use Prim.Native.Nat.{_<_};
+ghost use mathlib.Core.Logic.{_≢_};
+ghost use Prim.Native.Nat.{_+_, _≤_, _<_};
 ghost use lib.ListN.{set, replicate};
 ghost use Rattle.fabric_accesses.specs.Accesses.{noTransfer};
-ghost use Rattle.fabric_state.specs.Records.{transferAt, slotAt, lateAt};
+ghost use Rattle.fabric_state.specs.Records.{noLog, transferAt, slotAt, lateAt, entryAt};
+ghost use Rattle.fabric_state.specs.Logging.{entered, withoutOldest, withLog};
 ghost use Rattle.fabric_state.specs.Posting.{withTransfer};
 ghost use Rattle.fabric_state.specs.Resetting.{resetState};
 ghost use Rattle.fabric_layout.specs.Layout.{stateIn, linesIn};
-ghost use Rattle.fabric_layout.specs.Code.Puts.{withSlot, withLate, firstLines, resetSlot};
+ghost use Rattle.fabric_layout.specs.Code.Puts.{withSlot, withLate, withEntry, responsesFor, firstLines, resetSlot};
 
 // The number of a mark (rule 2.4).
 fn mark_of(b: bool) -> u32
@@ -113,6 +124,120 @@ pub fn put_late(st: &mut [u32; STATE_NUMBERS], m: usize, n: u32)
     st[LATE_FROM + m] = n;
 }
 
+// How many entries the log has (rules 2.4, 4.18).
+pub fn log_count(st: &[u32; STATE_NUMBERS]) -> u32
+    ensures { λ r. ⌜ r ≡ stateIn (now (st .entry)) .log .count ⌝ }
+{
+    st[LOG_FROM]
+}
+
+// Entry i of the log (rules 2.4, 4.18).
+pub fn entry_at(st: &[u32; STATE_NUMBERS], i: usize) -> Entry
+    requires { ⌜ i < 8 ⌝ }
+    ensures { λ r. ⌜ r ≡ entryAt (stateIn (now (st .entry)) .log) i ⌝ }
+{
+    let p = ENTRIES_FROM + ENTRY_NUMBERS * i;
+    Entry {
+        master: st[p],
+        address: st[p + 1],
+        write: st[p + 2] != 0,
+    }
+}
+
+// Entry i of the log becomes e (rules 2.4, 4.18).
+fn put_entry(st: &mut [u32; STATE_NUMBERS], i: usize, e: Entry)
+    requires { ⌜ i < 8 ⌝ }
+    ensures { λ _. ⌜ stateIn (now (st .exit)) ≡ withEntry (stateIn (now (st .entry))) i e ⌝ }
+{
+    description_layout::count(st);
+    let p = ENTRIES_FROM + ENTRY_NUMBERS * i;
+    st[p] = e.master;
+    st[p + 1] = e.address;
+    st[p + 2] = mark_of(e.write);
+}
+
+// An unmapped transfer enters the log; where eight stand it is dropped, and the lost mark is set (rule 4.18).
+pub fn enter(st: &mut [u32; STATE_NUMBERS], e: Entry)
+    requires { ⌜ stateIn (now st) .log .count ≤ 8 ⌝ }
+    ensures { λ _. ⌜ stateIn (now (st .exit))
+        ≡ withLog (stateIn (now (st .entry))) (entered (stateIn (now (st .entry)) .log) e) ⌝ }
+{
+    description_layout::count(st);
+    let n = log_count(st);
+    if n < 8 {
+        st[LOG_FROM] = n + 1;
+        put_entry(st, n as usize, e);
+        return;
+    }
+    st[LOST_AT] = 1;
+}
+
+// Entry i of the log becomes the one behind it, number for number (rule 4.19).
+fn move_entry(st: &mut [u32; STATE_NUMBERS], i: usize)
+    requires { ⌜ i < 7 ⌝ }
+    ensures { λ _. ⌜ stateIn (now (st .exit))
+        ≡ withEntry (stateIn (now (st .entry))) i (entryAt (stateIn (now (st .entry)) .log) (i + 1)) ⌝ }
+{
+    description_layout::count(st);
+    let p = ENTRIES_FROM + ENTRY_NUMBERS * i;
+    let q = p + ENTRY_NUMBERS;
+    let master = st[q];
+    let address = st[q + 1];
+    let write = st[q + 2];
+    st[p] = master;
+    st[p + 1] = address;
+    st[p + 2] = write;
+}
+
+// The log's count is one fewer, every entry moves one place down, and the last place becomes 0 (rule 4.19).
+pub fn remove_oldest(st: &mut [u32; STATE_NUMBERS])
+    requires { ⌜ stateIn (now st) .log .count ≢ 0 ⌝ }
+    ensures { λ _. ⌜ stateIn (now (st .exit))
+        ≡ withLog (stateIn (now (st .entry))) (withoutOldest (stateIn (now (st .entry)) .log)) ⌝ }
+{
+    description_layout::count(st);
+    st[LOG_FROM] = log_count(st) - 1;
+    let mut i: usize = 0;
+    while i < 7 {
+        move_entry(st, i);
+        i += 1;
+    }
+    put_entry(st, 7, NO_ENTRY);
+}
+
+// The log is empty, and none is lost (rule 4.2).
+fn clear_log(st: &mut [u32; STATE_NUMBERS])
+    ensures { λ _. ⌜ stateIn (now (st .exit)) ≡ withLog (stateIn (now (st .entry))) noLog ⌝ }
+{
+    description_layout::count(st);
+    st[LOG_FROM] = 0;
+    st[LOST_AT] = 0;
+    let mut i: usize = 0;
+    while i < 8 {
+        put_entry(st, i, NO_ENTRY);
+        i += 1;
+    }
+}
+
+// The response of a master, by whether it has an unmapped transfer (rules 4.13, 4.17).
+fn response_for(on: bool) -> u32
+    ensures { λ r. ⌜ r ≡ cond on 3 0 ⌝ }
+{
+    if on { DECODE_ERROR } else { OKAY }
+}
+
+// The clock's responses: 3 for each master of the mask, 0 for the others (rules 4.13, 4.17).
+pub fn put_responses(responses: &mut [u32; MASTERS], mask: u32)
+    ensures { λ _. ⌜ now (responses .exit) ≡ responsesFor mask ⌝ }
+{
+    description_layout::count(responses);
+    let mut m: usize = 0;
+    while m < 8 {
+        responses[m] = response_for((mask >> m) % 2 == 1);
+        m += 1;
+    }
+}
+
 // The clock's line of slave s becomes x (rule 4.13).
 pub fn put_line(lines: &mut [u32; LINES_NUMBERS], s: usize, x: Line)
     requires { ⌜ s < 16 ⌝ }
@@ -168,6 +293,7 @@ pub fn reset_state(st: &mut [u32; STATE_NUMBERS], owner: u32, n: u32)
     ensures { λ _. ⌜ stateIn (now (st .exit)) ≡ resetState owner n ⌝ }
 {
     clear_masters(st);
+    clear_log(st);
     let mut s: usize = 0;
     while s < 16 {
         put_slot(st, s, reset_slot(owner, n, s));

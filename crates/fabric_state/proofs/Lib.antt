@@ -1,3 +1,4 @@
+pub mod LogLaws
 pub mod Sound
 pub mod StateLaws
 pub mod RequestLaws
@@ -6,3 +7,4 @@ pub mod SoundLaws
 pub mod CycleLaws
 pub mod ArbiterRecords
 pub mod StoreLengths
+pub mod ClearLaws

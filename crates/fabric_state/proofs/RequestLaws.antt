@@ -1,15 +1,18 @@
--- Which slave a transfer is for: on an accepted board one, and what is true there of a transfer that post takes.
+-- Which slave a transfer is for: on an accepted board one, or none where it is unmapped, and what is true of a transfer that post takes.
 -- Assumes nothing.
-use mathlib.Core.Path.{_≡_, refl}
-use mathlib.Core.Bool.{true, false, and-false}
+use mathlib.Core.Path.{_≡_, refl, _∙_}
+use mathlib.Core.Bool.{Bool, true, false, cond, and-false, true≢false}
 use mathlib.Core.Logic.{_≢_}
 use Prim.Native.Nat.{ℕ, _+_, _*_, _%_, _≤_, _<_}
 use native.Mathlib.Omega.{arith}
 use lib.Dec.{ltb, eqb}
 use borrow.Author.Tests.{ltb-false, eqb-true, eqb-false, ne-eqb, not-false}
+use Rattle.common_laws.proofs.Arithmetic.{product-le}
+use Rattle.common_laws.proofs.ListLaws.{member-within}
 use Rattle.common_laws.proofs.Tests.{both, neither, passed}
 use Rattle.description_board.specs.declared.Board.{Board}
 use Rattle.description_board.specs.Records.{masterAt, slaveAt, sharesAt}
+use Rattle.description_board.specs.Rules.{widths, bursts}
 use Rattle.description_board.specs.Legal.{Legal}
 use Rattle.fabric_accesses.specs.declared.Transfer.{Transfer}
 use Rattle.fabric_lanes.specs.Lanes.{postLanes}
@@ -21,9 +24,83 @@ use Rattle.fabric_accesses.proofs.PowerLaws.{legal-widths}
 use Rattle.fabric_accesses.proofs.NumberLaws.{accesses-pos}
 use Rattle.fabric_state.specs.declared.State.{State}
 use Rattle.fabric_state.specs.Records.{transferAt, lateAt}
-use Rattle.fabric_state.specs.Posting.{wrongBeats, unaligned, wrongLanes, unmapped}
+use Rattle.fabric_state.specs.Posting.{wrongBeats, unaligned, wrongLanes, unmapped, isUnmapped}
 use Rattle.fabric_state.specs.Posting.{passesEnd, transferRefusalBy, transferRefusal}
-use Rattle.fabric_state.specs.Soundness.{holdsFor, requests, latencyAt}
+use Rattle.fabric_state.specs.Soundness.{holdsFor, requests, unmappedAt, latencyAt}
+
+-- a transfer is unmapped where its address selects no slave
+module _ (b : Board) (m : ℕ) (t : Transfer) where
+  pub mapped-target : isUnmapped b m t ≡ false → targetOf b m (t .address) < b .«slave_count»
+  unfolding isUnmapped unmapped
+  mapped-target e =
+      let f = target-first b m (t .address) in
+      let none = eqb-false (targetOf b m (t .address)) (b .«slave_count») e in
+      omega (arith, f .within)
+
+  pub target-mapped : targetOf b m (t .address) < b .«slave_count» → isUnmapped b m t ≡ false
+  unfolding isUnmapped unmapped
+  target-mapped h = ne-eqb (targetOf b m (t .address)) (b .«slave_count») (λ q. omega (arith, h, q))
+
+  pub unmapped-target : isUnmapped b m t ≡ true → targetOf b m (t .address) ≡ b .«slave_count»
+  unfolding isUnmapped unmapped
+  unmapped-target e = eqb-true (targetOf b m (t .address)) (b .«slave_count») e
+
+  -- what it has of latency
+  pub latency-mapped : isUnmapped b m t ≡ false → latencyAt b m t ≡ latencyOf (slaveAt b (targetOf b m (t .address))) t
+  unfolding latencyAt
+  latency-mapped e = rw e
+
+  pub latency-unmapped : isUnmapped b m t ≡ true → latencyAt b m t ≡ 0
+  unfolding latencyAt
+  latency-unmapped e = rw e
+
+  -- one that a board without the line `default` takes is for a slave
+  pub taken-mapped : b .«default_line» ≡ false → transferRefusal b m t ≡ 0 → isUnmapped b m t ≡ false
+  unfolding transferRefusal transferRefusalBy isUnmapped
+  taken-mapped d ok =
+      let p = passed (wrongBeats (masterAt b m) t) 12 _ ok in
+      let q = passed (unaligned (masterAt b m) t) 13 _ (p .1) in
+      let r = passed (wrongLanes (masterAt b m) t) 14 _ (q .1) in
+      go (unmapped (targetOf b m (t .address)) (b .«slave_count»)) (b .«default_line») d (r .1)
+    where
+      past : Bool
+      past = passesEnd (masterAt b m) (slaveAt b (targetOf b m (t .address))) t
+
+      go : (c has : Bool) → has ≡ false → cond {A = ℕ} c (cond has 0 16) (cond past 17 0) ≡ 0 → c ≡ false
+      go true true h e = absurd (true≢false h)
+      go true false h e = absurd (omega (arith, e))
+      go false has h e = refl
+
+-- who holds an unmapped transfer
+module _ (b : Board) (st : State) (m : ℕ) where
+  pub unmapped-held : unmappedAt b st m ≡ true → transferAt st m .held ≡ true
+  unfolding unmappedAt
+  unmapped-held e = both (transferAt st m .held) (isUnmapped b m (transferAt st m)) e .0
+
+  pub unmapped-is : unmappedAt b st m ≡ true → isUnmapped b m (transferAt st m) ≡ true
+  unfolding unmappedAt
+  unmapped-is e = both (transferAt st m .held) (isUnmapped b m (transferAt st m)) e .1
+
+  pub unmapped-of : transferAt st m .held ≡ true → isUnmapped b m (transferAt st m) ≡ true → unmappedAt b st m ≡ true
+  unfolding unmappedAt
+  unmapped-of h e = rw (h, e)
+
+  pub mapped-idle : transferAt st m .held ≡ false → unmappedAt b st m ≡ false
+  unfolding unmappedAt
+  mapped-idle h = rw h
+
+  pub mapped-of : isUnmapped b m (transferAt st m) ≡ false → unmappedAt b st m ≡ false
+  unfolding unmappedAt
+  mapped-of e = rw e (and-false (transferAt st m .held))
+
+  pub mapped-held : transferAt st m .held ≡ true → unmappedAt b st m ≡ false → isUnmapped b m (transferAt st m) ≡ false
+  unfolding unmappedAt
+  mapped-held h e = rw h at e
+
+-- the same transfer in two states
+pub unmapped-same : (b : Board) (st u : State) (m : ℕ) → transferAt u m ≡ transferAt st m → unmappedAt b u m ≡ unmappedAt b st m
+unfolding unmappedAt
+unmapped-same b st u m e = rw e
 
 -- who holds a transfer for a slave holds one, and its address selects the slave
 module _ (b : Board) (st : State) (s m : ℕ) where
@@ -75,11 +152,17 @@ module _ (b : Board) (st : State) (s m : ℕ) where
   pub requests-target : Legal b → requests b st s m ≡ true → targetOf b m (transferAt st m .address) ≡ s
   requests-target legal e = holds-target legal (requests-holds e)
 
-  -- what its transfer has of latency is what it has at that slave
+  -- so its transfer is not unmapped
+  pub requests-mapped : Legal b → requests b st s m ≡ true → isUnmapped b m (transferAt st m) ≡ false
+  requests-mapped legal e =
+      let x = selects-facts b legal m (transferAt st m .address) s (requests-selects e) in
+      target-mapped b m (transferAt st m) (omega (arith, requests-target legal e, x .within))
+
+  -- and has the latency that it has at that slave
   pub requests-latency : Legal b → requests b st s m ≡ true
       → latencyAt b m (transferAt st m) ≡ latencyOf (slaveAt b s) (transferAt st m)
-  unfolding latencyAt
-  requests-latency legal e = rw (requests-target legal e)
+  requests-latency legal e =
+      latency-mapped b m (transferAt st m) (requests-mapped legal e) ∙ rw (requests-target legal e)
 
 pub requests-one : (b : Board) (st : State) (m s k : ℕ) → Legal b → requests b st s m ≡ true → requests b st k m ≡ true → s ≡ k
 requests-one b st m s k legal e f =
@@ -99,19 +182,17 @@ pub record Accepted (b : Board) (m : ℕ) (t : Transfer) (s : ℕ) : Type 0 wher
   pub end : t .address + t .beats * masterAt b m .width ≤ slaveAt b s .base + slaveAt b s .span
 
 module _ (b : Board) (legal : Legal b) (m : ℕ) (t : Transfer) (ok : transferRefusal b m t ≡ 0) where
-  -- it is for a slave
-  pub accepted : Accepted b m t (targetOf b m (t .address))
-  unfolding transferRefusal transferRefusalBy wrongBeats unaligned wrongLanes unmapped passesEnd
-  accepted =
+  -- unless it is unmapped, it is for a slave
+  pub accepted : isUnmapped b m t ≡ false → Accepted b m t (targetOf b m (t .address))
+  unfolding transferRefusal transferRefusalBy wrongBeats unaligned wrongLanes isUnmapped passesEnd
+  accepted mapped =
       let s = targetOf b m (t .address) in
       let p = passed (wrongBeats (masterAt b m) t) 12 _ ok in
       let q = passed (unaligned (masterAt b m) t) 13 _ (p .1) in
       let r = passed (wrongLanes (masterAt b m) t) 14 _ (q .1) in
-      let u = passed (unmapped s (b .«slave_count»)) 15 _ (r .1) in
-      let v = passed (passesEnd (masterAt b m) (slaveAt b s) t) 16 _ (u .1) in
+      let v = passed (passesEnd (masterAt b m) (slaveAt b s) t) 16 _ (rw mapped at (r .1)) in
       let f = target-first b m (t .address) in
-      let none = eqb-false s (b .«slave_count») (u .0) in
-      let within : s < b .«slave_count» = omega (arith, f .within) in
+      let within : s < b .«slave_count» = mapped-target b m t mapped in
       let x = selects-facts b legal m (t .address) s (f .found within) in
       let beats = neither (eqb (t .beats) 0) (ltb (masterAt b m .burst) (t .beats)) (p .0) in
       let nothing = eqb-false (t .beats) 0 (beats .0) in
@@ -131,7 +212,26 @@ module _ (b : Board) (legal : Legal b) (m : ℕ) (t : Transfer) (ok : transferRe
 
   -- and for each that it selects
   pub accepted-at : (s : ℕ) → selects b m (t .address) s ≡ true → Accepted b m t s
-  accepted-at s e = rw (selects-target b legal m (t .address) s e) at accepted
+  accepted-at s e =
+      let same = selects-target b legal m (t .address) s e in
+      let x = selects-facts b legal m (t .address) s e in
+      rw same at (accepted (target-mapped b m t (omega (arith, same, x .within))))
+
+  -- mapped or not, its words fit its master's part
+  taken-beats : t .beats ≤ masterAt b m .burst
+  unfolding transferRefusal transferRefusalBy wrongBeats
+  taken-beats =
+      let p = passed (wrongBeats (masterAt b m) t) 12 _ ok in
+      ltb-false (masterAt b m .burst) (t .beats) (neither (eqb (t .beats) 0) (ltb (masterAt b m .burst) (t .beats)) (p .0) .1)
+
+  pub taken-bytes : m < b .«master_count» → t .beats * masterAt b m .width ≤ 512
+  taken-bytes known =
+      let ma = legal .master m known in
+      let few = taken-beats in
+      let burst = member-within 1 64 (masterAt b m .burst) bursts tt (ma .burst) .1 in
+      let beats : t .beats ≤ 64 = omega arith in
+      let width = member-within 1 8 (masterAt b m .width) widths tt (ma .width) .1 in
+      omega (arith, product-le (t .beats) (masterAt b m .width) 64 8 beats width)
 
 -- so its accesses stand side by side, and there is one
 module _ (b : Board) (legal : Legal b) (m s : ℕ) (t : Transfer) (known : m < b .«master_count») (ok : Accepted b m t s) where

@@ -33,3 +33,4 @@ pub record Sound (b : Board) (st : State) : Type 0 where
   pub serving : (s : ℕ) → s < b .«slave_count» → slotAt st s .serving ≡ true → Serves b st s
   pub resting : (s : ℕ) → s < b .«slave_count» → slotAt st s .serving ≡ false
       → (slotAt st s .done ≡ 0) × (slotAt st s .waited ≡ 0)
+  pub log : st .log .count ≤ 8

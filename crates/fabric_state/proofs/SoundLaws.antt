@@ -23,24 +23,27 @@ use Rattle.fabric_arbiter.specs.Granting.{arbiterAfter}
 use Rattle.fabric_arbiter.proofs.OrderLaws.{Grants, granted-facts}
 use Rattle.fabric_state.specs.declared.Slot.{Slot}
 use Rattle.fabric_state.specs.declared.State.{State}
-use Rattle.fabric_state.specs.Records.{transferAt, slotAt, lateAt}
+use Rattle.fabric_state.specs.Records.{noLog, transferAt, slotAt, lateAt}
 use Rattle.fabric_state.specs.Posting.{transferRefusal}
 use Rattle.fabric_state.specs.Soundness.{holdsFor, requests, latencyAt, soundHeld, soundTransfer, soundSlotBy, soundSlot, sound}
-use Rattle.fabric_state.specs.Soundness.{soundOwner, soundRemaining, soundService, soundRest}
+use Rattle.fabric_state.specs.Soundness.{soundOwner, soundRemaining, soundService, soundRest, soundLog, unmappedAt}
 use Rattle.fabric_state.specs.Control.{grantAt, slotBy, slotGranted, slotAfterGrant}
 use Rattle.fabric_state.specs.Control.{slotWaiting, slotAccessed, slotFinished}
-use Rattle.fabric_state.specs.Control.{stepOf, ended, lateAfter, finished, stateAfter}
+use Rattle.fabric_state.specs.Control.{stepOf, ended, lateAfter, completed, finished, stateAfter}
 use Rattle.fabric_state.specs.Resetting.{resetState, stateAtReset}
 use Rattle.fabric_state.specs.Posting.{withTransfer}
+use Rattle.fabric_state.specs.Logging.{withoutOldest, withLog}
 use Rattle.fabric_state.proofs.Sound.{Sound}
 use Rattle.fabric_state.proofs.StateLaws.{transfers-after, slots-after, lates-after, slot-after, transfer-after}
 use Rattle.fabric_state.proofs.StateLaws.{late-after, late-after-past, late-ends, late-none, late-less, ended-by}
-use Rattle.fabric_state.proofs.StateLaws.{finished-late, finished-ended, unfinished-of, unfinished-late}
-use Rattle.fabric_state.proofs.StateLaws.{transfer-finished, transfer-kept, held-after, transfer-reset, slot-reset, late-reset}
+use Rattle.fabric_state.proofs.StateLaws.{completed-late, finished-mapped, unfinished-of, uncompleted-of}
+use Rattle.fabric_state.proofs.StateLaws.{transfer-kept, held-after, transfer-reset, slot-reset, late-reset}
 use Rattle.fabric_state.proofs.StateLaws.{transfers-with, slots-with, lates-with, transfer-with, transfer-with-other}
-use Rattle.fabric_state.proofs.StateLaws.{slot-with, late-with}
-use Rattle.fabric_state.proofs.RequestLaws.{requests-held, requests-one, requests-selects, requests-free}
+use Rattle.fabric_state.proofs.StateLaws.{slot-with, late-with, log-with, log-after}
+use Rattle.fabric_state.proofs.RequestLaws.{requests-held, requests-one, requests-selects, requests-free, requests-mapped}
+use Rattle.fabric_state.proofs.RequestLaws.{unmapped-held, unmapped-is, mapped-of, latency-unmapped}
 use Rattle.fabric_state.proofs.RequestLaws.{Accepted, accepted-at, accepted-accesses}
+use Rattle.fabric_state.proofs.LogLaws.{log-count, oldest-count}
 use Rattle.fabric_state.proofs.StepLaws.{waitNow, accessesNow, Outcome, rests, waiting, works, ends, outcome}
 use Rattle.fabric_state.proofs.StepLaws.{grant-serving, grant-given, line-owner, last-serving}
 
@@ -78,8 +81,8 @@ module _ (b : Board) (st : State) where
   -- a state is sound by its parts
   pub sound-of : length (st .transfers) ≡ 8 → length (st .slots) ≡ 16 → length (st .late) ≡ 8
       → ((m : ℕ) → HeldSound b m (transferAt st m) (lateAt st m))
-      → ((s : ℕ) → s < b .«slave_count» → SlotSound b st s (slotAt st s)) → Sound b st
-  sound-of l k n f g = record {
+      → ((s : ℕ) → s < b .«slave_count» → SlotSound b st s (slotAt st s)) → st .log .count ≤ 8 → Sound b st
+  sound-of l k n f g c = record {
     transfers = l;
     slots = k;
     lates = n;
@@ -90,6 +93,7 @@ module _ (b : Board) (st : State) where
     remaining = λ s h. g s h .remaining;
     serving = λ s h e. let v = g s h .serving e in record { asks = v .asks; done = v .done; waited = v .waited };
     resting = λ s h. g s h .resting;
+    log = c;
   }
 
 -- the test of a slot and the facts
@@ -206,13 +210,18 @@ module _ (b : Board) (m : ℕ) (t : Transfer) (late : ℕ) where
 module _ (b : Board) (st : State) where
   pub sound-facts : length (st .transfers) ≡ 8 → length (st .slots) ≡ 16 → length (st .late) ≡ 8 → b .«slave_count» ≤ 16
       → sound b st ≡ true → Sound b st
-  unfolding sound soundTransfer soundSlot
+  unfolding sound soundTransfer soundSlot soundLog
   sound-facts l k n _ e =
       sound-of b st l k n (λ m. held m (ltb m 8) refl)
-      (λ s h. slot-facts b st s (slotAt st s) (every-at (soundSlot b st) (b .«slave_count») (parts .1) s h))
+      (λ s h. slot-facts b st s (slotAt st s) (every-at (soundSlot b st) (b .«slave_count») (rest .0) s h))
+      (leb-true (st .log .count) 8 (rest .1))
     where
-      parts : (every (soundTransfer b st) 8 ≡ true) × (every (soundSlot b st) (b .«slave_count») ≡ true)
-      parts = both (every (soundTransfer b st) 8) (every (soundSlot b st) (b .«slave_count»)) e
+      parts : (every (soundTransfer b st) 8 ≡ true)
+          × ((every (soundSlot b st) (b .«slave_count») && soundLog (st .log)) ≡ true)
+      parts = both (every (soundTransfer b st) 8) (every (soundSlot b st) (b .«slave_count») && soundLog (st .log)) e
+
+      rest : (every (soundSlot b st) (b .«slave_count») ≡ true) × (soundLog (st .log) ≡ true)
+      rest = both (every (soundSlot b st) (b .«slave_count»)) (soundLog (st .log)) (parts .1)
 
       held : (m : ℕ) (c : Bool) → ltb m 8 ≡ c → HeldSound b m (transferAt st m) (lateAt st m)
       held m true h = held-facts b m (transferAt st m) (lateAt st m) (every-at (soundTransfer b st) 8 (parts .0) m (ltb-true m 8 h))
@@ -223,13 +232,16 @@ module _ (b : Board) (st : State) where
           (record { holds = λ q. absurd (false≢true q); late = λ q. absurd (false≢true q); free = λ q. refl })
 
   pub sound-test : Legal b → Sound b st → sound b st ≡ true
-  unfolding sound soundTransfer soundSlot
+  unfolding sound soundTransfer soundSlot soundLog
   sound-test _ x =
-      rw (every-all (soundTransfer b st) 8 (λ m h. held-test b m (transferAt st m) (lateAt st m) (held-sound b st x m)))
-      (every-all (soundSlot b st) (b .«slave_count») (λ s h. slot-test b st s (slotAt st s) (slot-sound b st x s h)))
+      rw (
+        every-all (soundTransfer b st) 8 (λ m h. held-test b m (transferAt st m) (lateAt st m) (held-sound b st x m)),
+        every-all (soundSlot b st) (b .«slave_count») (λ s h. slot-test b st s (slotAt st s) (slot-sound b st x s h)),
+      )
+      (le-leb (st .log .count) 8 (x .log))
 
 pub reset-sound : (b : Board) → Legal b → Sound b (stateAtReset b)
-unfolding stateAtReset resetState
+unfolding stateAtReset resetState noLog
 reset-sound b legal =
     sound-of b (stateAtReset b) (length-replicate 8 noTransfer) (length-table _ 16) (length-replicate {A = ℕ} 8 0)
     (λ m. record {
@@ -243,6 +255,7 @@ reset-sound b legal =
       serving = λ q. absurd (false≢true q);
       resting = λ q. (refl, refl);
     }))
+    (omega arith)
 
 -- a master that holds the same transfer in two states, with the same latency clocks, requests alike
 pub requests-same : (b : Board) (st u : State) (m s : ℕ) → transferAt u m ≡ transferAt st m → lateAt u m ≡ lateAt st m
@@ -264,6 +277,7 @@ pub post-sound : (b : Board) (st : State) (m : ℕ) (t : Transfer) → Legal b �
 post-sound b st m t legal x h free ok _ =
     sound-of b (withTransfer st m t) (transfers-with st m t ∙ x .transfers) (ap length (slots-with st m t) ∙ x .slots)
     (ap length (lates-with st m t) ∙ x .lates) (λ k. rw (late-with st m t k) (held k (ℕ-discrete k m))) slots
+    (rw (log-with st m t) (x .log))
   where
     posted : transferAt (withTransfer st m t) m ≡ t
     posted = transfer-with st m t (x .transfers) (omega (arith, legal .fewMasters))
@@ -296,6 +310,25 @@ post-sound b st m t legal x h free ok _ =
               (v .serving q);
           resting = v .resting;
         })
+
+-- a take changes the log alone
+pub take-sound : (b : Board) (st : State) → Sound b st → Sound b (withLog st (withoutOldest (st .log)))
+unfolding withLog
+take-sound b st x =
+    sound-of b (withLog st (withoutOldest (st .log))) (x .transfers) (x .slots) (x .lates) (λ m. held-sound b st x m) slots
+    (oldest-count (st .log) (x .log))
+  where
+    slots : (s : ℕ) → s < b .«slave_count»
+        → SlotSound b (withLog st (withoutOldest (st .log))) s (slotAt (withLog st (withoutOldest (st .log))) s)
+    slots s l =
+        let v = slot-sound b st x s l in
+        record {
+          owner = v .owner;
+          remaining = v .remaining;
+          serving = λ q.
+              serves-on b st (withLog st (withoutOldest (st .log))) s (slotAt st s) refl refl (v .serving q);
+          resting = v .resting;
+        }
 
 -- one clock of a sound state
 module _ (b : Board) (st : State) (legal : Legal b) (x : Sound b st) where
@@ -354,6 +387,46 @@ module _ (b : Board) (st : State) (legal : Legal b) (x : Sound b st) where
       let r = ended-by b st m e in
       (r .0, r .1, rw (r .3) at (last-asks (r .0) (r .1) (r .2)))
 
+  -- who holds an unmapped transfer has no latency clocks to pass, and no slave carries out an access of it
+  module _ (m : ℕ) (e : unmappedAt b st m ≡ true) where
+    pub unmapped-free : lateAt st m ≡ 0
+    unmapped-free =
+        let few = x .late m (unmapped-held b st m e) in
+        let none = latency-unmapped b m (transferAt st m) (unmapped-is b st m e) in
+        omega (arith, few, none)
+
+    pub unmapped-ends : ended b st m ≡ false
+    unmapped-ends = go (ended b st m) refl
+      where
+        go : (c : Bool) → ended b st m ≡ c → ended b st m ≡ false
+        go true f =
+            let r = ended-asks m f in
+            absurd (true≢false (sym (unmapped-is b st m e) ∙ requests-mapped b st (r .0) m legal (r .2)))
+        go false f = f
+
+    -- so nothing else finishes it
+    pub unmapped-alone : completed b st m ≡ false
+    unmapped-alone = uncompleted-of b st m unmapped-free unmapped-ends
+
+    pub unmapped-late : lateAfter b st m ≡ 0
+    unmapped-late = late-none b st m unmapped-free unmapped-ends
+
+  -- so who has some to pass holds none that is unmapped
+  pub late-mapped : (m : ℕ) → lateAt st m ≢ 0 → unmappedAt b st m ≡ false
+  late-mapped m h = go (unmappedAt b st m) refl
+    where
+      go : (c : Bool) → unmappedAt b st m ≡ c → unmappedAt b st m ≡ false
+      go true e = absurd (h (unmapped-free m e))
+      go false e = e
+
+  -- who is finished has no latency clocks left
+  pub finished-late : (m : ℕ) → finished b st m ≡ true → lateAfter b st m ≡ 0
+  finished-late m f = go (unmappedAt b st m) refl
+    where
+      go : (c : Bool) → unmappedAt b st m ≡ c → lateAfter b st m ≡ 0
+      go true e = unmapped-late m e
+      go false e = completed-late b st m (sym (finished-mapped b st m e) ∙ f)
+
   -- a master that requests slave s has its last access there
   pub ended-only : (s m : ℕ) → requests b st s m ≡ true → ended b st m ≡ true
       → (stepOf b st s .last ≡ true) × (stepOf b st s .line .owner ≡ m)
@@ -370,8 +443,9 @@ module _ (b : Board) (st : State) (legal : Legal b) (x : Sound b st) where
 
     pub asks-kept : transferAt (stateAfter b st) m ≡ transferAt st m
     asks-kept =
+        let mapped = mapped-of b st m (requests-mapped b st s m legal asks) in
         transfer-after b st m known
-        ∙ transfer-kept b st m (unfinished-of b st m (requests-free b st s m asks) more)
+        ∙ transfer-kept b st m (unfinished-of b st m mapped (requests-free b st s m asks) more)
 
     pub asks-free : lateAt (stateAfter b st) m ≡ lateAt st m
     asks-free =
@@ -471,7 +545,7 @@ module _ (b : Board) (st : State) (legal : Legal b) (x : Sound b st) where
 
       free : (m : ℕ) (c : Bool) → ltb m 8 ≡ c → (d : Bool) → finished b st m ≡ d
           → transferAt (stateAfter b st) m .held ≡ false → lateAt (stateAfter b st) m ≡ 0
-      free m true h true f q = late-after b st m (ltb-true m 8 h) ∙ finished-late b st m f
+      free m true h true f q = late-after b st m (ltb-true m 8 h) ∙ finished-late m f
       free m true h false f q =
           let same = transfer-after b st m (ltb-true m 8 h) ∙ transfer-kept b st m f in
           late-after b st m (ltb-true m 8 h) ∙ late-idle m (rw same at q)
@@ -481,3 +555,4 @@ module _ (b : Board) (st : State) (legal : Legal b) (x : Sound b st) where
   clock-sound =
       sound-of b (stateAfter b st) (transfers-after b st) (slots-after b st) (lates-after b st) held-sound-after
       (λ s h. rw (slot-after b st s h (legal .fewSlaves)) (step-sound s h))
+      (rw (log-after b st) (log-count b st (x .log)))

@@ -1,7 +1,7 @@
 -- Reading the state after a reset, a post or a clock, the slave lines and the mask.
 -- Assumes nothing.
 use mathlib.Core.Path.{_≡_, refl, sym, _∙_}
-use mathlib.Core.Bool.{Bool, true, false, not, _&&_, _||_, and-false, false≢true, true≢false}
+use mathlib.Core.Bool.{Bool, true, false, not, _&&_, _||_, and-false, or-true, false≢true, true≢false}
 use mathlib.Core.Logic.{_≢_}
 use Prim.Native.Nat.{ℕ, _-_, _≤_, _<_}
 use native.Mathlib.Omega.{arith}
@@ -17,10 +17,11 @@ use Rattle.description_board.specs.declared.Board.{Board}
 use Rattle.fabric_accesses.specs.declared.Transfer.{Transfer}
 use Rattle.fabric_accesses.specs.Accesses.{noTransfer}
 use Rattle.fabric_state.specs.declared.State.{State}
-use Rattle.fabric_state.specs.Records.{noLine, noSlot, transferAt, slotAt, lateAt}
-use Rattle.fabric_state.specs.Control.{stepOf, lineAfter, slotAfter, endsAt, ended, lateAfter, finished, maskOf}
-use Rattle.fabric_state.specs.Control.{transferAfter, stateAfter, linesOf}
-use Rattle.fabric_state.specs.Soundness.{latencyAt}
+use Rattle.fabric_state.specs.Records.{noLine, noSlot, noLog, transferAt, slotAt, lateAt}
+use Rattle.fabric_state.specs.Control.{stepOf, lineAfter, slotAfter, endsAt, ended, lateAfter, completed, finished, maskOf}
+use Rattle.fabric_state.specs.Control.{transferAfter, stateAfter, responseOf, responsesOf, linesOf}
+use Rattle.fabric_state.specs.Soundness.{unmappedAt, latencyAt}
+use Rattle.fabric_state.specs.Logging.{logAfter}
 use Rattle.fabric_state.specs.Resetting.{resetState, stateAtReset}
 use Rattle.fabric_state.specs.Posting.{withTransfer}
 
@@ -69,6 +70,18 @@ module _ (b : Board) (st : State) where
   unfolding stateAfter
   late-after-past m h = getD-table-past (lateAfter b st) 8 0 m h
 
+  pub response-after : (m : ℕ) → m < 8 → getD (responsesOf b st) m 0 ≡ responseOf b st m
+  unfolding responsesOf
+  response-after m h = getD-table (responseOf b st) 8 0 m h
+
+  pub response-after-past : (m : ℕ) → 8 ≤ m → getD (responsesOf b st) m 0 ≡ 0
+  unfolding responsesOf
+  response-after-past m h = getD-table-past (responseOf b st) 8 0 m h
+
+  pub log-after : stateAfter b st .log ≡ logAfter b st
+  unfolding stateAfter
+  log-after = refl
+
   pub mask-bit : (m : ℕ) → m < 8 → bit (maskOf b st) m ≡ finished b st m
   unfolding maskOf
   mask-bit m h = bit-mask (finished b st) 8 m h
@@ -111,43 +124,79 @@ module _ (b : Board) (st : State) where
     unfolding lateAfter
     late-less h = rw (ne-eqb (lateAt st m) 0 h)
 
-    -- who is finished has none left
-    pub finished-late : finished b st m ≡ true → lateAfter b st m ≡ 0
-    unfolding finished
-    finished-late e =
+    -- who has completed its transfer has none left
+    pub completed-late : completed b st m ≡ true → lateAfter b st m ≡ 0
+    unfolding completed
+    completed-late e =
         eqb-true (lateAfter b st m) 0 (both (not (eqb (lateAt st m) 0) || ended b st m) (eqb (lateAfter b st m) 0) e .1)
 
     -- and had none, and its last access in this clock, or had some
-    pub finished-ended : finished b st m ≡ true → lateAt st m ≡ 0 → (ended b st m ≡ true) × (behind ≡ 0)
-    unfolding finished
-    finished-ended e z = go (ended b st m) refl
+    completed-ended : completed b st m ≡ true → lateAt st m ≡ 0 → (ended b st m ≡ true) × (behind ≡ 0)
+    unfolding completed
+    completed-ended e z = go (ended b st m) refl
       where
         last : ended b st m ≡ true
         last = rw z at (both (not (eqb (lateAt st m) 0) || ended b st m) (eqb (lateAfter b st m) 0) e .0)
 
         go : (c : Bool) → ended b st m ≡ c → (ended b st m ≡ true) × (behind ≡ 0)
-        go true q = (q, sym (late-ends z q) ∙ finished-late e)
+        go true q = (q, sym (late-ends z q) ∙ completed-late e)
         go false q = absurd (true≢false (sym last ∙ q))
 
-    pub finished-now : lateAt st m ≡ 0 → ended b st m ≡ true → behind ≡ 0 → finished b st m ≡ true
-    unfolding finished
-    finished-now z e f = rw (z, e, late-ends z e, f)
+    completed-now : lateAt st m ≡ 0 → ended b st m ≡ true → behind ≡ 0 → completed b st m ≡ true
+    unfolding completed
+    completed-now z e f = rw (z, e, late-ends z e, f)
 
-    pub finished-then : lateAt st m ≡ 1 → finished b st m ≡ true
-    unfolding finished
-    finished-then e =
+    completed-then : lateAt st m ≡ 1 → completed b st m ≡ true
+    unfolding completed
+    completed-then e =
         let h : lateAt st m ≢ 0 = λ q. omega (arith, e, q) in
         let z : lateAfter b st m ≡ 0 = omega (arith, late-less h, e) in
         rw (ne-eqb (lateAt st m) 0 h, z)
 
-    -- who is not finished: its last access is not carried out, or latency clocks are left
-    pub unfinished-of : lateAt st m ≡ 0 → ended b st m ≡ false → finished b st m ≡ false
-    unfolding finished
-    unfinished-of z e = rw (z, e)
+    -- who has not: its last access is not carried out, or latency clocks are left
+    pub uncompleted-of : lateAt st m ≡ 0 → ended b st m ≡ false → completed b st m ≡ false
+    unfolding completed
+    uncompleted-of z e = rw (z, e)
 
-    pub unfinished-late : lateAfter b st m ≢ 0 → finished b st m ≡ false
+    uncompleted-late : lateAfter b st m ≢ 0 → completed b st m ≡ false
+    unfolding completed
+    uncompleted-late h = rw (ne-eqb (lateAfter b st m) 0 h) (and-false (not (eqb (lateAt st m) 0) || ended b st m))
+
+    -- a master is finished where its transfer is unmapped, or completed
+    pub finished-unmapped : unmappedAt b st m ≡ true → finished b st m ≡ true
     unfolding finished
-    unfinished-late h = rw (ne-eqb (lateAfter b st m) 0 h) (and-false (not (eqb (lateAt st m) 0) || ended b st m))
+    finished-unmapped e = rw e
+
+    pub finished-mapped : unmappedAt b st m ≡ false → finished b st m ≡ completed b st m
+    unfolding finished
+    finished-mapped e = rw e
+
+    pub finished-now : lateAt st m ≡ 0 → ended b st m ≡ true → behind ≡ 0 → finished b st m ≡ true
+    unfolding finished
+    finished-now z e f = rw (completed-now z e f) (or-true (unmappedAt b st m))
+
+    pub finished-then : lateAt st m ≡ 1 → finished b st m ≡ true
+    unfolding finished
+    finished-then e = rw (completed-then e) (or-true (unmappedAt b st m))
+
+    module _ (mapped : unmappedAt b st m ≡ false) where
+      pub finished-ended : finished b st m ≡ true → lateAt st m ≡ 0 → (ended b st m ≡ true) × (behind ≡ 0)
+      finished-ended e z = completed-ended (sym (finished-mapped mapped) ∙ e) z
+
+      pub unfinished-of : lateAt st m ≡ 0 → ended b st m ≡ false → finished b st m ≡ false
+      unfinished-of z e = finished-mapped mapped ∙ uncompleted-of z e
+
+      pub unfinished-late : lateAfter b st m ≢ 0 → finished b st m ≡ false
+      unfinished-late h = finished-mapped mapped ∙ uncompleted-late h
+
+    -- its response
+    pub response-unmapped : unmappedAt b st m ≡ true → responseOf b st m ≡ 3
+    unfolding responseOf
+    response-unmapped e = rw e
+
+    pub response-mapped : unmappedAt b st m ≡ false → responseOf b st m ≡ 0
+    unfolding responseOf
+    response-mapped e = rw e
 
   pub transfer-finished : (m : ℕ) → finished b st m ≡ true → transferAfter b st m ≡ noTransfer
   unfolding transferAfter
@@ -170,7 +219,7 @@ module _ (b : Board) (st : State) where
       go true h false f = (f, transfer-after m (ltb-true m 8 h) ∙ transfer-kept m f)
       go false h d f = absurd (false≢true (rw (transfer-after-past m (ltb-false m 8 h)) at q))
 
--- a post changes one transfer, and no slot and no latency clocks
+-- a post changes one transfer, no slot, no latency clocks, and not the log
 module _ (st : State) (m : ℕ) (t : Transfer) where
   pub transfers-with : length (withTransfer st m t .transfers) ≡ length (st .transfers)
   unfolding withTransfer
@@ -196,11 +245,15 @@ module _ (st : State) (m : ℕ) (t : Transfer) where
   unfolding withTransfer
   late-with k = refl
 
+  pub log-with : withTransfer st m t .log ≡ st .log
+  unfolding withTransfer
+  log-with = refl
+
   pub slot-with : (s : ℕ) → slotAt (withTransfer st m t) s ≡ slotAt st s
   unfolding withTransfer
   slot-with s = refl
 
--- reset: no transfers, and every slave's last owner is the highest master
+-- reset: no transfers, an empty log, and every slave's last owner is the highest master
 pub transfer-reset : (b : Board) (m : ℕ) → transferAt (stateAtReset b) m ≡ noTransfer
 unfolding stateAtReset resetState
 transfer-reset b m = getD-replicate-all 8 m noTransfer
@@ -208,6 +261,10 @@ transfer-reset b m = getD-replicate-all 8 m noTransfer
 pub late-reset : (b : Board) (m : ℕ) → lateAt (stateAtReset b) m ≡ 0
 unfolding stateAtReset resetState
 late-reset b m = getD-replicate-all 8 m 0
+
+pub log-reset : (b : Board) → stateAtReset b .log ≡ noLog
+unfolding stateAtReset resetState
+log-reset b = refl
 
 pub slot-reset : (b : Board) (s : ℕ) → s < b .«slave_count» → b .«slave_count» ≤ 16
     → slotAt (stateAtReset b) s

@@ -1,14 +1,16 @@
--- One clock's bytes: the accesses that are carried out, by slave number (rule 4.8).
+-- One clock's bytes: the accesses that are carried out, by slave number (rule 4.8), and the zeros of unmapped reads, by master number
+-- (rule 4.17).
 -- Assumes nothing.
 use mathlib.Core.Bool.{Bool, cond, not, _&&_}
-use Prim.Native.Nat.{ℕ, zero, suc}
+use Prim.Native.Nat.{ℕ, zero, suc, _*_}
 use Rattle.description_board.specs.declared.Board.{Board}
 use Rattle.description_board.specs.Records.{masterAt, slaveAt, startOf}
 use Rattle.fabric_accesses.specs.Accesses.{accessNumber}
-use Rattle.fabric_bytes.specs.Bytes.{Store, carriedAccess}
+use Rattle.fabric_bytes.specs.Bytes.{Store, clearedWords, carriedAccess}
 use Rattle.fabric_state.specs.declared.Slot.{Slot}
 use Rattle.fabric_state.specs.declared.State.{State}
 use Rattle.fabric_state.specs.Records.{transferAt}
+use Rattle.fabric_state.specs.Soundness.{unmappedAt}
 use Rattle.fabric_state.specs.Control.{slotAfterGrant, waits}
 
 -- rule 4.8: slave s, with its slot after rule 1, carries out an access in this clock
@@ -31,6 +33,19 @@ unfoldable pub carriedBy : Board → State → ℕ → Store → Store
 carriedBy b st zero d = d
 carriedBy b st (suc n) d = carried b st n (carriedBy b st n d)
 
--- rules 4.8, 4.11: the lent bytes after the clock
+-- rule 4.17: master m holds an unmapped read
+unfoldable pub clears : Board → State → ℕ → Bool
+clears b st m = unmappedAt b st m && not (transferAt st m .write)
+
+-- rule 4.17: the lent bytes with the words of the first n masters' unmapped reads cleared; the memory stays
+unfoldable pub clearedBy : Board → State → ℕ → Store → Store
+clearedBy b st zero d = d
+clearedBy b st (suc n) d =
+    let e = clearedBy b st n d in
+    cond (clears b st n)
+    (record { memory = e .memory; buffer = clearedWords n (transferAt st n .beats * masterAt b n .width) (e .buffer) })
+    e
+
+-- rules 4.8, 4.11, 4.17: the lent bytes after the clock
 unfoldable pub storeAfter : Board → State → Store → Store
-storeAfter b st d = carriedBy b st (b .«slave_count») d
+storeAfter b st d = clearedBy b st 8 (carriedBy b st (b .«slave_count») d)

@@ -1,4 +1,4 @@
--- One clock without the bytes: slots, lines, the mask of masters finished (rules 4.3 to 4.9, 4.13, 4.16).
+-- One clock without the bytes: slots, lines, the masters finished and their responses (rules 4.3 to 4.9, 4.13, 4.16, 4.17).
 -- Assumes nothing.
 use mathlib.Core.Bool.{Bool, true, false, cond, not, _&&_, _||_}
 use mathlib.Core.List.{List}
@@ -21,7 +21,8 @@ use Rattle.fabric_state.specs.declared.State.{State}
 use Rattle.fabric_state.specs.declared.Line.{Line}
 use Rattle.fabric_state.specs.declared.Step.{Step}
 use Rattle.fabric_state.specs.Records.{noLine, transferAt, slotAt, lateAt, arbiterOf}
-use Rattle.fabric_state.specs.Soundness.{requests, latencyAt}
+use Rattle.fabric_state.specs.Soundness.{requests, unmappedAt, latencyAt}
+use Rattle.fabric_state.specs.Logging.{logAfter}
 
 -- rule 1 (rules 4.3 to 4.6): the grant of slave s, which does not serve
 unfoldable pub grantAt : Board → State → ℕ → Grant
@@ -113,10 +114,13 @@ unfoldable pub lateAfter : Board → State → ℕ → ℕ
 lateAfter b st m =
     cond (eqb (lateAt st m) 0) (cond (ended b st m) (latencyAt b m (transferAt st m)) 0) (lateAt st m - 1)
 
--- rules 4.9, 4.13, 4.16: master m is finished in this clock: its last access is carried out, now or before, and no latency clock
--- is left
+-- rules 4.9, 4.16: the last access of master m is carried out, now or before, and no latency clock is left
+unfoldable pub completed : Board → State → ℕ → Bool
+completed b st m = (not (eqb (lateAt st m) 0) || ended b st m) && eqb (lateAfter b st m) 0
+
+-- rules 4.9, 4.13, 4.16, 4.17: master m is finished in this clock: its transfer is unmapped, or completed
 unfoldable pub finished : Board → State → ℕ → Bool
-finished b st m = (not (eqb (lateAt st m) 0) || ended b st m) && eqb (lateAfter b st m) 0
+finished b st m = unmappedAt b st m || completed b st m
 
 -- rule 4.13: bit m for master m
 unfoldable pub maskOf : Board → State → ℕ
@@ -132,7 +136,16 @@ stateAfter b st = record {
   transfers = table (transferAfter b st) 8;
   slots = table (slotAfter b st) 16;
   late = table (lateAfter b st) 8;
+  log = logAfter b st;
 }
+
+-- rules 4.13, 4.17: the response to master m: 3 (DECODEERROR) where its unmapped transfer is finished, else 0 (OKAY)
+unfoldable pub responseOf : Board → State → ℕ → ℕ
+responseOf b st m = cond (unmappedAt b st m) 3 0
+
+-- rule 4.13: a clock's responses
+unfoldable pub responsesOf : Board → State → List ℕ
+responsesOf b st = table (responseOf b st) 8
 
 -- rule 4.13: a clock's lines
 unfoldable pub linesOf : Board → State → List Line

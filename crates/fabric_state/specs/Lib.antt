@@ -1,6 +1,7 @@
 pub mod Records
 pub mod Posting
 pub mod Soundness
+pub mod Logging
 pub mod Control
 pub mod Clocking
 pub mod Carrying

@@ -8,7 +8,7 @@ use Rattle.common_laws.specs.Lists.{table}
 use Rattle.description_board.specs.declared.Board.{Board}
 use Rattle.fabric_accesses.specs.Accesses.{noTransfer}
 use Rattle.fabric_state.specs.declared.State.{State}
-use Rattle.fabric_state.specs.Records.{noSlot}
+use Rattle.fabric_state.specs.Records.{noSlot, noLog}
 
 -- rule 4.2: no transfer is held, `owner` is the last owner of the first `count` slaves, and all else is 0
 unfoldable pub resetState : ℕ → ℕ → State
@@ -19,6 +19,7 @@ resetState owner count = record {
       (λ s. cond (ltb s count) (record { owner = owner; remaining = 0; serving = Bool.false; done = 0; waited = 0 }) noSlot)
       16;
   late = replicate 8 0;
+  log = noLog;
 }
 
 -- rule 4.2: the state after a reset: the last owner is the board's highest master

@@ -1,4 +1,4 @@
--- Who requests a slave (rules 4.3, 4.16), and which states break a rule (rule 7.9).
+-- Who requests a slave (rules 4.3, 4.16), who holds an unmapped transfer (rule 4.17), and which states break a rule (rule 7.9).
 -- Assumes nothing.
 use mathlib.Core.Bool.{Bool, cond, _&&_}
 use Prim.Native.Nat.{ℕ}
@@ -12,9 +12,10 @@ use Rattle.fabric_accesses.specs.declared.Transfer.{Transfer}
 use Rattle.fabric_accesses.specs.Decoding.{selects, targetOf}
 use Rattle.fabric_accesses.specs.Accesses.{accesses, waitOf, latencyOf}
 use Rattle.fabric_state.specs.declared.Slot.{Slot}
+use Rattle.fabric_state.specs.declared.Log.{Log}
 use Rattle.fabric_state.specs.declared.State.{State}
 use Rattle.fabric_state.specs.Records.{transferAt, slotAt, lateAt}
-use Rattle.fabric_state.specs.Posting.{transferRefusal}
+use Rattle.fabric_state.specs.Posting.{isUnmapped, transferRefusal}
 
 -- rule 3.6: master m holds a transfer for slave s
 unfoldable pub holdsFor : Board → State → ℕ → ℕ → Bool
@@ -24,9 +25,14 @@ holdsFor b st s m = transferAt st m .held && selects b m (transferAt st m .addre
 unfoldable pub requests : Board → State → ℕ → ℕ → Bool
 requests b st s m = eqb (lateAt st m) 0 && holdsFor b st s m
 
--- rule 4.16: the clocks between the last access of master m's transfer t and its finish, at the slave that it is for
+-- rule 4.17: master m holds an unmapped transfer
+unfoldable pub unmappedAt : Board → State → ℕ → Bool
+unmappedAt b st m = transferAt st m .held && isUnmapped b m (transferAt st m)
+
+-- rules 4.16, 4.17: the clocks between the last access of master m's transfer t and its finish, at the slave that it is for; an
+-- unmapped one has none
 unfoldable pub latencyAt : Board → ℕ → Transfer → ℕ
-latencyAt b m t = latencyOf (slaveAt b (targetOf b m (t .address))) t
+latencyAt b m t = cond (isUnmapped b m t) 0 (latencyOf (slaveAt b (targetOf b m (t .address))) t)
 
 -- rule 7.9: a transfer t that is held is of a master of the board, none of 7.13 to 7.17 holds of it, and the latency clocks to pass
 -- are no more than it has; with none held there are no such clocks
@@ -69,6 +75,10 @@ soundSlot b st s =
     let m = slot .owner in
     soundOwner b slot && soundSlotBy (sharesAt b m s) (requests b st s m) (masterAt b m) (slaveAt b s) (transferAt st m) slot
 
+-- rules 4.18, 7.9: the log's count is eight or fewer
+unfoldable pub soundLog : Log → Bool
+soundLog log = leb (log .count) 8
+
 -- rule 7.9: the state breaks no rule
 unfoldable pub sound : Board → State → Bool
-sound b st = every (soundTransfer b st) 8 && every (soundSlot b st) (b .«slave_count»)
+sound b st = every (soundTransfer b st) 8 && (every (soundSlot b st) (b .«slave_count») && soundLog (st .log))

@@ -1,4 +1,4 @@
-// The state of a board's fabric, and what a clock shows of it (rules 4.1, 4.13).
+// The state of a board's fabric, and what a clock shows of it (rules 4.1, 4.13, 4.18).
 use fabric_accesses::Transfer;
 
 // One slave (rule 4.1): last owner, grants that remain to it, whether it serves, accesses done, waits passed.
@@ -19,12 +19,34 @@ pub const NO_SLOT: Slot = Slot {
     waited: 0,
 };
 
-// The transfer of each master (rule 3.3), the slot of each slave (rule 4.1), and the latency clocks that each master still has to
-// pass (rule 4.16).
+// An unmapped transfer in the log (rule 4.18): its master, its address, its direction.
+pub struct Entry {
+    pub master: u32,
+    pub address: u32,
+    pub write: bool,
+}
+
+// Rules 4.2, 4.19: an entry of zeros.
+pub const NO_ENTRY: Entry = Entry {
+    master: 0,
+    address: 0,
+    write: false,
+};
+
+// The log of unmapped transfers (rule 4.18): how many entries stand, whether one was dropped, the entries, the oldest first.
+pub struct Log {
+    pub count: u32,
+    pub lost: bool,
+    pub entries: [Entry; 8],
+}
+
+// The transfer of each master (rule 3.3), the slot of each slave (rule 4.1), the latency clocks that each master still has to pass
+// (rule 4.16), and the log (rule 4.18).
 pub struct State {
     pub transfers: [Transfer; 8],
     pub slots: [Slot; 16],
     pub late: [u32; 8],
+    pub log: Log,
 }
 
 // What one slave shows in one clock (rule 4.13): phase, owner, byte offset, lanes, length of the run, place in the run.
@@ -54,10 +76,11 @@ pub struct Step {
     pub last: bool,
 }
 
-// The answer of clock (rule 4.13): bit m of the mask is 1 where master m is finished.
+// The answer of clock (rule 4.13): bit m of the mask is 1 where master m is finished; each master's response, each slave's line.
 pub struct Clocked {
     pub number: u32,
     pub state: State,
     pub mask: u32,
+    pub responses: [u32; 8],
     pub lines: [Line; 16],
 }

@@ -39,27 +39,31 @@ slave-at-requires c κs = search needs
 master-at-requires : tie.Need-master-at-requires
 master-at-requires c κs = search needs
 
+default-at-requires : tie.Need-default-at-requires
+default-at-requires c κs = search needs
+
 transfer-refusal-by-requires : tie.Need-transfer-refusal-by-requires
 transfer-refusal-by-requires c κs =
-    let ours = c .before .before .before in
-    legal-width _ (starting ours .pre .0) _ (ours .before .master-count .ensures) (ours .if2 .taken) (c .master-at .ensures)
+    let ours = c .before .before .before .before in
+    legal-width _ (starting ours .pre .0) _ (ours .before .master-count .ensures) (ours .if2 .taken) (c .before .master-at .ensures)
 
-latency-of-requires : tie.Need-latency-of-requires
-latency-of-requires c κs = search needs
+latency-by-requires : tie.Need-latency-by-requires
+latency-by-requires c κs = search needs
 
 returns : tie.Need-returns
 returns c =
     let judged = c .before in
-    let found = judged .before .before .before in
+    let found = judged .before .before .before .before in
     let ours = found .before in
     let start = starting ours in
     let count = ours .before .before .before .slave-count .ensures in
-    let slave = judged .before .before .slave-at .ensures in
+    let slave = judged .before .before .before .slave-at .ensures in
     held-ours _ _ _ _ _ (ours .before .before .if1 .taken) (ours .before .master-count .ensures) (ours .if2 .taken)
     (found .target-of .ensures)
     (judged .transfer-refusal-by .ensures
-    ∙ refusal-parts _ (start .pre .0) _ _ _ (found .target-of .ensures) (judged .before .master-at .ensures) slave count)
-    (λ free. c .latency-of .ensures ∙ latency-parts _ (start .pre .0) _ _ _ (found .target-of .ensures) slave free)
+    ∙ refusal-parts _ (start .pre .0) _ _ _ (found .target-of .ensures) (judged .before .before .master-at .ensures) slave count
+    (judged .before .default-at .ensures))
+    (c .latency-by .ensures ∙ latency-parts _ (start .pre .0) _ _ _ (found .target-of .ensures) slave count)
 
 returns-2 : tie.Need-returns-2
 returns-2 c =
@@ -87,8 +91,9 @@ held-at-spec =
     cast-slave-at
     slave-at-requires
     master-at-requires
+    default-at-requires
     transfer-refusal-by-requires
-    latency-of-requires
+    latency-by-requires
     returns
     returns-2
     mul-targets-2

@@ -2,18 +2,25 @@
 -- The parts: a transfer, all of them, the state, the board and the state.
 -- Assumes nothing.
 use mathlib.Core.Path.{_≡_}
-use mathlib.Core.Bool.{Bool, true}
+use mathlib.Core.Bool.{Bool, true, cond}
 use mathlib.Core.List.{List}
 use Prim.Native.Nat.{ℕ}
 use lib.ListN.{set}
 use Rattle.common_laws.specs.Lists.{every}
+use Rattle.description_board.specs.declared.Slave.{Slave}
 use Rattle.description_board.specs.declared.Board.{Board}
 use Rattle.description_board.specs.Items.{boardRefusal}
 use Rattle.fabric_accesses.specs.declared.Transfer.{Transfer}
+use Rattle.fabric_accesses.specs.Accesses.{latencyOf}
 use Rattle.fabric_state.specs.declared.State.{State}
 use Rattle.fabric_check.specs.declared.Checked.{Checked}
+use Rattle.fabric_state.specs.Posting.{unmapped}
 use Rattle.fabric_state.specs.Soundness as soundness
 use Rattle.fabric_check.specs.Code.Targets.{heldTarget, targetsIn}
+
+-- the latency of t at the slave sl of number s, which is the count of slaves where t is unmapped (rules 4.16, 4.17)
+unfoldable pub latencyBy : Slave → Transfer → ℕ → ℕ → ℕ
+latencyBy sl t s count = cond (unmapped s count) 0 (latencyOf sl t)
 
 -- whether t breaks no rule with so many latency clocks to pass; where it breaks none, its slave is put at index m
 pub record Held (b : Board) (m : ℕ) (t : Transfer) (late : ℕ) (r : Bool) (before after : List ℕ) : Type 0 where

@@ -11,6 +11,8 @@ use Rattle.description_board.specs.declared.Board.{Board}
 use Rattle.fabric_accesses.specs.declared.Transfer.{Transfer}
 use Rattle.fabric_accesses.specs.Accesses.{noTransfer}
 use Rattle.fabric_accesses.specs.Decoding.{targetOf}
+use Rattle.fabric_state.specs.declared.State.{State}
+use Rattle.fabric_state.specs.Soundness.{unmappedAt}
 
 -- the slave of master m's transfer t, or the count of slaves where it is not held or for none
 unfoldable pub heldTarget : Board → ℕ → Transfer → ℕ
@@ -25,3 +27,7 @@ targetsIn b transfers = table (targetIn b transfers) 8
 -- bit m is 1 where the transfer of master m is for slave s
 unfoldable pub requestMask : List ℕ → ℕ → ℕ
 requestMask targets s = sum (λ m. cond (eqb (getD targets m 0) s) (2 ^ m) 0) 8
+
+-- bit m is 1 where master m holds an unmapped transfer (rule 4.17)
+unfoldable pub unmappedMask : Board → State → ℕ
+unmappedMask b st = sum (λ m. cond (unmappedAt b st m) (2 ^ m) 0) 8

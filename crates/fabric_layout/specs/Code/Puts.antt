@@ -5,19 +5,31 @@ use mathlib.Core.List.{List}
 use Prim.Native.Nat.{ℕ}
 use lib.Dec.{ltb}
 use lib.ListN.{getD, set}
+use Rattle.common_laws.specs.Bits.{bit}
 use Rattle.common_laws.specs.Lists.{table}
 use Rattle.fabric_state.specs.declared.Slot.{Slot}
+use Rattle.fabric_state.specs.declared.Entry.{Entry}
 use Rattle.fabric_state.specs.declared.State.{State}
 use Rattle.fabric_state.specs.declared.Line.{Line}
 use Rattle.fabric_state.specs.Records.{noLine, noSlot}
+use Rattle.fabric_state.specs.Logging.{withLog}
 
 -- a state with one slot set. With a transfer set: `Posting.withTransfer`
 unfoldable pub withSlot : State → ℕ → Slot → State
-withSlot st s x = record { transfers = st .transfers; slots = set (st .slots) s x; late = st .late }
+withSlot st s x = record { transfers = st .transfers; slots = set (st .slots) s x; late = st .late; log = st .log }
 
 -- and with the latency clocks of one master
 unfoldable pub withLate : State → ℕ → ℕ → State
-withLate st m n = record { transfers = st .transfers; slots = st .slots; late = set (st .late) m n }
+withLate st m n = record { transfers = st .transfers; slots = st .slots; late = set (st .late) m n; log = st .log }
+
+-- and with one entry of the log
+unfoldable pub withEntry : State → ℕ → Entry → State
+withEntry st i e =
+    withLog st (record { count = st .log .count; lost = st .log .lost; entries = set (st .log .entries) i e })
+
+-- rules 4.13, 4.17: the responses of a clock, by a mask of who has an unmapped transfer
+unfoldable pub responsesFor : ℕ → List ℕ
+responsesFor mask = table (λ m. cond (bit mask m) 3 0) 8
 
 -- of a clock's 16 lines, those from n on show nothing
 unfoldable pub firstLines : ℕ → List Line → List Line

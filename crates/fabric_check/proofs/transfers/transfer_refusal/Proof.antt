@@ -24,16 +24,19 @@ master-at-requires c κs = let start = c .before .before in omega (arith, accept
 slave-count-requires : tie.Need-slave-count-requires
 slave-count-requires c κs = search needs
 
+default-at-requires : tie.Need-default-at-requires
+default-at-requires c κs = search needs
+
 transfer-refusal-by-requires : tie.Need-transfer-refusal-by-requires
-transfer-refusal-by-requires c κs = let start = c .before .before .before .before in
-    rw (c .before .master-at .ensures) (accepted-legal _ (start .pre .0) .master _ (start .pre .1) .width)
+transfer-refusal-by-requires c κs = let start = c .before .before .before .before .before in
+    rw (c .before .before .master-at .ensures) (accepted-legal _ (start .pre .0) .master _ (start .pre .1) .width)
 
 returns : tie.Need-returns
 returns c =
-    let at = c .before .before .before .before in
+    let at = c .before .before .before .before .before in
     c .transfer-refusal-by .ensures
-    ∙ refusal-parts _ (at .before .pre .0) _ _ _ (at .target-of .ensures) (c .before .before .master-at .ensures)
-    (c .before .before .before .slave-at .ensures) (c .before .slave-count .ensures)
+    ∙ refusal-parts _ (at .before .pre .0) _ _ _ (at .target-of .ensures) (c .before .before .before .master-at .ensures)
+    (c .before .before .before .before .slave-at .ensures) (c .before .before .slave-count .ensures) (c .before .default-at .ensures)
 
 pub transfer-refusal-spec : {M : Type 1} → statement M
 transfer-refusal-spec =
@@ -44,5 +47,6 @@ transfer-refusal-spec =
     slave-at-requires
     master-at-requires
     slave-count-requires
+    default-at-requires
     transfer-refusal-by-requires
     returns)

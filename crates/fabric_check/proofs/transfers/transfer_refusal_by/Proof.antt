@@ -36,15 +36,15 @@ sub-if2 c = width-some _ (start (c .before) .pre)
 
 -- what is left of the definition behind the beats, the address, the lanes and the slave
 some-beats : (c : tie.Else1) → let a = start c .args in
-    transferRefusalBy (a .ma) (a .sl) (a .t) (a .target) (a .count)
+    transferRefusalBy (a .ma) (a .sl) (a .t) (a .target) (a .count) (a .default)
     ≡ cond (unaligned (a .ma) (a .t)) 14
-    (cond (wrongLanes (a .ma) (a .t)) 15 (cond (eqb (a .target) (a .count)) 16 (cond (passesEnd (a .ma) (a .sl) (a .t)) 17 0)))
+    (cond (wrongLanes (a .ma) (a .t)) 15 (cond (eqb (a .target) (a .count)) (cond (a .default) 0 16) (cond (passesEnd (a .ma) (a .sl) (a .t)) 17 0)))
 unfolding transferRefusalBy wrongBeats unmapped
 some-beats c = rw (c .if1 .left)
 
 aligned : (c : tie.Else2) → let a = start (counted (c .before)) .args in
-    transferRefusalBy (a .ma) (a .sl) (a .t) (a .target) (a .count)
-    ≡ cond (wrongLanes (a .ma) (a .t)) 15 (cond (eqb (a .target) (a .count)) 16 (cond (passesEnd (a .ma) (a .sl) (a .t)) 17 0))
+    transferRefusalBy (a .ma) (a .sl) (a .t) (a .target) (a .count) (a .default)
+    ≡ cond (wrongLanes (a .ma) (a .t)) 15 (cond (eqb (a .target) (a .count)) (cond (a .default) 0 16) (cond (passesEnd (a .ma) (a .sl) (a .t)) 17 0))
 unfolding unaligned
 aligned c =
     let some = counted (c .before) in
@@ -53,13 +53,13 @@ aligned c =
     rw (some-beats some, eq-eqb (a .t .address % a .ma .width) 0 e)
 
 lanes : (c : tie.Else3) → let a = start (counted (c .before .before .before)) .args in
-    transferRefusalBy (a .ma) (a .sl) (a .t) (a .target) (a .count)
-    ≡ cond (eqb (a .target) (a .count)) 16 (cond (passesEnd (a .ma) (a .sl) (a .t)) 17 0)
+    transferRefusalBy (a .ma) (a .sl) (a .t) (a .target) (a .count) (a .default)
+    ≡ cond (eqb (a .target) (a .count)) (cond (a .default) 0 16) (cond (passesEnd (a .ma) (a .sl) (a .t)) 17 0)
 unfolding wrongLanes
 lanes c = rw (aligned (c .before .before), ← c .before .post-lanes .ensures, c .if3 .left)
 
 mapped : (c : tie.Else4) → let a = start (counted (c .before .before .before .before)) .args in
-    transferRefusalBy (a .ma) (a .sl) (a .t) (a .target) (a .count) ≡ cond (passesEnd (a .ma) (a .sl) (a .t)) 17 0
+    transferRefusalBy (a .ma) (a .sl) (a .t) (a .target) (a .count) (a .default) ≡ cond (passesEnd (a .ma) (a .sl) (a .t)) 17 0
 mapped c = rw (lanes (c .before), ne-eqb _ _ (c .if4 .left))
 
 returns-2 : tie.Need-returns-2
@@ -75,8 +75,11 @@ returns-3 : tie.Need-returns-3
 unfolding wrongLanes
 returns-3 c = rw (aligned (c .before .before), ← c .before .post-lanes .ensures, c .if3 .taken)
 
+unmapped-number-requires : tie.Need-unmapped-number-requires
+unmapped-number-requires c κs = search needs
+
 returns-4 : tie.Need-returns-4
-returns-4 c = rw (lanes (c .before), eq-eqb _ _ (c .if4 .taken))
+returns-4 c = rw (lanes (c .before .before), eq-eqb _ _ (c .before .if4 .taken)) (c .unmapped-number .ensures)
 
 cast-bytes : tie.Need-cast-bytes
 cast-bytes c = search needs
@@ -123,6 +126,7 @@ transfer-refusal-by-spec =
     returns-2
     post-lanes-requires
     returns-3
+    unmapped-number-requires
     returns-4
     cast-bytes
     cast-bytes-2

@@ -1,0 +1,65 @@
+-- `fabric_layout::put_entry` meets its contract: three stores, and no other record has a number there. `count` tells the length.
+-- Assumes nothing.
+use borrow.Author.Needs.{needs}
+use Rattle.fabric_layout.proofs.RecordLaws.{mark-back}
+use Rattle.fabric_layout.proofs.LogPutLaws.{entry-put}
+use Rattle.fabric_layout.proofs.put_entry.Statement.{statement}
+use Rattle.fabric_layout.proofs.put_entry.Tie as tie
+
+count-requires : tie.Need-count-requires
+count-requires c κs = search needs
+
+mul-p : tie.Need-mul-p
+mul-p c = search needs
+
+add-p : tie.Need-add-p
+add-p c = search needs
+
+mul-st : tie.Need-mul-st
+mul-st c = search needs
+
+element-write-st : tie.Need-element-write-st
+element-write-st c = search needs
+
+add-st : tie.Need-add-st
+add-st c = search needs
+
+mul-st-2 : tie.Need-mul-st-2
+mul-st-2 c = search needs
+
+element-write-st-2 : tie.Need-element-write-st-2
+element-write-st-2 c = search needs
+
+mark-of-requires : tie.Need-mark-of-requires
+mark-of-requires c κs = search needs
+
+add-st-2 : tie.Need-add-st-2
+add-st-2 c = search needs
+
+mul-st-3 : tie.Need-mul-st-3
+mul-st-3 c = search needs
+
+element-write-st-3 : tie.Need-element-write-st-3
+element-write-st-3 c = search needs
+
+returns : tie.Need-returns
+returns c =
+    entry-put _ (search needs) _ _ _ (search needs) (mark-back (c .before .before .before .before .args .e .write) (c .mark-of .ensures))
+
+pub put-entry-spec : {M : Type 1} → statement M
+put-entry-spec =
+    tie.close
+    (tie.spec
+    count-requires
+    mul-p
+    add-p
+    mul-st
+    element-write-st
+    add-st
+    mul-st-2
+    element-write-st-2
+    mark-of-requires
+    add-st-2
+    mul-st-3
+    element-write-st-3
+    returns)
