@@ -15,9 +15,10 @@ use Rattle.fabric_accesses.specs.Accesses.{noTransfer}
 use Rattle.fabric_bytes.specs.Bytes.{Store}
 use Rattle.fabric_state.specs.declared.State.{State}
 use Rattle.fabric_state.specs.declared.Line.{Line}
+use Rattle.fabric_state.specs.Soundness.{unmappedAt}
 use Rattle.fabric_state.specs.Control.{finished, maskOf, transferAfter, stateAfter}
 use Rattle.fabric_state.proofs.StateLaws.{mask-bit, transfer-kept}
-use Rattle.fabric_check.specs.Code.Targets.{targetsIn, requestMask}
+use Rattle.fabric_check.specs.Code.Targets.{targetsIn, requestMask, unmappedMask}
 use Rattle.fabric_cycle.specs.Code.Cycles.{Clocks}
 
 -- for a state of 8 transfers
@@ -36,6 +37,10 @@ module _ (b : Board) (u v : State) (shown : List Line) (r : ℕ) (d e : Store) (
     (c : Clocks b u v shown r d e) where
   pub same-transfers : r ≡ 0 → v .transfers ≡ u .transfers
   same-transfers z = ap (λ (x : State). x .transfers) (c .state) ∙ transfers-kept b u l (sym (c .mask) ∙ z)
+
+  pub same-unmapped : {unmapped : ℕ} → r ≡ 0 → unmapped ≡ unmappedMask b u → unmapped ≡ unmappedMask b v
+  unfolding unmappedMask unmappedAt
+  same-unmapped z q = q ∙ rw (same-transfers z)
 
   pub same-requests : {masks : List ℕ} → r ≡ 0 → masks ≡ table (requestMask (targetsIn b (u .transfers))) 16
       → masks ≡ table (requestMask (targetsIn b (v .transfers))) 16

@@ -69,6 +69,16 @@ module _ (st : State) (m : ℕ) where
       go false true = refl
       go false false = refl
 
+  counted-log : (n : ℕ) → countedAt st m n .log ≡ st .log
+  unfolding countedAt withTransfer withLate
+  counted-log n = go (eqb n 0) (eqb n 1)
+    where
+      go : (c d : Bool)
+          → cond c st (cond d (withTransfer (withLate st m 0) m noTransfer) (withLate st m (n - 1))) .log ≡ st .log
+      go true d = refl
+      go false true = refl
+      go false false = refl
+
   counted-transfers : (n : ℕ)
       → countedAt st m n .transfers ≡ set (st .transfers) m (cond (eqb n 1) noTransfer (transferAt st m))
   unfolding countedAt withTransfer withLate
@@ -113,6 +123,7 @@ module _ (u : State) where
   unfolding sum filled
   counted-begin l k = record {
     slots = refl;
+    log = refl;
     transfers = filled-none (countedTransfer u) (transferAt u) 8 noTransfer (u .transfers) l (λ m h. refl);
     late = filled-none (λ m. lateAt u m - 1) (lateAt u) 8 0 (u .late) k (λ m h. refl);
     free = refl;
@@ -147,6 +158,7 @@ module _ (u : State) where
       unfolding filled countedTransfer
       counted-next e = record {
         slots = ap (λ (x : State). x .slots) e ∙ counted-slots v m n ∙ p .slots;
+        log = ap (λ (x : State). x .log) e ∙ counted-log v m n ∙ p .log;
         transfers =
             ap (λ (x : State). x .transfers) e ∙ counted-transfers v m n
             ∙ filled-next (countedTransfer u) (transferAt u) 8 m (p .transfers)
@@ -180,6 +192,7 @@ module _ (u : State) (l : length (u .transfers) ≡ 8) (k : length (u .late) ≡
   unfolding countedTransfer sum
   counted-idle = record {
     slots = refl;
+    log = refl;
     transfers =
         table-is (λ m. cond (ltb m 8) (countedTransfer u m) (transferAt u m)) 8 noTransfer (u .transfers) l
         (λ m h. rw (lt-ltb m 8 h, zero-each m h));

@@ -4,4 +4,5 @@ pub mod ReachLaws
 pub mod SlaveClockLaws
 pub mod LatencyLaws
 pub mod PassLaws
+pub mod UnmappedLaws
 pub mod AgainLaws

@@ -39,8 +39,8 @@ use Rattle.fabric_state.specs.Records.{noLine, noSlot, transferAt, slotAt, late
 use Rattle.fabric_state.specs.Soundness.{holdsFor, requests, latencyAt}
 use Rattle.fabric_state.specs.Posting.{withTransfer}
 use Rattle.fabric_state.specs.Control.{grantAt, slotAfterGrant, stepOf, lineAfter, slotAfter, endsAt, ended, lateAfter}
-use Rattle.fabric_state.specs.Control.{finished, maskOf, transferAfter, stateAfter, linesOf}
-use Rattle.fabric_state.specs.Carrying.{carried, carriedBy, storeAfter}
+use Rattle.fabric_state.specs.Control.{completed, linesOf}
+use Rattle.fabric_state.specs.Carrying.{carried, carriedBy}
 use Rattle.fabric_state.proofs.Sound.{Sound}
 use Rattle.fabric_state.proofs.SoundLaws.{sound-facts, requester, grant-sound, last-asks, ended-asks}
 use Rattle.fabric_state.proofs.StateLaws.{late-ends, late-none, late-less}
@@ -55,7 +55,7 @@ use Rattle.fabric_cycle.proofs.ServeLaws.{from-resting, carried-resting
 use Rattle.fabric_cycle.proofs.ReachLaws.{start-next, grant-placed, grant-reached}
 use Rattle.fabric_cycle.specs.declared.Latent.{Latent}
 use Rattle.fabric_cycle.specs.Code.Latency.{countedTransfer, Counted}
-use Rattle.fabric_cycle.specs.Code.Cycles.{Passes, Clocks}
+use Rattle.fabric_cycle.specs.Code.Cycles.{Passes, stateActed, Acted}
 use Rattle.fabric_cycle.specs.Code.SlaveClocks.{slotAsked, stepAt, carriedAt, latencyBehind, endedTransfer}
 use Rattle.fabric_cycle.specs.Code.SlaveClocks.{stateStepped, Serving, Ready, SlaveClocked}
 
@@ -166,6 +166,7 @@ finishesAt b u m i = endsAt b u m i && eqb (latencyAt b m (transferAt u m)) 0
 pub record Pass (b : Board) (u v : State) (s start : ℕ) (lines shown : List Line) (done : ℕ) (d e : Store) : Type 0 where
   pub within : s ≤ b .«slave_count»
   pub slots : v .slots ≡ filled (λ i. stepOf b u i .slot) (slotAt u) 16 s
+  pub log : v .log ≡ u .log
   pub transfers : v .transfers ≡ table (λ m. cond (some (finishesAt b u m) s) noTransfer (countedTransfer u m)) 8
   pub late : v .late ≡ table (λ m. cond (some (endsAt b u m) s) (latencyAt b m (transferAt u m)) (lateAt u m - 1)) 8
   pub shows : shown ≡ filled (λ i. stepOf b u i .line) (λ i. getD lines i noLine) 16 s
@@ -197,6 +198,20 @@ module _ (b : Board) (v : State) (s : ℕ) (x : Slot) where
           (withLate (withSlot v s (stepAt b v s x .slot)) (x .owner) (latencyBehind b v s x)))
           (withSlot v s (stepAt b v s x .slot)) .slots
           ≡ set (v .slots) s (stepAt b v s x .slot)
+      go true true = refl
+      go true false = refl
+      go false e = refl
+
+  stepped-log : stateStepped b v s x .log ≡ v .log
+  unfolding stateStepped endedTransfer withTransfer withLate withSlot
+  stepped-log = go (stepAt b v s x .last) (eqb (latencyBehind b v s x) 0)
+    where
+      go : (c e : Bool)
+          → cond c
+          (cond e (withTransfer (withSlot v s (stepAt b v s x .slot)) (x .owner) noTransfer)
+          (withLate (withSlot v s (stepAt b v s x .slot)) (x .owner) (latencyBehind b v s x)))
+          (withSlot v s (stepAt b v s x .slot)) .log
+          ≡ v .log
       go true true = refl
       go true false = refl
       go false e = refl
@@ -534,6 +549,7 @@ module _ (b : Board) (u : State) (l : length (u .transfers) ≡ 8) (k : length (
           pass-next q m n = record {
             within = omega arith;
             slots = slots-next;
+            log = ap (λ (x : State). x .log) (t .state) ∙ stepped-log b v s (slotAsked b v s mask) ∙ p .log;
             transfers = transfers-next;
             late = late-next;
             shows = t .shows
@@ -561,6 +577,7 @@ module _ (b : Board) (u : State) (l : length (u .transfers) ≡ 8) (k : length (
     pass-begin lines d full = record {
       within = omega arith;
       slots = c .slots ∙ filled-none (λ i. stepOf b u i .slot) (slotAt u) 16 noSlot (u .slots) k (λ i h. refl);
+      log = c .log;
       transfers = c .transfers ∙ table-same _ _ 8 (λ m h. rw (lt-ltb m 8 h));
       late = c .late ∙ table-same _ _ 8 (λ m h. rw (lt-ltb m 8 h));
       shows = filled-none (λ i. stepOf b u i .line) (λ i. getD lines i noLine) 16 noLine lines full (λ i h. refl);
@@ -573,10 +590,10 @@ module _ (b : Board) (u : State) (l : length (u .transfers) ≡ 8) (k : length (
       bytes = refl;
     }
 
-  -- who is finished in this clock, and the latency clocks behind it, by the last accesses of all slaves
-  finished-is : (m : ℕ) → finished b u m ≡ (eqb (lateAt u m) 1 || some (finishesAt b u m) (b .«slave_count»))
-  unfolding finished ended
-  finished-is m = rw (some-with (endsAt b u m) (eqb (latencyAt b m (transferAt u m)) 0) (b .«slave_count»)) (go (ℕ-discrete (lateAt u m) 0))
+  -- who has completed its transfer in this clock, and the latency clocks behind it, by the last accesses of all slaves
+  completed-is : (m : ℕ) → completed b u m ≡ (eqb (lateAt u m) 1 || some (finishesAt b u m) (b .«slave_count»))
+  unfolding completed ended
+  completed-is m = rw (some-with (endsAt b u m) (eqb (latencyAt b m (transferAt u m)) 0) (b .«slave_count»)) (go (ℕ-discrete (lateAt u m) 0))
     where
       behind : ℕ
       behind = latencyAt b m (transferAt u m)
@@ -619,24 +636,25 @@ module _ (b : Board) (u : State) (l : length (u .transfers) ≡ 8) (k : length (
 
   pub pass-end : (v : State) (s start : ℕ) (lines shown : List Line) (done : ℕ) (d e : Store) {i : ℕ}
       {after : List Line} → Pass b u v s start lines shown done d e → s ≡ b .«slave_count» → i ≡ b .«slave_count»
-      → after ≡ firstLines i shown → Clocks b u v after done d e
-  unfolding stateAfter slotAfter linesOf lineAfter maskOf storeAfter filled transferAfter countedTransfer
+      → after ≡ firstLines i shown → Acted b u v after done d e
+  unfolding stateActed slotAfter linesOf lineAfter filled countedTransfer
   pass-end v s start lines shown done d e {i} {after} p f g q = record {
     state =
-        let a : v .transfers ≡ stateAfter b u .transfers = (rw f at (p .transfers)) ∙ table-same _ _ 8 (λ m h. ended-transfer m) in
-        let c : v .slots ≡ stateAfter b u .slots = rw f at (p .slots) in
-        let w : v .late ≡ stateAfter b u .late = (rw f at (p .late)) ∙ table-same _ _ 8 (λ m h. sym (late-is m)) in
-        rw (a, c, w) refl;
+        let a : v .transfers ≡ stateActed b u .transfers = (rw f at (p .transfers)) ∙ table-same _ _ 8 (λ m h. ended-transfer m) in
+        let c : v .slots ≡ stateActed b u .slots = rw f at (p .slots) in
+        let w : v .late ≡ stateActed b u .late = (rw f at (p .late)) ∙ table-same _ _ 8 (λ m h. sym (late-is m)) in
+        rw (a, c, w, p .log) refl;
     lines =
         first-put (λ j. stepOf b u j .line) (λ j. getD lines j noLine) (b .«slave_count») (rw f at (p .shows)) (rw g at q);
     mask =
-        (rw f at (p .finished)) ∙ sum-same _ _ 8 (λ m h. ap (λ (y : Bool). cond y (2 ^ m) 0) (sym (finished-is m)));
+        (rw f at (p .finished)) ∙ sum-same _ _ 8 (λ m h. ap (λ (y : Bool). cond y (2 ^ m) 0) (sym (completed-is m)));
     store = rw f at (p .bytes);
   }
     where
       ended-transfer : (m : ℕ)
-          → cond (some (finishesAt b u m) (b .«slave_count»)) noTransfer (countedTransfer u m) ≡ transferAfter b u m
-      ended-transfer m = rw (finished-is m) (go (eqb (lateAt u m) 1) (some (finishesAt b u m) (b .«slave_count»)))
+          → cond (some (finishesAt b u m) (b .«slave_count»)) noTransfer (countedTransfer u m)
+          ≡ cond (completed b u m) noTransfer (transferAt u m)
+      ended-transfer m = rw (completed-is m) (go (eqb (lateAt u m) 1) (some (finishesAt b u m) (b .«slave_count»)))
         where
           go : (c y : Bool) → cond y noTransfer (cond c noTransfer (transferAt u m)) ≡ cond (c || y) noTransfer (transferAt u m)
           go true true = refl

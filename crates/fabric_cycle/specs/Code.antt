@@ -2,3 +2,4 @@ pub mod Cycles
 pub mod Latency
 pub mod Serving
 pub mod SlaveClocks
+pub mod Unmapped

@@ -1,4 +1,5 @@
-// One clock of an accepted board in a state that breaks no rule, slave by slave (rules 4.3 to 4.9, 4.11, 4.16).
+// One clock of an accepted board in a state that breaks no rule, slave by slave (rules 4.3 to 4.9, 4.11, 4.16), and then the masters
+// that hold unmapped transfers (rules 4.17, 4.18).
 // The state is changed where it stands.
 mod slave;
 
@@ -7,21 +8,24 @@ use common_numbers::LINES_NUMBERS;
 use common_numbers::SLAVES;
 use common_numbers::STATE_NUMBERS;
 use fabric_accesses::NO_TRANSFER;
+use fabric_accesses::Transfer;
 use fabric_arbiter::Winner;
+use fabric_state::Entry;
 use fabric_state::NO_LINE;
 use fabric_state::Slot;
 ghost use mathlib.Core.Path.{_≡_};
 ghost use mathlib.Core.Bool.{false};
-ghost use Prim.Native.Nat.{_<_};
+ghost use Prim.Native.Nat.{_*_, _≤_, _<_};
 ghost use lib.ListN.{length};
 ghost use Rattle.common_laws.specs.Lists.{table, sum};
-ghost use Rattle.description_board.specs.Records.{memoryLength};
+ghost use Rattle.description_board.specs.Records.{masterAt, memoryLength};
 ghost use Rattle.fabric_bytes.specs.Bytes.{bufferLength};
 ghost use Rattle.fabric_state.specs.Records.{lateAt};
 ghost use Rattle.description_layout.specs.Layout.{boardIn};
 ghost use Rattle.fabric_layout.specs.Layout.{stateIn, linesIn};
-ghost use Rattle.fabric_check.specs.Code.Targets.{targetsIn, requestMask};
-ghost use Rattle.fabric_cycle.specs.Code.Cycles.{Passes, Clocks};
+ghost use Rattle.fabric_check.specs.Code.Targets.{targetsIn, requestMask, unmappedMask};
+ghost use Rattle.fabric_cycle.specs.Code.Cycles.{Passes, Acted, Clocks};
+ghost use Rattle.fabric_cycle.specs.Code.Unmapped.{bytesHeld, clearedBehind, answeredAt, clearedAt, Answered, Answerable};
 ghost use Rattle.fabric_cycle.specs.Code.Latency.{countedAt, Counted};
 ghost use Rattle.fabric_cycle.specs.Code.SlaveClocks.{slotAsked, endedTransfer, Ready, Serving, SlaveClocked};
 
@@ -191,11 +195,12 @@ fn clock_slave(
     0
 }
 
-// A clock that is not refused (rules 4.1, 4.3 to 4.14, 4.16): the latency clocks, then one pass over the slaves; `holders` are the
-// masks of who holds a transfer for each of them before the clock, and of these the masters without latency clocks request it. A
+// What the slaves do in a clock that is not refused (rules 4.1, 4.3 to 4.14, 4.16): the latency clocks, then one pass over them; `holders`
+// are the masks of who holds a transfer for each of them before the clock, and of these the masters without latency clocks request it. A
 // slave's slot is read in its own clock only, and a transfer that a slave is to serve is for that slave alone, and in no latency: so
-// what a slave reads in the state that is being changed stood there before the clock. Answers the mask of masters finished.
-pub fn cycle(
+// what a slave reads in the state that is being changed stood there before the clock. Answers the mask of masters whose
+// transfers are completed.
+fn act(
     board: &[u32; BOARD_NUMBERS],
     st: &mut [u32; STATE_NUMBERS],
     holders: &[u32; SLAVES],
@@ -206,7 +211,7 @@ pub fn cycle(
     requires { ⌜ Passes (boardIn (now board)) (stateIn (now st))
         × (now holders ≡ table (requestMask (targetsIn (boardIn (now board)) (stateIn (now st) .transfers))) 16)
         × (length (now memory) ≡ memoryLength (boardIn (now board))) × (length (now buffer) ≡ bufferLength) ⌝ }
-    ensures { λ r. ⌜ Clocks (boardIn (now (board .entry))) (stateIn (now (st .entry))) (stateIn (now (st .exit)))
+    ensures { λ r. ⌜ Acted (boardIn (now (board .entry))) (stateIn (now (st .entry))) (stateIn (now (st .exit)))
         (linesIn (now (lines .exit))) r (record { memory = now (memory .entry); buffer = now (buffer .entry) })
         (record { memory = now (memory .exit); buffer = now (buffer .exit) }) ⌝ }
 {
@@ -233,4 +238,88 @@ pub fn cycle(
     }
     fabric_layout::first_lines(lines, count);
     finished
+}
+
+// The words of the unmapped transfer t of master m become 0 where it is a read (rule 4.17).
+fn clear_read(board: &[u32; BOARD_NUMBERS], m: usize, t: Transfer, buffer: &mut [u8])
+    requires { ⌜ (m < 8) × (length (now buffer) ≡ bufferLength) × (t .beats * masterAt (boardIn (now board)) m .width ≤ 512) ⌝ }
+    ensures { λ _. ⌜ now (buffer .exit) ≡ clearedBehind (boardIn (now (board .entry))) m t (now (buffer .entry)) ⌝ }
+{
+    if t.write {
+        return;
+    }
+    let ma = description_layout::master_at(board, m);
+    let bytes = t.beats * ma.width;
+    fabric_bytes::clear_front(buffer, m, bytes as usize);
+}
+
+// The unmapped transfer of master m (rules 4.17, 4.18): the words of a read become 0, the transfer enters the log and ends.
+fn answer_at(
+    board: &[u32; BOARD_NUMBERS],
+    st: &mut [u32; STATE_NUMBERS],
+    m: usize,
+    buffer: &mut [u8],
+)
+    requires { ⌜ (m < 8) × (stateIn (now st) .log .count ≤ 8) × (length (now buffer) ≡ bufferLength)
+        × (bytesHeld (boardIn (now board)) (stateIn (now st)) m ≤ 512) ⌝ }
+    ensures { λ _. ⌜ (stateIn (now (st .exit)) ≡ answeredAt (stateIn (now (st .entry))) m)
+        × (now (buffer .exit) ≡ clearedAt (boardIn (now (board .entry))) (stateIn (now (st .entry))) m (now (buffer .entry))) ⌝ }
+{
+    let t = fabric_layout::transfer_at(st, m);
+    clear_read(board, m, t, buffer);
+    fabric_layout::put_transfer(st, m, NO_TRANSFER);
+    let e = Entry {
+        master: m as u32,
+        address: t.address,
+        write: t.write,
+    };
+    fabric_layout::enter(st, e);
+}
+
+// The unmapped transfers of the masters in the mask, by master number (rules 4.17, 4.18). No slave has a part in them: the memory is
+// not lent.
+fn answer_unmapped(
+    board: &[u32; BOARD_NUMBERS],
+    st: &mut [u32; STATE_NUMBERS],
+    mask: u32,
+    buffer: &mut [u8],
+)
+    requires { ⌜ Answerable (boardIn (now board)) (stateIn (now st)) mask (now buffer) ⌝ }
+    ensures { λ _. ⌜ Answered (boardIn (now (board .entry))) (stateIn (now (st .entry))) (stateIn (now (st .exit))) mask 8
+        (now (buffer .entry)) (now (buffer .exit)) ⌝ }
+{
+    let mut m: usize = 0;
+    while m < 8 {
+        if (mask >> m) % 2 == 1 {
+            answer_at(board, st, m, buffer);
+        }
+        m += 1;
+    }
+}
+
+// A clock that is not refused (rules 4.1, 4.3 to 4.18): what the slaves do, then the unmapped transfers; `unmapped` is the mask of who holds
+// one. Answers the mask of masters finished.
+pub fn cycle(
+    board: &[u32; BOARD_NUMBERS],
+    st: &mut [u32; STATE_NUMBERS],
+    holders: &[u32; SLAVES],
+    unmapped: u32,
+    lines: &mut [u32; LINES_NUMBERS],
+    memory: &mut [u8],
+    buffer: &mut [u8],
+) -> u32
+    requires { ⌜ Passes (boardIn (now board)) (stateIn (now st))
+        × (now holders ≡ table (requestMask (targetsIn (boardIn (now board)) (stateIn (now st) .transfers))) 16)
+        × (unmapped ≡ unmappedMask (boardIn (now board)) (stateIn (now st)))
+        × (length (now memory) ≡ memoryLength (boardIn (now board))) × (length (now buffer) ≡ bufferLength) ⌝ }
+    ensures { λ r. ⌜ Clocks (boardIn (now (board .entry))) (stateIn (now (st .entry))) (stateIn (now (st .exit)))
+        (linesIn (now (lines .exit))) r (record { memory = now (memory .entry); buffer = now (buffer .entry) })
+        (record { memory = now (memory .exit); buffer = now (buffer .exit) }) ⌝ }
+{
+    let completed = act(board, st, holders, lines, memory, buffer);
+    if unmapped == 0 {
+        return completed;
+    }
+    answer_unmapped(board, st, unmapped, buffer);
+    completed + unmapped
 }

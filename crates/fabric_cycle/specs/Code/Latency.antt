@@ -25,6 +25,7 @@ countedAt st m n =
 -- the latency clocks of the first n masters are counted: who has none, and who has its last
 pub record Counted (before after : State) (n : ℕ) (r : Latent) : Type 0 where
   pub slots : after .slots ≡ before .slots
+  pub log : after .log ≡ before .log
   pub transfers : after .transfers ≡ table (λ m. cond (ltb m n) (countedTransfer before m) (transferAt before m)) 8
   pub late : after .late ≡ table (λ m. cond (ltb m n) (lateAt before m - 1) (lateAt before m)) 8
   pub free : r .free ≡ sum (λ m. cond (eqb (lateAt before m) 0) (2 ^ m) 0) n
