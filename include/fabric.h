@@ -7,18 +7,19 @@
  *   fabric_refused_at, _refused_master     the line that is to blame for a refusal; the master that 20 names
  *   fabric_reset, fabric_post              the state after a reset; a master hands in a transfer
  *   fabric_clock, fabric_run               one clock of all slaves; clocks until a master finishes
+ *   fabric_take                            the oldest entry of the log of unmapped transfers
  *   fabric_wait                            the most clocks that a master waits at a slave
  *
  * A rule that is cited by its number, as rule 4.13, stands in docs/RULES.md. Refusal k is rule 7.k.
  *
  * Each call but fabric_refused_master answers FABRIC_TAKEN or the number of a refusal. It judges the description, line by line
  * (rule 8.2), or the board first, and then in rising order of the numbers (rule 8.4). Where it refuses, board, state, memory,
- * buffer and out stay as they were, and all numbers of lines, mask and clocks are 0 (rule 8.1). The calls keep nothing and
+ * buffer and out stay as they were, and all numbers of lines, responses, mask, clocks and entry are 0 (rule 8.1). The calls keep nothing and
  * allocate nothing: board, state, lines, memory and buffer are the caller's, and calls on different ones may be made at the same
  * time.
  *
  * A board, a state and a clock's lines are plain numbers of 32 bits, which may also be set by hand (rules 1.10 and 2.4). A
- * mark (held, write, serving) is yes unless it is 0. Every other number is judged as it stands, none is cut to fewer bits: a
+ * mark (held, write, serving, lost, default_line) is yes unless it is 0. Every other number is judged as it stands, none is cut to fewer bits: a
  * wait of 300 is refused with 3, a latency of 64 too, an owner of 256 with 9, lanes of 256 with 15.
  *
  * The functions are proved to answer as said here for all numbers, bytes and lengths. The caller's part: no pointer is null,
@@ -36,7 +37,7 @@ extern "C" {
 #endif
 
 /* The version of this header and of the library. */
-#define FABRIC_VERSION "1.6"
+#define FABRIC_VERSION "1.7"
 
 /* The most masters and slaves of a board (rule 1.1), and the most bytes of its description (rule 1.2). */
 #define FABRIC_MASTERS 8
@@ -55,13 +56,17 @@ extern "C" {
 #define FABRIC_WAIT_BYTES 16
 
 /* How many numbers the structs below are: each may be handled as an array of uint32_t, members in their order. */
-#define FABRIC_BOARD_NUMBERS 274
-#define FABRIC_STATE_NUMBERS 128
+#define FABRIC_BOARD_NUMBERS 275
+#define FABRIC_STATE_NUMBERS 154
 #define FABRIC_LINES_NUMBERS 96
+#define FABRIC_ENTRY_NUMBERS 3
+
+/* The most entries of the log (rule 4.18). */
+#define FABRIC_LOG_ENTRIES 8
 
 /*
  * What the calls answer. Whoever writes the description causes 1 to 7 and 19 to 21, whoever embeds the library 8 to 10, whoever
- * posts or asks for a wait 11 to 18. The comments are reminders: rule 7.k has refusal k whole.
+ * posts or asks for a wait 11 to 18, whoever reads the log 22. The comments are reminders: rule 7.k has refusal k whole.
  */
 #define FABRIC_TAKEN 0
 #define FABRIC_BAD_TEXT 1       /* the text's length or last line feed; a line's first word, its fields, a number */
@@ -79,12 +84,17 @@ extern "C" {
 #define FABRIC_BAD_BEATS 13     /* no beat, or more beats than the master's burst */
 #define FABRIC_BAD_ADDRESS 14   /* an address that the master's width does not divide */
 #define FABRIC_BAD_LANES 15     /* lanes that rules 3.4 and 3.5 do not allow */
-#define FABRIC_NOT_CONNECTED 16 /* the address selects no slave (rule 3.6); for a wait, no connected pair */
+#define FABRIC_NOT_CONNECTED 16 /* the address selects no slave (rule 3.7); for a wait, no connected pair */
 #define FABRIC_PAST_END 17      /* beats beyond the slave's span */
 #define FABRIC_BAD_WORDS 18     /* words of another length than beats * width; any words of a read */
 #define FABRIC_TOO_NARROW 19    /* shares of a master that is narrower than its native slave */
 #define FABRIC_NO_SHARE 20      /* a master without shares at any slave */
 #define FABRIC_SHARE_ORDER 21   /* a share line that is not in order, by master, then slave; of a text alone */
+#define FABRIC_EMPTY_LOG 22     /* no entry of the log is there to take */
+
+/* The responses of a clock (rules 4.13 and 4.17). */
+#define FABRIC_OKAY 0
+#define FABRIC_DECODE_ERROR 3
 
 /* The phases of a slave's line (rule 4.13). */
 #define FABRIC_IDLE 0
@@ -114,11 +124,12 @@ struct fabric_board {
     struct fabric_master master[FABRIC_MASTERS];
     struct fabric_slave slave[FABRIC_SLAVES];
     uint32_t shares[FABRIC_MASTERS][FABRIC_SLAVES]; /* of a master at a slave; 0 where they are not connected (rule 1.8) */
+    uint32_t default_line; /* a mark: the line `default`, an answer for unmapped transfers (rules 1.11 and 3.7) */
 };
 
 /*
- * The state: the transfer that each master holds (rules 3.1 and 3.3), each slave's slot (rule 4.1), and for each master the latency
- * clocks that its read still has to pass (rule 4.16).
+ * The state: the transfer that each master holds (rules 3.1 and 3.3), each slave's slot (rule 4.1), for each master the latency
+ * clocks that its read still has to pass (rule 4.16), and the log of unmapped transfers (rule 4.18).
  */
 struct fabric_transfer {
     uint32_t held; /* a mark; the other numbers count only where it is yes */
@@ -136,10 +147,23 @@ struct fabric_slot {
     uint32_t waited; /* waits passed */
 };
 
+struct fabric_entry {
+    uint32_t master;
+    uint32_t address;
+    uint32_t write; /* a mark: 0 for a read */
+};
+
+struct fabric_log {
+    uint32_t count; /* how many entries stand, FABRIC_LOG_ENTRIES at the most; those behind it are not looked at */
+    uint32_t lost;  /* a mark: a transfer was dropped since the reset because the log was full */
+    struct fabric_entry entry[FABRIC_LOG_ENTRIES]; /* the oldest first */
+};
+
 struct fabric_state {
     struct fabric_transfer transfer[FABRIC_MASTERS];
     struct fabric_slot slot[FABRIC_SLAVES];
     uint32_t late[FABRIC_MASTERS]; /* for a read that is held and not served at most the slave's latency, else 0 (rule 7.9) */
+    struct fabric_log log;
 };
 
 /* What a clock shows of a slave (rule 4.13): an idle one 0 everywhere, a waiting one the access that it waits for. */
@@ -160,6 +184,7 @@ struct fabric_lines {
 typedef char fabric_board_fits[sizeof(struct fabric_board) == FABRIC_BOARD_NUMBERS * sizeof(uint32_t) ? 1 : -1];
 typedef char fabric_state_fits[sizeof(struct fabric_state) == FABRIC_STATE_NUMBERS * sizeof(uint32_t) ? 1 : -1];
 typedef char fabric_lines_fits[sizeof(struct fabric_lines) == FABRIC_LINES_NUMBERS * sizeof(uint32_t) ? 1 : -1];
+typedef char fabric_entry_fits[sizeof(struct fabric_entry) == FABRIC_ENTRY_NUMBERS * sizeof(uint32_t) ? 1 : -1];
 
 /*
  * Reads a description (rules 1.1 to 1.8).
@@ -213,41 +238,57 @@ uint32_t fabric_reset(const struct fabric_board *board, struct fabric_state *sta
  *   address, lanes, beats   the first byte's address, the lanes of the master's word (rules 3.4 and 3.5), the count of words
  *   words, words_length     beats * width bytes, lowest address first; for a read 0 bytes
  *
- * Refused with 2 to 7, 19 and 20 (the board), 8 (the buffer), 9 (the state) and 11 to 18 (the transfer).
+ * Refused with 2 to 7, 19 and 20 (the board), 8 (the buffer), 9 (the state) and 11 to 18 (the transfer). A board with the line
+ * `default` does not refuse with 16: it takes an unmapped transfer, which the next clock finishes (rules 3.7 and 4.17).
  */
 uint32_t fabric_post(const struct fabric_board *board, struct fabric_state *state, uint8_t *buffer, size_t buffer_length,
                      uint32_t master, uint32_t write, uint32_t address, uint32_t lanes, uint32_t beats,
                      const uint8_t *words, size_t words_length);
 
 /*
- * One clock of all slaves (rules 4.1 to 4.14 and 4.16).
+ * One clock of all slaves (rules 4.1 to 4.14 and 4.16 to 4.18).
  *
  *   board, state            the state as the clock leaves it
  *   memory, memory_length   what the spans add up to; the bytes of a write access go there
- *   buffer, buffer_length   FABRIC_BUFFER_BYTES; the bytes of a read access go to its master's part
+ *   buffer, buffer_length   FABRIC_BUFFER_BYTES; the bytes of a read access go to its master's part, those of an unmapped read
+ *                           become 0 there
  *   lines                   what the clock shows of each slave; behind the board's slaves 0
+ *   responses               FABRIC_MASTERS numbers: FABRIC_DECODE_ERROR for a master whose unmapped transfer is finished, which
+ *                           enters the state's log (rules 4.17 and 4.18), else FABRIC_OKAY
  *   mask                    the masters that are finished, bit m for master m: a write with its last access, a read at a slave
  *                           with latency L in the L-th clock after its last access, which has freed the slave (rule 4.16)
  *
  * Refused with 2 to 7, 19 and 20 (the board), 8 (memory or buffer) and 9 (the state).
  */
 uint32_t fabric_clock(const struct fabric_board *board, struct fabric_state *state, uint8_t *memory, size_t memory_length,
-                      uint8_t *buffer, size_t buffer_length, struct fabric_lines *lines, uint32_t *mask);
+                      uint8_t *buffer, size_t buffer_length, struct fabric_lines *lines, uint32_t *responses,
+                      uint32_t *mask);
 
 /*
  * A run of clocks (rule 4.15): until a master finishes or `most` have passed. It leaves what as many calls of fabric_clock
  * leave (rule 6.11); board and state are checked once.
  *
  *   board, state, memory, buffer   as for fabric_clock
- *   lines, mask                    of the last clock; 0 where most is 0
+ *   lines, responses, mask         of the last clock; 0 where most is 0
  *   most                           the most clocks
  *   clocks                         how many there were
  *
  * Refused as fabric_clock is, also where most is 0.
  */
 uint32_t fabric_run(const struct fabric_board *board, struct fabric_state *state, uint8_t *memory, size_t memory_length,
-                    uint8_t *buffer, size_t buffer_length, struct fabric_lines *lines, uint32_t most, uint32_t *clocks,
-                    uint32_t *mask);
+                    uint8_t *buffer, size_t buffer_length, struct fabric_lines *lines, uint32_t *responses, uint32_t most,
+                    uint32_t *clocks, uint32_t *mask);
+
+/*
+ * Takes the oldest entry out of the log of unmapped transfers (rule 4.19), which makes space for another one. Every other entry moves
+ * one place down. The lost mark stays until a reset.
+ *
+ *   board, state   the state without that entry
+ *   entry          the entry: which master posted to which address, and whether it was a write, 0 or 1
+ *
+ * Refused with 2 to 7, 19 and 20 (the board), 9 (the state) and 22 (an empty log).
+ */
+uint32_t fabric_take(const struct fabric_board *board, struct fabric_state *state, struct fabric_entry *entry);
 
 /*
  * The quoted figures of a pair, both in clocks: how long the master waits at the slave at the most, the wait (rule 5.7), and

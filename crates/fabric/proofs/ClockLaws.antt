@@ -15,6 +15,7 @@ use Rattle.fabric_bytes.specs.Bytes.{Store, bufferLength}
 use Rattle.fabric_state.specs.declared.State.{State}
 use Rattle.fabric_state.specs.Records.{noLine}
 use Rattle.fabric_state.specs.Soundness.{sound}
+use Rattle.fabric_state.specs.Control.{responsesOf}
 use Rattle.fabric_layout.specs.Layout.{stateIn, linesIn}
 use Rattle.fabric_cycle.specs.Code.Cycles.{Clocks as Cycled}
 use Rattle.fabric.specs.Calls.{clockRefusal, clock, storeAfterClock}
@@ -88,20 +89,20 @@ module _ (b : Board) (st : State) (d : Store) where
       )
 
 -- what a clock answers and leaves, refused and not
-module _ (b : Board) (before lines : List ℕ) (d : Store) where
-  pub clock-refused : {n : ℕ} → n ≡ clockRefusal b (stateIn before) d → (n ≡ 0 → ⊥) → linesIn lines ≡ replicate 16 noLine
-      → Clocks b before before lines d d (record { number = n; mask = 0 })
+module _ (b : Board) (before responses lines : List ℕ) (d : Store) where
+  pub clock-refused : {n : ℕ} → n ≡ clockRefusal b (stateIn before) d → (n ≡ 0 → ⊥) → responses ≡ replicate 8 0
+      → linesIn lines ≡ replicate 16 noLine → Clocks b before before responses lines d d (record { number = n; mask = 0 })
   unfolding clock storeAfterClock
-  clock-refused {n} e h q =
+  clock-refused {n} e h r q =
       let no = ne-eqb (clockRefusal b (stateIn before) d) 0 (λ z. h (e ∙ z)) in
-      record { answer = rw (no, e, q); stored = rw no; kept = λ _. refl }
+      record { answer = rw (no, e, r, q); stored = rw no; kept = λ _. refl }
 
   pub clock-taken : {after : List ℕ} {left : Store} {mask : ℕ} → clockRefusal b (stateIn before) d ≡ 0
-      → Cycled b (stateIn before) (stateIn after) (linesIn lines) mask d left
-      → Clocks b before after lines d left (record { number = 0; mask = mask })
+      → responses ≡ responsesOf b (stateIn before) → Cycled b (stateIn before) (stateIn after) (linesIn lines) mask d left
+      → Clocks b before after responses lines d left (record { number = 0; mask = mask })
   unfolding clock storeAfterClock
-  clock-taken z c = record {
-    answer = rw (z, c .state, c .lines, c .mask);
+  clock-taken z r c = record {
+    answer = rw (z, r, c .state, c .lines, c .mask);
     stored = rw z (c .store);
     kept = λ h. absurd (h refl);
   }

@@ -8,13 +8,10 @@ use Prim.Native.Nat.{ℕ, _*_, _≤_, _<_}
 use native.Mathlib.Omega.{arith}
 use lib.Dec.{leb, eqb}
 use borrow.Author.Tests.{leb-false, lt-leb, eq-eqb, ne-eqb, eqb-true, eqb-false, not-false}
-use Rattle.common_laws.proofs.Arithmetic.{product-le}
-use Rattle.common_laws.proofs.ListLaws.{member-within}
 use Rattle.common_laws.proofs.Tests.{passed}
 use Rattle.description_board.specs.declared.Master.{Master}
 use Rattle.description_board.specs.declared.Board.{Board}
 use Rattle.description_board.specs.Records.{masterAt, slaveAt}
-use Rattle.description_board.specs.Rules.{widths, bursts}
 use Rattle.description_board.specs.Items.{boardRefusal}
 use Rattle.description_board.proofs.Accepted.{accepted-legal}
 use Rattle.fabric_accesses.specs.declared.Transfer.{Transfer}
@@ -25,7 +22,7 @@ use Rattle.fabric_state.specs.Records.{transferAt}
 use Rattle.fabric_state.specs.Posting.{Request, transferOf, wrongBeats, unaligned, wrongLanes, unmapped}
 use Rattle.fabric_state.specs.Posting.{passesEnd, transferRefusalBy, transferRefusal, withTransfer}
 use Rattle.fabric_state.specs.Soundness.{sound}
-use Rattle.fabric_state.proofs.RequestLaws.{accepted}
+use Rattle.fabric_state.proofs.RequestLaws.{taken-bytes}
 use Rattle.fabric_layout.specs.Layout.{stateIn}
 use Rattle.fabric.specs.Lent.{Posts}
 use Rattle.fabric.specs.Calls.{wrongWords, requestRefusal, postRefusalBy, postRefusal, post, bufferAfterPost}
@@ -61,7 +58,7 @@ module _ (b : Board) (m : ℕ) (t : Transfer) where
       late (wrongBeats (masterAt b m) t) 13 _ (inr (omega arith))
       (late (unaligned (masterAt b m) t) 14 _ (inr (omega arith))
       (late (wrongLanes (masterAt b m) t) 15 _ (inr (omega arith))
-      (late (unmapped s (b .«slave_count»)) 16 _ (inr (omega arith))
+      (late (unmapped s (b .«slave_count»)) _ _ (late (b .«default_line») 0 16 (inl refl) (inr (omega arith)))
       (late (passesEnd (masterAt b m) (slaveAt b s) t) 17 0 (inr (omega arith)) (inl refl)))))
 
   -- the transfer passes: its words decide, by the master that was read
@@ -134,14 +131,7 @@ module _ (b : Board) (m : ℕ) (t : Transfer) where
     words-fit = go (t .write) (x .words)
       where
         go : (c : Bool) → bytes ≡ cond c (t .beats * masterAt b m .width) 0 → bytes ≤ 512
-        go true f =
-            let legal = accepted-legal b ok in
-            let ma = legal .master m (x .master) in
-            let few = accepted b legal m t (x .fits) .few in
-            let burst = member-within 1 64 (masterAt b m .burst) bursts tt (ma .burst) .1 in
-            let beats : t .beats ≤ 64 = omega arith in
-            let width = member-within 1 8 (masterAt b m .width) widths tt (ma .width) .1 in
-            omega (arith, product-le (t .beats) (masterAt b m .width) 64 8 beats width)
+        go true f = omega (arith, f, taken-bytes b (accepted-legal b ok) m t (x .fits) (x .master))
         go false f = omega arith
 
 -- what a post answers and leaves: a refused one leaves the state and every lent byte as they were (rule 8.1)

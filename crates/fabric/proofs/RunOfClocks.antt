@@ -16,7 +16,7 @@ use Rattle.description_board.proofs.Accepted.{accepted-legal}
 use Rattle.fabric_bytes.specs.Bytes.{Store, bufferLength}
 use Rattle.fabric_state.specs.declared.State.{State}
 use Rattle.fabric_state.specs.Soundness.{sound}
-use Rattle.fabric_state.specs.Control.{maskOf, stateAfter, linesOf}
+use Rattle.fabric_state.specs.Control.{maskOf, responsesOf, stateAfter, linesOf}
 use Rattle.fabric_state.specs.declared.Line.{Line}
 use Rattle.fabric_state.specs.Carrying.{storeAfter}
 use Rattle.fabric_state.specs.Clocking.{clockedOf}
@@ -69,23 +69,32 @@ module _ (b : Board) (st : State) (d : Store) (e : clockRefusal b st d ≡ 0) wh
 pub sized-after : (b : Board) (st : State) → Sized (stateAfter b st)
 sized-after b st = record { transfers = transfers-after b st; slots = slots-after b st; lates = lates-after b st }
 
--- how far a run of clocks has come after n of them, of which the last answered mask and lines and left st and d
-abbrev pub reached : ℕ → ℕ → List Line → State → Store → Run
-reached n mask lines st d =
-    record { number = 0; clocks = n; mask = mask; lines = lines; world = record { state = st; store = d } }
+-- how far a run of clocks has come after n of them, of which the last answered mask, responses and lines and left st and d
+abbrev pub reached : ℕ → ℕ → List ℕ → List Line → State → Store → Run
+reached n mask responses lines st d = record {
+  number = 0;
+  clocks = n;
+  mask = mask;
+  responses = responses;
+  lines = lines;
+  world = record { state = st; store = d };
+}
 
--- one clock more
-pub more-is : (b : Board) (n mask : ℕ) (lines : List Line) (st : State) (d : Store) → clockRefusal b st d ≡ 0
-    → clockMore b (reached n mask lines st d) ≡ reached (n + 1) (maskOf b st) (linesOf b st) (stateAfter b st) (storeAfter b st d)
+-- and after one clock more from st and d
+abbrev pub reachedBy : Board → ℕ → State → Store → Run
+reachedBy b n st d =
+    reached n (maskOf b st) (responsesOf b st) (linesOf b st) (stateAfter b st) (storeAfter b st d)
+
+pub more-is : (b : Board) (n mask : ℕ) (responses : List ℕ) (lines : List Line) (st : State) (d : Store) → clockRefusal b st d ≡ 0
+    → clockMore b (reached n mask responses lines st d) ≡ reachedBy b (n + 1) st d
 unfolding clockMore afterClock
-more-is b n mask lines st d e = rw (clock-is b st d e, store-is b st d e)
+more-is b n mask responses lines st d e = rw (clock-is b st d e, store-is b st d e)
 
 -- one that goes on, and one that has come to its end
-pub on-next : (b : Board) (left n : ℕ) (lines : List Line) (st : State) (d : Store) → clockRefusal b st d ≡ 0
-    → clockOn b (left + 1) (reached n 0 lines st d)
-    ≡ clockOn b left (reached (n + 1) (maskOf b st) (linesOf b st) (stateAfter b st) (storeAfter b st d))
+pub on-next : (b : Board) (left n : ℕ) (responses : List ℕ) (lines : List Line) (st : State) (d : Store) → clockRefusal b st d ≡ 0
+    → clockOn b (left + 1) (reached n 0 responses lines st d) ≡ clockOn b left (reachedBy b (n + 1) st d)
 unfolding clockOn
-on-next b left n lines st d e = rw (add-one left) (ap (clockOn b left) (more-is b n 0 lines st d e))
+on-next b left n responses lines st d e = rw (add-one left) (ap (clockOn b left) (more-is b n 0 responses lines st d e))
 
 pub on-spent : (b : Board) (r : Run) → clockOn b 0 r ≡ r
 unfolding clockOn

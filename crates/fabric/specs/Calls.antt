@@ -1,4 +1,4 @@
--- What reset, post and clock answer, and what they leave in the lent bytes (rules 3.1 to 3.3, 4.1 to 4.14, 8.1).
+-- What reset, post, clock and take answer, and what they leave in the lent bytes (rules 3.1 to 3.3, 4.1 to 4.14, 4.16 to 4.19, 8.1).
 -- Assumes nothing.
 use mathlib.Core.Bool.{Bool, cond, not, _||_}
 use mathlib.Core.List.{List}
@@ -11,14 +11,17 @@ use Rattle.description_board.specs.Records.{masterAt, memoryLength}
 use Rattle.description_board.specs.Items.{boardRefusal}
 use Rattle.fabric_accesses.specs.declared.Transfer.{Transfer}
 use Rattle.fabric_bytes.specs.Bytes.{Store, bufferLength, postedWords}
+use Rattle.fabric_state.specs.declared.Entry.{Entry}
 use Rattle.fabric_state.specs.declared.State.{State}
 use Rattle.fabric.specs.declared.Started.{Started}
 use Rattle.fabric.specs.declared.Posted.{Posted}
+use Rattle.fabric.specs.declared.Taken.{Taken}
 use Rattle.fabric_state.specs.declared.Clocked.{Clocked}
-use Rattle.fabric_state.specs.Records.{noState, transferAt}
+use Rattle.fabric_state.specs.Records.{noState, noEntry, transferAt, entryAt}
 use Rattle.fabric_state.specs.Posting.{Request, transferOf, transferRefusal, withTransfer}
 use Rattle.fabric_state.specs.Resetting.{stateAtReset}
 use Rattle.fabric_state.specs.Soundness.{sound}
+use Rattle.fabric_state.specs.Logging.{withoutOldest, withLog}
 use Rattle.fabric_state.specs.Clocking.{clockedOf, refusedClock}
 use Rattle.fabric_state.specs.Carrying.{storeAfter}
 
@@ -76,9 +79,29 @@ clock b st d =
     (clockedOf b st)
     (refusedClock (clockRefusal b st d) st)
 
--- rules 4.8, 4.11, 8.1: the lent memory and buffer after a clock
+-- rules 4.8, 4.11, 4.17, 8.1: the lent memory and buffer after a clock
 unfoldable pub storeAfterClock : Board → State → Store → Store
 storeAfterClock b st d = cond (eqb (clockRefusal b st d) 0) (storeAfter b st d) d
+
+-- rules 7.9, 7.22, 8.4, 8.5: what a take is refused for, or 0; it is lent no memory and no buffer
+unfoldable pub takeRefusal : Board → State → ℕ
+takeRefusal b st =
+    cond (not (eqb (boardRefusal b) 0)) (boardRefusal b)
+    (cond (not (sound b st)) 9
+    (cond (eqb (st .log .count) 0) 22
+    0))
+
+-- rules 4.19, 8.1: what `take` answers: 0 and the entry, or a refusal's number and zeros
+abbrev pub takenOf : ℕ → Entry → Taken
+takenOf n e = record { number = n; master = e .master; address = e .address; write = e .write }
+
+unfoldable pub takeAnswer : Board → State → Taken
+takeAnswer b st =
+    cond (eqb (takeRefusal b st) 0) (takenOf 0 (entryAt (st .log) 0)) (takenOf (takeRefusal b st) noEntry)
+
+-- rules 4.19, 8.1: the state that `take` leaves
+unfoldable pub stateAfterTake : Board → State → State
+stateAfterTake b st = cond (eqb (takeRefusal b st) 0) (withLog st (withoutOldest (st .log))) st
 
 -- rule 6.1: state, memory and buffer, as a call is handed them
 pub record World : Type 0 where

@@ -9,10 +9,11 @@ use Rattle.description_board.specs.declared.Board.{Board}
 use Rattle.fabric_bytes.specs.Bytes.{Store}
 use Rattle.fabric_state.specs.Posting.{Request}
 use Rattle.fabric_layout.specs.Layout.{stateIn, linesIn}
-use Rattle.fabric.specs.Calls.{reset, post, bufferAfterPost, clock, storeAfterClock}
+use Rattle.fabric.specs.Calls.{reset, post, bufferAfterPost, clock, storeAfterClock, takeAnswer, stateAfterTake}
 use Rattle.fabric.specs.Running.{run}
 use Rattle.fabric.specs.declared.Answer.{Answer}
 use Rattle.fabric.specs.declared.Ran.{Ran}
+use Rattle.fabric.specs.declared.Taken.{Taken}
 
 -- rules 4.2, 8.1: a reset: its number, and the state's numbers before and after
 pub record Resets (b : Board) (before after : List ℕ) (number : ℕ) : Type 0 where
@@ -26,22 +27,35 @@ pub record Posts (b : Board) (q : Request) (before after buffer left : List ℕ)
   pub stored : left ≡ bufferAfterPost b (stateIn before) buffer q
   pub kept : number ≢ 0 → after ≡ before
 
--- rules 4.13, 8.1: a clock: its answer, the state's numbers before and after, the lines, the lent bytes d and what is left of
--- them
-pub record Clocks (b : Board) (before after lines : List ℕ) (d left : Store) (a : Answer) : Type 0 where
-  pub answer : record { number = a .number; state = stateIn after; mask = a .mask; lines = linesIn lines }
+-- rules 4.13, 8.1: a clock: its answer, the state's numbers before and after, the responses, the lines, the lent bytes d and what is
+-- left of them
+pub record Clocks (b : Board) (before after responses lines : List ℕ) (d left : Store) (a : Answer) : Type 0 where
+  pub answer : record {
+    number = a .number;
+    state = stateIn after;
+    mask = a .mask;
+    responses = responses;
+    lines = linesIn lines;
+  }
       ≡ clock b (stateIn before) d
   pub stored : left ≡ storeAfterClock b (stateIn before) d
   pub kept : a .number ≢ 0 → after ≡ before
 
 -- rules 4.15, 8.1: a run of at most so many clocks, likewise
-pub record Runs (b : Board) (most : ℕ) (before after lines : List ℕ) (d left : Store) (a : Ran) : Type 0 where
+pub record Runs (b : Board) (most : ℕ) (before after responses lines : List ℕ) (d left : Store) (a : Ran) : Type 0 where
   pub answer : record {
     number = a .number;
     clocks = a .clocks;
     mask = a .mask;
+    responses = responses;
     lines = linesIn lines;
     world = record { state = stateIn after; store = left };
   }
       ≡ run b (record { state = stateIn before; store = d }) most
+  pub kept : a .number ≢ 0 → after ≡ before
+
+-- rules 4.19, 8.1: a take: its answer, and the state's numbers before and after
+pub record Takes (b : Board) (before after : List ℕ) (a : Taken) : Type 0 where
+  pub answer : a ≡ takeAnswer b (stateIn before)
+  pub state : stateIn after ≡ stateAfterTake b (stateIn before)
   pub kept : a .number ≢ 0 → after ≡ before

@@ -1,9 +1,10 @@
-// The public calls on a board's fabric: reset, post, clock and a run of clocks, on lent arrays of numbers.
+// The public calls on a board's fabric: reset, post, clock, a run of clocks and take, on lent arrays of numbers.
 use common_numbers::BAD_LENGTH;
 use common_numbers::BAD_STATE;
 use common_numbers::BAD_WORDS;
 use common_numbers::BOARD_NUMBERS;
 use common_numbers::BUFFER_BYTES;
+use common_numbers::EMPTY_LOG;
 use common_numbers::HELD;
 use common_numbers::LINES_NUMBERS;
 use common_numbers::MASTERS;
@@ -13,6 +14,8 @@ use common_numbers::STATE_NUMBERS;
 use common_numbers::TAKEN;
 use description_board::Master;
 use fabric_accesses::Transfer;
+use fabric_state::Entry;
+use fabric_state::NO_ENTRY;
 use fabric_state::State;
 ghost use mathlib.Core.Path.{_≡_};
 ghost use mathlib.Core.Bool.{cond};
@@ -22,9 +25,9 @@ ghost use Rattle.description_board.specs.Items.{boardRefusal};
 ghost use Rattle.description_board.specs.Records.{memoryLength};
 ghost use Rattle.description_layout.specs.Layout.{boardIn};
 ghost use Rattle.fabric_layout.specs.Layout.{stateIn};
-ghost use Rattle.fabric.specs.Calls.{requestRefusal, postRefusalBy};
+ghost use Rattle.fabric.specs.Calls.{requestRefusal, postRefusalBy, takeRefusal, takenOf};
 ghost use Rattle.fabric.specs.Code.Requests.{request, clockRefusalBy};
-ghost use Rattle.fabric.specs.Lent.{Resets, Posts, Clocks, Runs};
+ghost use Rattle.fabric.specs.Lent.{Resets, Posts, Clocks, Runs, Takes};
 
 // What the definitions of reset and post answer. The calls are lent the state, and answer the number alone (rules 3.3, 4.2).
 pub struct Started {
@@ -37,18 +40,26 @@ pub struct Posted {
     pub state: State,
 }
 
-// The answer of clock beside its lines (rules 4.13, 8.1): a refusal's number and 0, or 0 and the mask of masters finished.
+// The answer of clock beside its responses and lines (rules 4.13, 8.1): a refusal's number and 0, or 0 and the mask of masters finished.
 pub struct Answer {
     pub number: u32,
     pub mask: u32,
 }
 
-// The answer of a run of clocks beside its lines (rules 4.15, 8.1): a refusal's number and zeros, or 0, the clocks passed and the
+// The answer of a run of clocks beside its responses and lines (rules 4.15, 8.1): a refusal's number and zeros, or 0, the clocks passed and the
 // last one's mask.
 pub struct Ran {
     pub number: u32,
     pub clocks: u32,
     pub mask: u32,
+}
+
+// The answer of take (rules 4.19, 8.1): a refusal's number and zeros, or 0 and the oldest entry of the log.
+pub struct Taken {
+    pub number: u32,
+    pub master: u32,
+    pub address: u32,
+    pub write: bool,
 }
 
 // Reset (rule 4.2): no transfer is held, every slave's last owner is the highest master. The board alone is judged (rule 8.5); a
@@ -181,16 +192,18 @@ fn clock_refusal_by(
     if sound { TAKEN } else { BAD_STATE }
 }
 
-// One clock (rules 4.1, 4.3 to 4.14). What is refused is judged in rising order (rule 8.4), and leaves state, memory and buffer
-// (rule 8.1); where nothing is, each slave acts.
+// One clock (rules 4.1, 4.3 to 4.14, 4.16 to 4.18). What is refused is judged in rising order (rule 8.4), and leaves state, memory and
+// buffer (rule 8.1); where nothing is, each slave acts, and unmapped transfers are answered.
 pub fn clock(
     board: &[u32; BOARD_NUMBERS],
     state: &mut [u32; STATE_NUMBERS],
     memory: &mut [u8],
     buffer: &mut [u8],
     lines: &mut [u32; LINES_NUMBERS],
+    responses: &mut [u32; MASTERS],
 ) -> Answer
-    ensures { λ r. ⌜ Clocks (boardIn (now (board .entry))) (now (state .entry)) (now (state .exit)) (now (lines .exit))
+    ensures { λ r. ⌜ Clocks (boardIn (now (board .entry))) (now (state .entry)) (now (state .exit)) (now (responses .exit))
+        (now (lines .exit))
         (record { memory = now (memory .entry); buffer = now (buffer .entry) })
         (record { memory = now (memory .exit); buffer = now (buffer .exit) }) r ⌝ }
 {
@@ -205,6 +218,7 @@ pub fn clock(
     );
     if number != 0 {
         fabric_layout::first_lines(lines, 0);
+        fabric_layout::put_responses(responses, 0);
         return Answer {
             number: number,
             mask: 0,
@@ -212,7 +226,9 @@ pub fn clock(
     }
     let mut holders = [0u32; SLAVES];
     fabric_check::request_masks(&targets, &mut holders);
-    let mask = fabric_cycle::cycle(board, state, &holders, lines, memory, buffer);
+    let unmapped = fabric_check::unmapped_mask(board, state, &targets);
+    fabric_layout::put_responses(responses, unmapped);
+    let mask = fabric_cycle::cycle(board, state, &holders, unmapped, lines, memory, buffer);
     Answer {
         number: 0,
         mask: mask,
@@ -232,16 +248,18 @@ fn run_answer(n: u32, passed: u32, finished: u32) -> Ran
 
 // A run of clocks (rule 4.15), until a master finishes or `most` of them have passed; refused as a clock is. Board and state are
 // checked once: a clock leaves a state that breaks no rule, and as long as no master finishes every transfer is for the slave
-// that it was for.
+// that it was for. An unmapped transfer is finished by the first clock, so that responses other than 0 are of a run's last clock.
 pub fn run(
     board: &[u32; BOARD_NUMBERS],
     state: &mut [u32; STATE_NUMBERS],
     memory: &mut [u8],
     buffer: &mut [u8],
     lines: &mut [u32; LINES_NUMBERS],
+    responses: &mut [u32; MASTERS],
     most: u32,
 ) -> Ran
-    ensures { λ r. ⌜ Runs (boardIn (now (board .entry))) most (now (state .entry)) (now (state .exit)) (now (lines .exit))
+    ensures { λ r. ⌜ Runs (boardIn (now (board .entry))) most (now (state .entry)) (now (state .exit)) (now (responses .exit))
+        (now (lines .exit))
         (record { memory = now (memory .entry); buffer = now (buffer .entry) })
         (record { memory = now (memory .exit); buffer = now (buffer .exit) }) r ⌝ }
 {
@@ -255,18 +273,64 @@ pub fn run(
         buffer.len(),
     );
     fabric_layout::first_lines(lines, 0);
+    fabric_layout::put_responses(responses, 0);
     if number != 0 {
         return run_answer(number, 0, 0);
     }
     let mut holders = [0u32; SLAVES];
     fabric_check::request_masks(&targets, &mut holders);
+    let unmapped = fabric_check::unmapped_mask(board, state, &targets);
     let mut left = most;
     while 0 < left {
-        let mask = fabric_cycle::cycle(board, state, &holders, lines, memory, buffer);
+        let mask = fabric_cycle::cycle(board, state, &holders, unmapped, lines, memory, buffer);
         left -= 1;
         if mask != 0 {
+            fabric_layout::put_responses(responses, unmapped);
             return run_answer(0, most - left, mask);
         }
     }
     run_answer(0, most, 0)
+}
+
+// What a take is refused for, or 0 (rules 7.9, 7.22, 8.4, 8.5).
+fn take_refusal(board: &[u32; BOARD_NUMBERS], state: &[u32; STATE_NUMBERS]) -> u32
+    ensures { λ r. ⌜ r ≡ takeRefusal (boardIn (now (board .entry))) (stateIn (now (state .entry))) ⌝ }
+{
+    let mut targets = [0u32; MASTERS];
+    let checked = fabric_check::ready(board, state, &mut targets);
+    if checked.number != 0 {
+        return checked.number;
+    }
+    if !checked.sound {
+        return BAD_STATE;
+    }
+    if fabric_layout::log_count(state) == 0 {
+        return EMPTY_LOG;
+    }
+    0
+}
+
+// The answer of take (rule 4.19).
+fn take_answer(n: u32, e: Entry) -> Taken
+    ensures { λ r. ⌜ r ≡ takenOf n e ⌝ }
+{
+    Taken {
+        number: n,
+        master: e.master,
+        address: e.address,
+        write: e.write,
+    }
+}
+
+// Take (rule 4.19): the oldest entry of the log is answered and taken out of it. What is refused leaves the state (rule 8.1).
+pub fn take(board: &[u32; BOARD_NUMBERS], state: &mut [u32; STATE_NUMBERS]) -> Taken
+    ensures { λ r. ⌜ Takes (boardIn (now (board .entry))) (now (state .entry)) (now (state .exit)) r ⌝ }
+{
+    let number = take_refusal(board, state);
+    if number != 0 {
+        return take_answer(number, NO_ENTRY);
+    }
+    let oldest = fabric_layout::entry_at(state, 0);
+    fabric_layout::remove_oldest(state);
+    take_answer(0, oldest)
 }

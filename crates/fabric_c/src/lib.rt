@@ -1,17 +1,20 @@
 // The calls for C, as include/fabric.h declares them: each is the library's call of that name, on the same arrays.
 // What a call answers beside its number goes to numbers that C lends for it.
 use common_numbers::BOARD_NUMBERS;
+use common_numbers::ENTRY_NUMBERS;
 use common_numbers::LINES_NUMBERS;
+use common_numbers::MASTERS;
 use common_numbers::STATE_NUMBERS;
 ghost use mathlib.Core.Path.{_≡_};
+ghost use mathlib.Core.Bool.{cond};
+ghost use Prim.Native.Nat.{_≤_};
 ghost use lib.ListN.{getD, length};
-ghost use Rattle.description_layout.specs.Layout.{boardIn};
+ghost use Rattle.description_layout.specs.Layout.{boardIn, marked};
 ghost use Rattle.description.specs.Lent.{Read};
 ghost use Rattle.description.specs.Blame.{refusedAt};
-ghost use Rattle.fabric_layout.specs.Layout.{marked};
 ghost use Rattle.wait.specs.Answers.{waitRefusal, waitOutput};
-ghost use Rattle.fabric.specs.Code.Requests.{request};
-ghost use Rattle.fabric.specs.Lent.{Resets, Posts, Clocks, Runs};
+ghost use Rattle.fabric.specs.Code.Requests.{request, takenIn};
+ghost use Rattle.fabric.specs.Lent.{Resets, Posts, Clocks, Runs, Takes};
 
 // Wait and serve of a pair, on a description's bytes (rule 5.8): wait::wait_call.
 #[no_mangle]
@@ -99,7 +102,7 @@ pub extern "C" fn fabric_post(
     )
 }
 
-// One clock (rules 4.1, 4.3 to 4.14).
+// One clock (rules 4.1, 4.3 to 4.14, 4.16 to 4.18).
 #[no_mangle]
 pub extern "C" fn fabric_clock(
     board: &[u32; BOARD_NUMBERS],
@@ -107,15 +110,17 @@ pub extern "C" fn fabric_clock(
     memory: &mut [u8],
     buffer: &mut [u8],
     lines: &mut [u32; LINES_NUMBERS],
+    responses: &mut [u32; MASTERS],
     mask: &mut [u32; 1],
 ) -> u32
-    ensures { λ r. ⌜ Clocks (boardIn (now (board .entry))) (now (state .entry)) (now (state .exit)) (now (lines .exit))
+    ensures { λ r. ⌜ Clocks (boardIn (now (board .entry))) (now (state .entry)) (now (state .exit)) (now (responses .exit))
+        (now (lines .exit))
         (record { memory = now (memory .entry); buffer = now (buffer .entry) })
         (record { memory = now (memory .exit); buffer = now (buffer .exit) })
         (record { number = r; mask = getD (now (mask .exit)) 0 0 }) ⌝ }
 {
     description_layout::count(mask);
-    let a = fabric::clock(board, state, memory, buffer, lines);
+    let a = fabric::clock(board, state, memory, buffer, lines, responses);
     mask[0] = a.mask;
     a.number
 }
@@ -128,19 +133,46 @@ pub extern "C" fn fabric_run(
     memory: &mut [u8],
     buffer: &mut [u8],
     lines: &mut [u32; LINES_NUMBERS],
+    responses: &mut [u32; MASTERS],
     most: u32,
     clocks: &mut [u32; 1],
     mask: &mut [u32; 1],
 ) -> u32
-    ensures { λ r. ⌜ Runs (boardIn (now (board .entry))) most (now (state .entry)) (now (state .exit)) (now (lines .exit))
+    ensures { λ r. ⌜ Runs (boardIn (now (board .entry))) most (now (state .entry)) (now (state .exit)) (now (responses .exit))
+        (now (lines .exit))
         (record { memory = now (memory .entry); buffer = now (buffer .entry) })
         (record { memory = now (memory .exit); buffer = now (buffer .exit) })
         (record { number = r; clocks = getD (now (clocks .exit)) 0 0; mask = getD (now (mask .exit)) 0 0 }) ⌝ }
 {
     description_layout::count(clocks);
     description_layout::count(mask);
-    let a = fabric::run(board, state, memory, buffer, lines, most);
+    let a = fabric::run(board, state, memory, buffer, lines, responses, most);
     clocks[0] = a.clocks;
     mask[0] = a.mask;
+    a.number
+}
+
+// The number of a mark (rule 2.4), as fabric_layout puts it.
+fn mark_of(b: bool) -> u32
+    ensures { λ r. ⌜ r ≡ cond b 1 0 ⌝ }
+{
+    if b { 1 } else { 0 }
+}
+
+// A take (rule 4.19): master, address and direction of the entry, the direction as a mark of 0 or 1.
+#[no_mangle]
+pub extern "C" fn fabric_take(
+    board: &[u32; BOARD_NUMBERS],
+    state: &mut [u32; STATE_NUMBERS],
+    entry: &mut [u32; ENTRY_NUMBERS],
+) -> u32
+    ensures { λ r. ⌜ Takes (boardIn (now (board .entry))) (now (state .entry)) (now (state .exit))
+        (takenIn r (now (entry .exit))) × (getD (now (entry .exit)) 2 0 ≤ 1) ⌝ }
+{
+    description_layout::count(entry);
+    let a = fabric::take(board, state);
+    entry[0] = a.master;
+    entry[1] = a.address;
+    entry[2] = mark_of(a.write);
     a.number
 }

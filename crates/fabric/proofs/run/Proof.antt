@@ -1,12 +1,12 @@
 -- `fabric::run` meets its contract.
--- The loop's invariant: where the run of clocks stands between two of them (`Passing`), and the lengths of the lent bytes. The
+-- The loop's invariant: where the run of clocks stands between two of them (`Passing`), responses of 0, and the lengths of the lent bytes. The
 -- measure is the count of clocks that are left.
 -- Assumes nothing.
 use mathlib.Core.Path.{_≡_, refl, sym, ap, _∙_}
 use mathlib.Core.List.{List}
 use Prim.Native.Nat.{ℕ}
 use native.Mathlib.Omega.{arith}
-use lib.ListN.{length}
+use lib.ListN.{length, replicate}
 use borrow.Author.Needs.{needs}
 use Rattle.common_laws.specs.Lists.{table}
 use Rattle.description_board.specs.declared.Board.{Board}
@@ -14,9 +14,11 @@ use Rattle.description_layout.specs.Layout.{boardIn}
 use Rattle.fabric_bytes.specs.Bytes.{Store}
 use Rattle.fabric_layout.specs.Layout.{stateIn}
 use Rattle.fabric_layout.proofs.StatePutLaws.{first-none}
+use Rattle.fabric_layout.proofs.LogPutLaws.{responses-none}
 use Rattle.fabric_check.specs.Code.Targets.{requestMask}
 use Rattle.fabric.specs.Calls.{clockRefusal}
 use Rattle.fabric.proofs.ClockLaws.{refusal-found}
+use Rattle.fabric.proofs.ResponseLaws.{decoded-of}
 use Rattle.fabric.proofs.RunOfClocks.{accepted-board, keeps-rules}
 use Rattle.fabric.proofs.PassingLaws.{run-refused, Passing, passing-begin, passing-accepts, passing-lengths}
 use Rattle.fabric.proofs.PassingLaws.{passing-spent, passing-next, passing-finished}
@@ -24,15 +26,17 @@ use Rattle.fabric.proofs.run.Statement.{statement}
 use Rattle.fabric.proofs.run.Tie as tie
 
 abbrev Inv-loop : tie.InvT-loop
-Inv-loop board state₀ memory₀ buffer₀ lines₀ most number requests left₀ state memory buffer lines left =
+Inv-loop board state₀ memory₀ buffer₀ lines₀ responses₀ most number requests unmapped left₀ state memory buffer lines responses left =
     (clockRefusal (boardIn board) (stateIn state₀) (record { memory = memory₀; buffer = buffer₀ }) ≡ 0)
-    × (Passing (boardIn board) most state₀ (record { memory = memory₀; buffer = buffer₀ }) requests state lines
+    × (Passing (boardIn board) most state₀ (record { memory = memory₀; buffer = buffer₀ }) requests unmapped state lines
     (record { memory = memory; buffer = buffer }) left)
+    × (responses ≡ replicate 8 0)
     × (length memory ≡ length memory₀)
     × (length buffer ≡ length buffer₀)
 
 abbrev μ-loop : tie.MeasureT-loop
-μ-loop board state₀ memory₀ buffer₀ lines₀ most number requests left₀ state memory buffer lines left = left
+μ-loop board state₀ memory₀ buffer₀ lines₀ responses₀ most number requests unmapped left₀ state memory buffer lines responses left =
+    left
 
 -- back to the start, from the call of `cycle` back to the loop's pass, and from the clock's end back to behind that call
 abbrev start : tie.After-ready Inv-loop μ-loop → tie.Start Inv-loop μ-loop
@@ -73,34 +77,61 @@ first-lines-requires c κs = search needs
 run-answer-requires : tie.Need-run-answer-requires Inv-loop μ-loop
 run-answer-requires c κs = search needs
 
+put-responses-requires : tie.Need-put-responses-requires Inv-loop μ-loop
+put-responses-requires c κs = search needs
+
+-- from behind the responses back to the lines, and to the refusal
+abbrev cleared : tie.After-put-responses Inv-loop μ-loop → tie.After-first-lines Inv-loop μ-loop
+cleared c = c .before .before
+
+abbrev judged : tie.After-put-responses Inv-loop μ-loop → tie.After-clock-refusal-by Inv-loop μ-loop
+judged c = cleared c .before .before
+
 returns : tie.Need-returns Inv-loop μ-loop
 returns c =
     let t = c .before in
-    let l = t .before in
+    let p = t .before in
     rw (c .run-answer .ensures)
-    (run-refused _ _ _ _ _ (found (l .before .before)) (t .if1 .taken) (l .first-lines .ensures ∙ first-none _))
+    (run-refused _ _ _ _ _ _ (found (judged p)) (t .if1 .taken) (p .put-responses .ensures ∙ responses-none)
+    (cleared p .first-lines .ensures ∙ first-none _))
 
 -- nothing is refused
 taken : (c : tie.Else1 Inv-loop μ-loop)
-    → let s = start (c .before .before .before .before) in clockRefusal (board s) (stateIn (before s)) (bytes s) ≡ 0
-taken c = sym (found (c .before .before .before)) ∙ c .if1 .left
+    → let s = start (judged (c .before) .before) in clockRefusal (board s) (stateIn (before s)) (bytes s) ≡ 0
+taken c = sym (found (judged (c .before))) ∙ c .if1 .left
 
 request-masks-requires : tie.Need-request-masks-requires Inv-loop μ-loop
 request-masks-requires c κs = search needs
 
+-- from the masks back to where nothing is refused
+abbrev free : tie.After-request-masks Inv-loop μ-loop → tie.Else1 Inv-loop μ-loop
+free c = c .before .before .before
+
+unmapped-mask-requires : tie.Need-unmapped-mask-requires Inv-loop μ-loop
+unmapped-mask-requires c κs =
+    let e = free (c .before .before) in
+    let r = judged (e .before) .before in
+    let s = start r in
+    let z = taken e in
+    let ok = accepted-board (board s) (stateIn (before s)) (bytes s) z in
+    let keeps = keeps-rules (board s) (stateIn (before s)) (bytes s) z in
+    decoded-of _ _ ok keeps (r .ready .ensures .targets ok keeps)
+
 loop-holds : tie.Need-loop-holds Inv-loop μ-loop
 loop-holds c =
-    let e = c .before .before .before in
-    let l = e .before in
-    let r = l .before .before .before in
+    let masks = c .before .before .before in
+    let e = free masks in
+    let p = e .before in
+    let r = judged p .before in
     let s = start r in
     let z = taken e in
     let ok = accepted-board (board s) (stateIn (before s)) (bytes s) z in
     let keeps = keeps-rules (board s) (stateIn (before s)) (bytes s) z in
     let asked =
-    c .request-masks .ensures ∙ ap (λ (ts : List ℕ). table (requestMask ts) 16) (r .ready .ensures .targets ok keeps) in (
+    masks .request-masks .ensures ∙ ap (λ (ts : List ℕ). table (requestMask ts) 16) (r .ready .ensures .targets ok keeps) in (
       z,
-      passing-begin _ _ _ _ z _ _ asked (l .first-lines .ensures ∙ first-none _),
+      passing-begin _ _ _ _ z _ _ asked (c .unmapped-mask .ensures) (cleared p .first-lines .ensures ∙ first-none _),
+      p .put-responses .ensures ∙ responses-none,
       refl,
       refl,
     )
@@ -109,10 +140,13 @@ cycle-requires : tie.Need-cycle-requires Inv-loop μ-loop
 cycle-requires c κs =
     let i = pass c .before .loop .inv in
     let n = passing-lengths _ _ _ _ (i .0) (i .1) in
-    (passing-accepts _ _ _ _ (i .0) (i .1), i .1 .asked, n .0, n .1)
+    (passing-accepts _ _ _ _ (i .0) (i .1), i .1 .asked, i .1 .held, n .0, n .1)
 
 sub-left : tie.Need-sub-left Inv-loop μ-loop
 sub-left c = search needs
+
+put-responses-requires-2 : tie.Need-put-responses-requires-2 Inv-loop μ-loop
+put-responses-requires-2 c κs = search needs
 
 sub-run-answer : tie.Need-sub-run-answer Inv-loop μ-loop
 sub-run-answer c = search needs
@@ -128,12 +162,14 @@ same-length-2 c = search needs
 
 returns-2 : tie.Need-returns-2 Inv-loop μ-loop
 returns-2 c =
-    let e = c .before in
+    let p = c .before in
+    let e = p .before .before in
     let k = cycled (e .before) in
     let t = pass (k .before) in
     let i = t .before .loop .inv in
     rw (c .run-answer2 .ensures)
-    (passing-finished _ _ _ _ (i .0) (i .1) (t .loop-test .taken) _ _ (k .cycle .ensures) (e .if2 .taken))
+    (passing-finished _ _ _ _ (i .0) (i .1) (t .loop-test .taken) _ _ (k .cycle .ensures) (e .if2 .taken)
+    (p .put-responses2 .ensures))
 
 loop-less : tie.Need-loop-less Inv-loop μ-loop
 loop-less c = search needs
@@ -145,6 +181,7 @@ loop-again c =
     let i = t .before .loop .inv in (
       i .0,
       passing-next _ _ _ _ (i .0) (i .1) (t .loop-test .taken) _ _ (k .cycle .ensures) (c .if2 .left),
+      i .2,
       search needs,
       search needs,
     )
@@ -162,7 +199,7 @@ returns-3 : tie.Need-returns-3 Inv-loop μ-loop
 returns-3 c =
     let e = c .before in
     let i = e .before .loop .inv in
-    rw (c .run-answer3 .ensures) (passing-spent _ _ _ _ (i .0) (i .1) (omega (arith, e .loop-test .left)))
+    rw (c .run-answer3 .ensures) (passing-spent _ _ _ _ (i .0) (i .1) (omega (arith, e .loop-test .left)) (i .2))
 
 pub run-spec : {M : Type 1} → statement M
 run-spec =
@@ -173,12 +210,15 @@ run-spec =
     ready-requires
     clock-refusal-by-requires
     first-lines-requires
+    put-responses-requires
     run-answer-requires
     returns
     request-masks-requires
+    unmapped-mask-requires
     loop-holds
     cycle-requires
     sub-left
+    put-responses-requires-2
     sub-run-answer
     run-answer-requires-2
     same-length

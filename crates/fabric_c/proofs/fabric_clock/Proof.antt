@@ -26,7 +26,7 @@ same-length-2 c = search needs
 returns : tie.Need-returns
 returns c =
     let clocked = c .before .before .before .before in
-    let start = clocked .before .before .before .before .before .before .before .before .before .before in
+    let start = clocked .before .before .before .before .before .before .before .before .before .before .before in
     let mask = start .args .mask .now in
     let one : length mask ≡ 1 = search needs in
     rw (getD-set-same mask 0 (clocked .clock .result .mask) 0 (omega (arith, one))) (clocked .clock .ensures)

@@ -10,7 +10,7 @@ use Rattle.fabric_c.proofs.fabric_run.Tie as tie
 
 -- from behind the run of clocks back to the start
 abbrev start : tie.After-run → tie.Start
-start c = c .before .before .before .before .before .before .before .before .before .before .before .before .before
+start c = c .before .before .before .before .before .before .before .before .before .before .before .before .before .before
 
 count-requires : tie.Need-count-requires
 count-requires c κs = search needs

@@ -1,0 +1,54 @@
+-- The three numbers of an entry that a take answers (rules 2.4, 4.19), as they are put into what C lends.
+-- Assumes nothing.
+use mathlib.Core.Path.{_≡_, _∙_}
+use mathlib.Core.Bool.{Bool, true, false, cond}
+use mathlib.Core.List.{List}
+use Prim.Native.Nat.{ℕ, _≤_}
+use native.Mathlib.Omega.{arith}
+use lib.ListN.{length, getD, set, length-set}
+use lib.Seq.{getD-set-same, getD-set-other}
+use Rattle.fabric_layout.proofs.RecordLaws.{mark-back}
+use Rattle.fabric.specs.declared.Taken.{Taken}
+use Rattle.fabric.specs.Code.Requests.{takenIn}
+
+-- the number of a mark is 0 or 1
+mark-small : (w : Bool) {k : ℕ} → k ≡ cond w 1 0 → k ≤ 1
+mark-small true e = omega (arith, e)
+mark-small false e = omega (arith, e)
+
+module _ (l : List ℕ) (three : length l ≡ 3) (m a k : ℕ) where
+  abbrev put : List ℕ
+  put = set (set (set l 0 m) 1 a) 2 k
+
+  second : length (set l 0 m) ≡ 3
+  second = length-set l 0 m ∙ three
+
+  third : length (set (set l 0 m) 1 a) ≡ 3
+  third = length-set (set l 0 m) 1 a ∙ second
+
+  put-master : getD put 0 0 ≡ m
+  put-master =
+      getD-set-other (set (set l 0 m) 1 a) 2 0 k 0 (λ z. omega (arith, z)) ∙ getD-set-other (set l 0 m) 1 0 a 0 (λ z. omega (arith, z))
+      ∙ getD-set-same l 0 m 0 (omega (arith, three))
+
+  put-address : getD put 1 0 ≡ a
+  put-address =
+      getD-set-other (set (set l 0 m) 1 a) 2 1 k 0 (λ z. omega (arith, z)) ∙ getD-set-same (set l 0 m) 1 a 0 (omega (arith, second))
+
+  put-write : getD put 2 0 ≡ k
+  put-write = getD-set-same (set (set l 0 m) 1 a) 2 k 0 (omega (arith, third))
+
+-- so they are the answer's
+module _ (l : List ℕ) (three : length l ≡ 3) (x : Taken) {k : ℕ} (e : k ≡ cond (x .write) 1 0) where
+  pub entry-taken : takenIn (x .number) (set (set (set l 0 (x .master)) 1 (x .address)) 2 k) ≡ x
+  unfolding takenIn
+  entry-taken =
+      rw (
+        put-master l three (x .master) (x .address) k,
+        put-address l three (x .master) (x .address) k,
+        put-write l three (x .master) (x .address) k,
+        mark-back (x .write) e,
+      )
+
+  pub entry-small : getD (set (set (set l 0 (x .master)) 1 (x .address)) 2 k) 2 0 ≤ 1
+  entry-small = rw (put-write l three (x .master) (x .address) k) (mark-small (x .write) e)
