@@ -15,12 +15,14 @@ use Rattle.fabric.specs.Running.{Run, standing, clockMore, clockOn, run}
 use Rattle.fabric.proofs.RunOfClocks.{Sized, sized-after, clock-is, store-is, refusal-again}
 use Rattle.fabric_state.specs.Posting.{Request, transferOf}
 use Rattle.fabric_state.specs.Resetting.{resetState, stateAtReset}
+use Rattle.fabric_state.specs.Logging.{withLog}
 use Rattle.fabric_state.proofs.StateLaws.{transfers-with, slots-with, lates-with}
 use Rattle.fabric_accesses.specs.Accesses.{noTransfer}
 use Rattle.common_laws.proofs.TableLaws.{length-table}
 use Rattle.theorem_history.specs.Claim.{clocks, numberAnswered, Handed, leaves, next, after, History, answers, Call, Start}
 use Rattle.theorem_history.specs.ClockRuns.{clockCalls, Counts}
-use Rattle.theorem_history.proofs.Histories.CallCases.{clockAt, TakesClock, withPost, clock-number, taken-next, keeps}
+use Rattle.theorem_history.proofs.Histories.CallCases.{clockAt, TakesClock, withPost, withTake, clock-number}
+use Rattle.theorem_history.proofs.Histories.CallCases.{taken-next, keeps}
 use Rattle.theorem_history.proofs.Histories.Standing.{start-state}
 
 -- the clocks that pass of a run from r to q, and what is true of them
@@ -119,9 +121,13 @@ post-sized w q z = record {
   lates = rw (lates-with (w .state) (q .master) (transferOf q)) (z .lates);
 }
 
+take-sized : (w : World) → Sized (w .state) → Sized (withTake w .state)
+unfolding withLog
+take-sized w z = record { transfers = z .transfers; slots = z .slots; lates = z .lates }
+
 pub run-in-history : (b : Board) (w : World) (calls : List Call) (most : ℕ) → Start b w → History b w calls
     → Counts b (after w calls) most
 run-in-history b w calls most x h =
     run-counts b (after w calls) most
-    (keeps b (λ u. Sized (u .state)) (λ u q t z. post-sized u q z) (λ u t z. sized-after b (u .state)) calls w h
-    (start-sized b w x))
+    (keeps b (λ u. Sized (u .state)) (λ u q t z. post-sized u q z) (λ u t z. sized-after b (u .state))
+    (λ u t z. take-sized u z) calls w h (start-sized b w x))

@@ -1,4 +1,4 @@
--- The claim of rules 6.1 to 6.11 holds whole of every board that a reset does not refuse, the board of every accepted text among
+-- The claim of rules 6.1 to 6.13 holds whole of every board that a reset does not refuse, the board of every accepted text among
 -- them.
 -- Assumes nothing.
 use mathlib.Core.Path.{_≡_, refl, sym, _∙_}
@@ -19,6 +19,8 @@ use Rattle.theorem_history.proofs.Quoted.QuotedFigures.{figures}
 use Rattle.theorem_history.proofs.Quoted.LongestTransfer.{longest}
 use Rattle.theorem_history.proofs.ReadBytes.LineOrders.{numbers, times-numbers}
 use Rattle.theorem_history.proofs.ReadBytes.HistoryBytes.{reads-right}
+use Rattle.theorem_history.proofs.Unmapped.DecodeErrors.{unmapped-right}
+use Rattle.theorem_history.proofs.Unmapped.HistoryLog.{okay-right, log-right, taken-right}
 
 reset-checks : (b : Board) → reset b .number ≡ boardRefusal b
 unfolding reset
@@ -33,6 +35,10 @@ demand3 b ok = record {
   longest = longest b legal checked;
   reads = reads-right b legal;
   served = unrefused b legal;
+  unmapped = unmapped-right b legal;
+  okay = okay-right b legal;
+  log = log-right b legal;
+  taken = taken-right b legal;
 }
   where
     checked : boardRefusal b ≡ 0

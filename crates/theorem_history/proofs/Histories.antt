@@ -2,5 +2,7 @@
 pub mod CallCases
 pub mod LentLengths
 pub mod OnePost
+pub mod OneTake
+pub mod LastRequests
 pub mod Standing
 pub mod Unrefused

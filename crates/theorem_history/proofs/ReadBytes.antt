@@ -3,6 +3,7 @@ pub mod LineOrders
 pub mod TransferBytes
 pub mod SlaveBytes
 pub mod ActiveTransfers
+pub mod ClearedBytes
 pub mod FirstCycles
 pub mod LateBytes
 pub mod ClockBytes

@@ -5,7 +5,7 @@ use mathlib.Core.Path.{_≡_, refl, sym, ap, _∙_}
 use mathlib.Core.Bool.{true, false, true≢false}
 use mathlib.Core.List.{List, [], _∷_}
 use mathlib.Core.Logic.{_≢_}
-use Prim.Native.Nat.{ℕ, zero, suc, _+_, _≤_, _<_}
+use Prim.Native.Nat.{ℕ, zero, suc, _≤_, _<_}
 use native.Mathlib.Numerals.{add-one}
 use native.Mathlib.Omega.{arith}
 use lib.ListN.{length, take}
@@ -18,27 +18,27 @@ use Rattle.fabric_state.specs.declared.Clocked.{Clocked}
 use Rattle.fabric_state.specs.Records.{slotAt, lateAt}
 use Rattle.fabric_state.specs.Posting.{transferOf}
 use Rattle.fabric_state.specs.Soundness.{requests}
+use Rattle.fabric_state.specs.Logging.{withLog}
 use Rattle.fabric_state.specs.Control.{slotFinished, stepOf, ended, lateAfter, finished}
 use Rattle.fabric.specs.Calls.{World}
 use Rattle.fabric_state.proofs.Sound.{Sound}
 use Rattle.fabric_state.proofs.StateLaws.{slot-after, mask-bit, late-after, late-with, late-ends, late-less, ended-here}
 use Rattle.fabric_state.proofs.StateLaws.{finished-now, finished-then, unfinished-late}
 use Rattle.fabric_state.proofs.StepLaws.{Outcome, rests, waiting, works, ends, outcome}
-use Rattle.fabric_state.proofs.RequestLaws.{requests-free, requests-latency}
-use Rattle.fabric_state.proofs.SoundLaws.{last-asks, requester}
+use Rattle.fabric_state.proofs.RequestLaws.{requests-free, requests-latency, requests-mapped, mapped-of}
+use Rattle.fabric_state.proofs.SoundLaws.{last-asks, requester, late-mapped, clock-sound, take-sound}
 use Rattle.theorem_history.specs.Claim.{Call, numberAnswered, next, after, History, Start, answers, names, any}
 use Rattle.theorem_history.specs.ReadLatency.{clockHere, LastAccess, latencyThere, FinishedBehind}
 use Rattle.theorem_history.proofs.Histories.CallCases.{TakesClock, withClock, answerOf, clock-number}
 use Rattle.theorem_history.proofs.Histories.CallCases.{clock-next, clock-answered, tells}
-use Rattle.theorem_history.proofs.Histories.LentLengths.{clock-lent, lent-before}
-use Rattle.theorem_history.proofs.Histories.Standing.{start-checked, history-stands}
+use Rattle.theorem_history.proofs.Histories.Standing.{start-checked, posted-sound, history-sound}
 
 -- with n + 1 latency clocks to pass, the first n answers do not name the master, and the next one does
 abbrev Passes : ℕ → World → List Clocked → Type 0
 Passes m w xs = (n : ℕ) → lateAt (w .state) m ≡ suc n
     → (any (names m) (take n xs) ≡ false) × (suc n ≤ length xs → any (names m) (take (suc n) xs) ≡ true)
 
-module _ (b : Board) (m : ℕ) (known : m < 8) where
+module _ (b : Board) (legal : Legal b) (m : ℕ) (known : m < 8) where
   shown : (w : World) → finished b (w .state) m ≡ true → names m (answerOf b w) ≡ true
   unfolding names
   shown w f = mask-bit b (w .state) m known ∙ f
@@ -52,21 +52,25 @@ module _ (b : Board) (m : ℕ) (known : m < 8) where
   passes-none w zero e = (refl, λ l. absurd (omega arith))
   passes-none w (suc n) e = (refl, λ l. absurd (omega arith))
 
-  passes-clock : (w : World) (xs : List Clocked) → Passes m (withClock b w) xs → Passes m w (answerOf b w ∷ xs)
+  passes-clock : (w : World) → Sound b (w .state) → (xs : List Clocked) → Passes m (withClock b w) xs
+      → Passes m w (answerOf b w ∷ xs)
   unfolding any
-  passes-clock w xs f zero e = (refl, λ l. rw (shown w (finished-then b (w .state) m e)))
-  passes-clock w xs f (suc n) e =
+  passes-clock w x xs f zero e = (refl, λ l. rw (shown w (finished-then b (w .state) m e)))
+  passes-clock w x xs f (suc n) e =
       let some : lateAt (w .state) m ≢ 0 = λ z. omega (arith, e, z) in
       let less : lateAfter b (w .state) m ≡ suc n = omega (arith, late-less b (w .state) m some, e) in
-      let quiet = not-shown w (unfinished-late b (w .state) m (λ z. omega (arith, less, z))) in
+      let mapped = late-mapped b (w .state) legal x m some in
+      let quiet = not-shown w (unfinished-late b (w .state) m mapped (λ z. omega (arith, less, z))) in
       let rest = f n (late-after b (w .state) m known ∙ less) in
       (rw quiet (rest .0), λ l. rw quiet (rest .1 (omega arith)))
 
-  passes : (cs : List Call) (w : World) → History b w cs → Passes m w (answers cs)
+  passes : (cs : List Call) (w : World) → History b w cs → Sound b (w .state) → Passes m w (answers cs)
+  unfolding withLog
   passes =
-      tells b (Passes m) passes-none
-      (λ w q t xs f n e. f n (late-with (w .state) (q .master) (transferOf q) m ∙ e))
-      (λ w t xs f. passes-clock w xs f)
+      tells b (λ w xs. Sound b (w .state) → Passes m w xs) (λ w x. passes-none w)
+      (λ w q t xs f x n e. f (posted-sound b legal w q t x) n (late-with (w .state) (q .master) (transferOf q) m ∙ e))
+      (λ w t xs f x. passes-clock w x xs (f (clock-sound b (w .state) legal x)))
+      (λ w t xs f x. f (take-sound b (w .state) x))
 
 -- a slave that carries out a last access serves no longer
 last-free : (b : Board) (st : State) (s : ℕ) → stepOf b st s .last ≡ true → stepOf b st s .slot .serving ≡ false
@@ -117,10 +121,12 @@ module _ (b : Board) (legal : Legal b) (w : World) (sound : Sound b (w .state)) 
           → any (names m) (take (suc n) (answerOf b w ∷ answers calls)) ≡ true)
       go zero e =
           let f = finished-now b st m (requests-free b st s m asks) last (requests-latency b st s m legal asks ∙ e) in
-          (refl, λ l. rw (shown b m low w f))
+          (refl, λ l. rw (shown b legal m low w f))
       go (suc n) e =
-          let quiet = not-shown b m low w (unfinished-late b st m (λ z. omega (arith, late-is, e, z))) in
-          let rest = passes b m low calls (withClock b w) h n (late-after b st m low ∙ late-is ∙ e) in
+          let mapped = mapped-of b st m (requests-mapped b st s m legal asks) in
+          let quiet = not-shown b legal m low w (unfinished-late b st m mapped (λ z. omega (arith, late-is, e, z))) in
+          let then = clock-sound b st legal sound in
+          let rest = passes b legal m low calls (withClock b w) h then n (late-after b st m low ∙ late-is ∙ e) in
           (rw quiet (rest .0), λ l. rw quiet (rest .1 (omega arith)))
 
 -- in a history of a board that a reset does not refuse
@@ -132,5 +138,4 @@ finished-behind b w calls m s later start h x k =
     let u = after w calls in
     let legal = accepted-legal b (start-checked b w start) in
     let free = sym (clock-number b (u .state) (u .store)) ∙ x .taken in
-    let stands = history-stands b legal w calls start (lent-before b calls w h (clock-lent b u free)) h in
-    behind b legal u (stands .sound) m s x later (rw (clock-next b u free) at k)
+    behind b legal u (history-sound b legal w calls start h) m s x later (rw (clock-next b u free) at k)

@@ -41,7 +41,7 @@ module _ (b : Board) (ok : boardRefusal b ≡ 0) (st : State) (buffer : List ℕ
       at-most (wrongBeats ma t) 13 _ (omega arith)
       (at-most (unaligned ma t) 14 _ (omega arith)
       (at-most (wrongLanes ma t) 15 _ (omega arith)
-      (at-most (unmapped k (b .«slave_count»)) 16 _ (omega arith)
+      (at-most (unmapped k (b .«slave_count»)) _ _ (at-most (b .«default_line») 0 16 (omega arith) (omega arith))
       (at-most (passesEnd ma (slaveAt b k) t) 17 0 (omega arith) (omega arith)))))
 
   pub post-number : post b st buffer q .number ≤ 18

@@ -1,4 +1,4 @@
--- What the wait calls answer for an accepted request (rule 6.6): the w of the claim, and a serve that is no shorter than the
+-- What the wait calls answer for an accepted request to a slave (rule 6.6): the w of the claim, and a serve that is no shorter than the
 -- request's own length.
 -- Assumes nothing.
 use mathlib.Core.Path.{_≡_, refl, ap, _∙_}
@@ -17,20 +17,21 @@ use Rattle.wait_turns.specs.Waits.{quotedWait, serveOf}
 use Rattle.wait.specs.declared.Quoted.{Quoted}
 use Rattle.wait.specs.Calls.{quoteOf}
 use Rattle.wait.proofs.LookUpLaws.{quote-connected}
-use Rattle.theorem_history.specs.Claim.{Accepted, slaveFor, waitFor, lengthOf, Figures}
+use Rattle.theorem_history.specs.Claim.{Accepted, slaveFor, Mapped, waitFor, lengthOf, Figures}
 use Rattle.theorem_history.proofs.OneClock.PairFigures.{accepted-long}
 use Rattle.theorem_history.proofs.Histories.OnePost.{Taken, post-taken}
 use Rattle.theorem_history.proofs.Safe.PostedWait.{fits}
 use Rattle.theorem_history.proofs.Quoted.WaitCall.{written-answered}
 
-module _ (b : Board) (legal : Legal b) (ok : boardRefusal b ≡ 0) (w : World) (q : Request) (accepted : Accepted b w q) where
+module _ (b : Board) (legal : Legal b) (ok : boardRefusal b ≡ 0) (w : World) (q : Request) (accepted : Accepted b w q)
+    (mapped : Mapped b q) where
   taken : Taken b (w .state) q
   unfolding Accepted post
   taken = post-taken b w q accepted
 
   joined : connected b (q .master) (slaveFor b q) ≡ true
   unfolding selects
-  joined = both (connected b (q .master) (slaveFor b q)) _ (fits b legal (w .state) q taken .selected) .0
+  joined = both (connected b (q .master) (slaveFor b q)) _ (fits b legal (w .state) q mapped taken .selected) .0
 
   answer : quoteOf b (q .master) (slaveFor b q)
       ≡ record { number = 0; wait = quotedWait b (q .master) (slaveFor b q); serve = serveOf b (q .master) (slaveFor b q) }
@@ -44,7 +45,7 @@ module _ (b : Board) (legal : Legal b) (ok : boardRefusal b ≡ 0) (w : World) (
   length-within : lengthOf b q ≤ serveOf b (q .master) (slaveFor b q)
   unfolding lengthOf serveOf
   length-within =
-      let fit = fits b legal (w .state) q taken in
+      let fit = fits b legal (w .state) q mapped taken in
       omega (arith, accepted-long b legal (q .master) (taken .master) (transferOf q) (slaveFor b q) fit)
 
   pub figures : Figures b q

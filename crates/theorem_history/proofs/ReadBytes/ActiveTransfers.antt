@@ -1,6 +1,6 @@
 -- The transfers whose last access is still to come: what a sound state says of them, and what a clock leaves of them.
 -- Assumes nothing.
-use mathlib.Core.Path.{_≡_, sym, _∙_}
+use mathlib.Core.Path.{_≡_, refl, sym, _∙_}
 use mathlib.Core.Bool.{true, false, cond, true≢false, false≢true}
 use mathlib.Core.Logic.{⊎-elim, _≢_}
 use Prim.Native.Nat.{ℕ, _≤_, _<_}
@@ -18,17 +18,21 @@ use Rattle.description_board.proofs.PairLaws.{pair-wide}
 use Rattle.description_board.proofs.StartLaws.{end-inside}
 use Rattle.fabric_accesses.specs.declared.Transfer.{Transfer}
 use Rattle.fabric_accesses.specs.Accesses.{noTransfer}
+use Rattle.fabric_accesses.specs.Decoding.{targetOf}
 use Rattle.fabric_accesses.proofs.AlignmentLaws.{byte-within}
 use Rattle.fabric_bytes.specs.Bytes.{Store, memoryIndex}
 use Rattle.fabric_bytes.proofs.MoveLaws.{less-or}
 use Rattle.fabric_state.specs.declared.Slot.{Slot}
+use Rattle.fabric_state.specs.declared.Log.{Log}
 use Rattle.fabric_state.specs.declared.State.{State}
 use Rattle.fabric_state.specs.Records.{transferAt, lateAt}
-use Rattle.fabric_state.specs.Soundness.{requests}
+use Rattle.fabric_state.specs.Soundness.{requests, unmappedAt}
 use Rattle.fabric_state.specs.Control.{slotAfterGrant, ended, finished, stateAfter}
+use Rattle.fabric_state.specs.Logging.{withLog}
 use Rattle.fabric_state.specs.Carrying.{carriesOut, carried}
 use Rattle.fabric_state.proofs.Sound.{Sound}
 use Rattle.fabric_state.proofs.RequestLaws.{Accepted, accepted, accepted-posted, requests-free, requests-held, requests-target}
+use Rattle.fabric_state.proofs.RequestLaws.{target-mapped, mapped-of}
 use Rattle.fabric_state.proofs.StateLaws.{transfer-after-past, late-after, late-ends, late-less, held-after}
 use Rattle.fabric_state.proofs.StateLaws.{finished-now, finished-then}
 use Rattle.fabric_state.proofs.SoundLaws.{grant-sound}
@@ -61,6 +65,11 @@ pub active-same : (st u : State) (m : ℕ) → transferAt u m ≡ transferAt st 
     → activeAt u m ≡ activeAt st m
 unfolding activeAt
 active-same st u m same late = rw (same, late)
+
+-- a take leaves all of them
+pub active-logged : (st : State) (log : Log) → activeAt (withLog st log) ≡ activeAt st
+unfolding activeAt withLog
+active-logged st log = refl
 
 -- who holds one behind a clock held it before, and did not have its last access in the clock
 module _ (b : Board) (st : State) (m : ℕ) (e : activeAt (stateAfter b st) m .held ≡ true) where
@@ -113,7 +122,8 @@ module _ (b : Board) (legal : Legal b) (st : State) (sound : Sound b st) where
   held-lies m k w =
       let t = transferAt st m in
       let h = sound .holds m (w .held) in
-      let a : Accepted b m t k = rw (w .target) at (accepted b legal m t (h .1)) in
+      let mapped = target-mapped b m t (omega (arith, w .target, w .within)) in
+      let a : Accepted b m t k = rw (w .target) at (accepted b legal m t (h .1) mapped) in
       let burst = burst-bound (masterAt b m .burst) (legal .master m (h .0) .burst) in
       let width = width-bound (masterAt b m .width) (legal .master m (h .0) .width) in
       let beats : t .beats ≤ 64 = omega (arith, a .few, burst .1) in
@@ -136,6 +146,13 @@ module _ (b : Board) (legal : Legal b) (st : State) (sound : Sound b st) where
   pub lies : (m k : ℕ) → Wants b m k (activeAt st m) → Lies b m k (activeAt st m)
   lies m k w = let same = active-held st m (w .held) .1 in rw same (held-lies m k (rw same at w))
 
+  -- it is not unmapped
+  pub wants-mapped : (m k : ℕ) → Wants b m k (activeAt st m) → unmappedAt b st m ≡ false
+  wants-mapped m k w =
+      let same = active-held st m (w .held) .1 in
+      let target : targetOf b m (transferAt st m .address) ≡ k = rw same at (w .target) in
+      mapped-of b st m (target-mapped b m (transferAt st m) (omega (arith, target, w .within)))
+
   -- ---- a slave that serves
 
   module _ (k : ℕ) (below : k < b .«slave_count») where
@@ -155,6 +172,7 @@ module _ (b : Board) (legal : Legal b) (st : State) (sound : Sound b st) where
         rw (owner-active on) (record {
           held = requests-held b st k (now k .owner) (owner-asks on);
           target = requests-target b st k (now k .owner) legal (owner-asks on);
+          within = below;
         })
 
     pub some-left : now k .serving ≡ true → now k .done < accessesAt b k (now k .owner) (activeAt st (now k .owner))

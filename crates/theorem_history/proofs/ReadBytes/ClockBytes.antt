@@ -1,5 +1,5 @@
 -- One clock against the byte memory: what is true before it of every slave, and of every master that passes latency clocks, is
--- true after it, and who is finished by it as a read has brought the bytes that its step gave (rule 6.9).
+-- true after it, and who is finished by it as a read of a slave has brought the bytes that its step gave (rule 6.9).
 -- Assumes nothing.
 use mathlib.Core.Path.{_≡_, refl, ap, _∙_, sym, subst}
 use mathlib.Core.Bool.{Bool, true, false, cond, _&&_, true≢false, false≢true}
@@ -20,6 +20,7 @@ use Rattle.fabric_bytes.proofs.Ranges.{Agree}
 use Rattle.fabric_state.specs.declared.Slot.{Slot}
 use Rattle.fabric_state.specs.declared.State.{State}
 use Rattle.fabric_state.specs.Records.{slotAt, lateAt}
+use Rattle.fabric_state.specs.Soundness.{unmappedAt}
 use Rattle.fabric_state.specs.Control.{slotAfterGrant, waits, slotWaiting, slotAccessed, slotFinished, stepOf, ended, finished}
 use Rattle.fabric_state.specs.Control.{stateAfter, linesOf}
 use Rattle.fabric_state.specs.Carrying.{carriesOut, carried, carriedBy, storeAfter}
@@ -36,6 +37,7 @@ use Rattle.theorem_history.proofs.ReadBytes.SlaveBytes.{right-other-acc
 use Rattle.theorem_history.proofs.ReadBytes.ActiveTransfers.{activeAt, active-same, active-after, active-unended, lies}
 use Rattle.theorem_history.proofs.ReadBytes.ActiveTransfers.{owner-active, owner-wants, some-left, carries-serving}
 use Rattle.theorem_history.proofs.ReadBytes.ActiveTransfers.{carried-access, carried-none}
+use Rattle.theorem_history.proofs.ReadBytes.ClearedBytes.{cleared-right}
 use Rattle.theorem_history.proofs.ReadBytes.FirstCycles.{Slaves, first-cycles}
 use Rattle.theorem_history.proofs.ReadBytes.LateBytes.{Brought, Latent, brought-done, brought-late}
 
@@ -91,8 +93,7 @@ module _ (b : Board) (legal : Legal b) (st : State) (sound : Sound b st) where
             (now k .done) (some-left b legal st sound k below on))
 
   accesses-all : (d : Store) (r : Reference) → Slaves b st (slotAfterGrant b st) d r
-      → Slaves b st (slotCarried b st) (storeAfter b st d) r
-  unfolding storeAfter
+      → Slaves b st (slotCarried b st) (carriedBy b st (b .«slave_count») d) r
   accesses-all d r c k h =
       let n = b .«slave_count» in
       rw (carried-steps b st n d)
@@ -203,8 +204,12 @@ module _ (b : Board) (legal : Legal b) (st : State) (sound : Sound b st) where
     abbrev then : Store
     then = storeAfter b st d
 
+    -- every access of the clock is carried out, and the words of unmapped reads are cleared
     after-accesses : Slaves b st (slotCarried b st) then told
-    after-accesses = accesses-all d told (first-cycles b legal st sound order d r (c .slaves))
+    unfolding storeAfter
+    after-accesses k h =
+        cleared-right b legal st sound (carriedBy b st (b .«slave_count») d) told k (slotCarried b st k)
+        (accesses-all d told (first-cycles b legal st sound order d r (c .slaves)) k h)
 
     -- the last access of master m is carried out
     brought-ended : (m : ℕ) → ended b st m ≡ true → Brought b then told m
@@ -240,11 +245,11 @@ module _ (b : Board) (legal : Legal b) (st : State) (sound : Sound b st) where
     pub clock-right : Agreed b (stateAfter b st) then told
     clock-right = record { slaves = λ k h. passes k h then told (after-accesses k h); latent = latent-after }
 
-    -- a read that is finished
-    pub clock-read : (m : ℕ) → finished b st m ≡ true → told .request m .write ≡ false
+    -- a read of a slave that is finished
+    pub clock-read : (m : ℕ) → unmappedAt b st m ≡ false → finished b st m ≡ true → told .request m .write ≡ false
         → take (bytesIn b (told .request m)) (drop (partOf m) (then .buffer)) ≡ told .given m
-    clock-read m f = go (ℕ-discrete (lateAt st m) 0) .reads
+    clock-read m mapped f = go (ℕ-discrete (lateAt st m) 0) .reads
       where
         go : Dec (lateAt st m ≡ 0) → Brought b then told m
-        go (yes z) = brought-ended m (finished-ended b st m f z .0)
+        go (yes z) = brought-ended m (finished-ended b st m mapped f z .0)
         go (no z) = brought-before m z

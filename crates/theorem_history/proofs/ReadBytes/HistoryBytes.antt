@@ -2,8 +2,8 @@
 -- clocks keep it, and so the clock that finishes a read leaves what the read's step gave.
 -- Assumes nothing.
 use mathlib.Core.Path.{_≡_, refl, sym, ap, _∙_}
-use mathlib.Core.Bool.{Bool, true, false, cond, not, _&&_, true≢false}
-use mathlib.Core.List.{List}
+use mathlib.Core.Bool.{Bool, true, false, cond, not, _&&_, _||_, true≢false}
+use mathlib.Core.List.{List, [], _∷_}
 use mathlib.Core.Logic.{⊎-elim, inl, inr, _≢_}
 use Prim.Native.Nat.{ℕ, _+_, _*_, _≤_, _<_}
 use native.Mathlib.Omega.{arith}
@@ -16,7 +16,6 @@ use Rattle.description_board.specs.declared.Board.{Board}
 use Rattle.description_board.specs.Records.{masterAt, startOf, memoryLength}
 use Rattle.description_board.specs.Legal.{Legal}
 use Rattle.fabric_accesses.specs.declared.Transfer.{Transfer}
-use Rattle.fabric_accesses.specs.Decoding.{targetOf}
 use Rattle.fabric_bytes.specs.Moving.{all, indexFrom}
 use Rattle.fabric_bytes.specs.Bytes.{Store, bufferLength, partOf, postedWords}
 use Rattle.fabric_bytes.proofs.MoveLaws.{equal-or, less-or}
@@ -24,26 +23,33 @@ use Rattle.fabric_bytes.proofs.Ranges.{agree-refl, agree-sym, move-apart, front
 use Rattle.fabric_bytes.proofs.StoreLaws.{length-posted, parts-apart}
 use Rattle.fabric_state.specs.declared.Slot.{Slot}
 use Rattle.fabric_state.specs.declared.State.{State}
-use Rattle.fabric_state.specs.Records.{transferAt, slotAt, lateAt}
+use Rattle.fabric_state.specs.declared.Line.{Line}
+use Rattle.fabric_state.specs.Records.{noLine, transferAt, slotAt, lateAt}
 use Rattle.fabric_state.specs.Posting.{Request, transferOf, withTransfer}
 use Rattle.fabric_state.specs.Soundness.{sound}
 use Rattle.fabric_state.specs.Control.{finished, maskOf, linesOf}
 use Rattle.fabric_state.specs.Resetting.{stateAtReset}
+use Rattle.fabric_state.specs.Logging.{withoutOldest, withLog}
 use Rattle.fabric.specs.Calls.{clock, storeAfterClock, World}
 use Rattle.fabric_state.proofs.Sound.{Sound}
 use Rattle.fabric_state.proofs.StateLaws.{transfer-reset, slot-reset, late-reset, mask-bit, mask-bit-past}
 use Rattle.fabric_state.proofs.StateLaws.{transfer-with, transfer-with-other, slot-with, late-with}
-use Rattle.fabric_state.proofs.SoundLaws.{post-sound}
+use Rattle.fabric_state.proofs.RequestLaws.{taken-bytes}
 use Rattle.theorem_history.specs.Claim.{Call, after, History, Start, Lent, names, Reference, referenceAt, bytesIn, Order}
-use Rattle.theorem_history.specs.Claim.{seenAll, fedPost, fed}
+use Rattle.theorem_history.specs.Claim.{Mapped, stepped, seen, seenAll, fedPost, fed}
 use Rattle.fabric.proofs.RunOfClocks.{clock-is, store-is}
-use Rattle.theorem_history.proofs.Histories.CallCases.{TakesPost, TakesClock, withPost, withClock, named-taken, feeds}
+use Rattle.theorem_history.proofs.Histories.CallCases.{TakesPost, TakesClock, TakesEntry, withPost, withClock, withTake}
+use Rattle.theorem_history.proofs.Histories.CallCases.{named-taken, feeds}
 use Rattle.theorem_history.proofs.Histories.LentLengths.{clock-lent, lent-before}
 use Rattle.theorem_history.proofs.Histories.OnePost.{Taken, post-taken}
 use Rattle.theorem_history.proofs.Histories.Standing.{Standing, start-state, start-stands, post-stands, clock-stands}
+use Rattle.theorem_history.proofs.Histories.Standing.{take-stands}
+use Rattle.theorem_history.proofs.Histories.LastRequests.{HoldsLast, last-reset, last-post, last-clock, last-take}
+use Rattle.theorem_history.proofs.Histories.LastRequests.{last-mapped}
 use Rattle.theorem_history.proofs.ReadBytes.TransferBytes.{bytesHeld, endOf, Asked, served-kept}
 use Rattle.theorem_history.proofs.ReadBytes.SlaveBytes.{Wants, Right, SameMaster, asked-kept}
-use Rattle.theorem_history.proofs.ReadBytes.ActiveTransfers.{activeAt, active-free, active-held, active-same, lies}
+use Rattle.theorem_history.proofs.ReadBytes.ActiveTransfers.{activeAt, active-free, active-held, active-same, active-logged}
+use Rattle.theorem_history.proofs.ReadBytes.ActiveTransfers.{lies}
 use Rattle.theorem_history.proofs.ReadBytes.LateBytes.{Latent, brought-kept}
 use Rattle.theorem_history.proofs.ReadBytes.ClockBytes.{Agreed, clock-right, clock-read}
 
@@ -93,9 +99,6 @@ module _
     abbrev storeThen : Store
     storeThen = record { memory = d .memory; buffer = postedWords (q .master) (q .words) (d .buffer) }
 
-    then-sound : Sound b stateThen
-    then-sound = post-sound b st (q .master) (transferOf q) legal sound (fresh .master) (fresh .free) (fresh .fits) refl
-
     -- who posts has no latency clocks to pass
     poster-free : lateAt st (q .master) ≡ 0
     poster-free = sound .free (q .master) (fresh .free)
@@ -106,10 +109,7 @@ module _
         ∙ transfer-with st (q .master) (transferOf q) (sound .transfers) (omega (arith, fresh .master, legal .fewMasters))
 
     few : bytesHeld b (q .master) (transferOf q) ≤ 512
-    few =
-        let w : Wants b (q .master) (targetOf b (q .master) (q .address)) (activeAt stateThen (q .master))
-        = rw then-new (record { held = refl; target = refl }) in
-        rw then-new at (lies b legal stateThen then-sound (q .master) (targetOf b (q .master) (q .address)) w .few)
+    few = taken-bytes b legal (q .master) (transferOf q) (fresh .fits) (fresh .master)
 
     words-few : length (q .words) ≤ 512
     words-few = go (q .write) (fresh .words)
@@ -225,20 +225,39 @@ module _
 record Good (b : Board) (w : World) (r : Reference) : Type 0 where
   stands : Standing b w
   right : Agreed b (w .state) (w .store) r
+  last : HoldsLast (w .state) (r .request)
+
+-- lines tell it of no request
+seen-requests : (b : Board) (ss : List ℕ) (lines : List Line) (r : Reference) → seenAll b ss lines r .request ≡ r .request
+unfolding seenAll seen stepped
+seen-requests b [] lines r = refl
+seen-requests b (s ∷ ss) lines r =
+    seen-requests b ss lines (seen b l r) ∙ one ((eqb (l .phase) 1 || eqb (l .phase) 2) && r .waiting (l .owner))
+  where
+    l : Line
+    l = getD lines s noLine
+
+    one : (c : Bool) → cond c (stepped b (l .owner) r) r .request ≡ r .request
+    one true = refl
+    one false = refl
 
 module _ (b : Board) (legal : Legal b) where
   start-good : (w : World) → Start b w → Lent b w → Good b w (referenceAt (w .store .memory))
   start-good w s lent = record {
     stands = start-stands b legal w s lent;
     right = rw (start-state b w s) (reset-right b legal (w .store) (lent .memory) (lent .buffer));
+    last = rw (start-state b w s) (last-reset b (referenceAt (w .store .memory) .request));
   }
 
   post-good : (w : World) (r : Reference) (q : Request) → TakesPost b w q → Good b w r → Good b (withPost w q) (fedPost q r)
+  unfolding fedPost
   post-good w r q e g =
       let t = post-taken b w q e in
       record {
         stands = post-stands b legal w q (g .stands) t;
         right = post-right b legal (w .state) (g .stands .sound) (w .store) r q t (g .right);
+        last = last-post (w .state) (r .request) (g .last) q (g .stands .sound .transfers)
+            (omega (arith, t .master, legal .fewMasters));
       }
 
   clock-good : (w : World) (r : Reference) (order : Order) → TakesClock b w → Good b w r
@@ -246,6 +265,18 @@ module _ (b : Board) (legal : Legal b) where
   clock-good w r order e g = record {
     stands = clock-stands b legal w (g .stands);
     right = clock-right b legal (w .state) (g .stands .sound) order (w .store) r (g .right);
+    last = rw (seen-requests b (order .slaves) (linesOf b (w .state)) r) (last-clock (w .state) (r .request) (g .last) b);
+  }
+
+  take-good : (w : World) (r : Reference) → TakesEntry b w → Good b w r → Good b (withTake w) r
+  unfolding withLog Latent
+  take-good w r e g = record {
+    stands = take-stands b legal w (g .stands);
+    right = record {
+      slaves = λ k h. rw (active-logged (w .state) (withoutOldest (w .state .log))) (g .right .slaves k h);
+      latent = g .right .latent;
+    };
+    last = last-take (w .state) (r .request) (g .last) (withoutOldest (w .state .log));
   }
 
 -- ---- the claim
@@ -261,7 +292,7 @@ pub reads-right : (b : Board) → Legal b → (w : World) (calls : List Call) (o
     → let u = after w calls in
     let a = clock b (u .state) (u .store) in
     let r = seenAll b (last .slaves) (a .lines) (fed b orders (referenceAt (w .store .memory)) calls) in
-    names m a ≡ true → r .request m .write ≡ false
+    names m a ≡ true → r .request m .write ≡ false → Mapped b (r .request m)
     → take (bytesIn b (r .request m)) (drop (partOf m) (storeAfterClock b (u .state) (u .store) .buffer)) ≡ r .given m
 unfolding names
 reads-right b legal w calls orders last m s h n =
@@ -269,8 +300,13 @@ reads-right b legal w calls orders last m s h n =
     let u = after w calls in
     let free = named-taken b (u .state) (u .store) m n in
     let lent = lent-before b calls w h (clock-lent b u free) in
-    let g = feeds b orders (Good b) (post-good b legal) (clock-good b legal) calls w h first (start-good b legal w s lent) in
+    let g = feeds b orders (Good b) (post-good b legal) (clock-good b legal) (take-good b legal) calls w h first
+    (start-good b legal w s lent) in
+    let told = fed b orders first calls in
     let named-now : bit (maskOf b (u .state)) m ≡ true = rw (clock-is b (u .state) (u .store) free) at n in
     rw (clock-is b (u .state) (u .store) free, store-is b (u .state) (u .store) free)
-    (clock-read b legal (u .state) (g .stands .sound) last (u .store) (fed b orders first calls) (g .right) m
-    (named b (u .state) m named-now))
+    (λ read mapped.
+    clock-read b legal (u .state) (g .stands .sound) last (u .store) told (g .right) m
+    (last-mapped (u .state) (told .request) (g .last) b m
+    (rw (seen-requests b (last .slaves) (linesOf b (u .state)) told) at mapped))
+    (named b (u .state) m named-now) read)

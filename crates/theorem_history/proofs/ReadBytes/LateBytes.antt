@@ -17,15 +17,18 @@ use Rattle.fabric_bytes.proofs.MoveLaws.{less-or}
 use Rattle.fabric_bytes.proofs.Ranges.{agree-refl, agree-sym, front, front-same}
 use Rattle.fabric_state.specs.declared.State.{State}
 use Rattle.fabric_state.specs.Records.{lateAt}
+use Rattle.fabric_state.specs.Soundness.{unmappedAt}
 use Rattle.fabric_state.specs.Control.{slotAfterGrant, linesOf}
-use Rattle.fabric_state.specs.Carrying.{carriesOut, carried, carriedBy, storeAfter}
+use Rattle.fabric_state.specs.Carrying.{carriesOut, carried, carriedBy, clearedBy, storeAfter}
 use Rattle.fabric_state.proofs.Sound.{Sound}
+use Rattle.fabric_state.proofs.SoundLaws.{late-mapped}
 use Rattle.theorem_history.specs.Claim.{Reference, bytesIn, stepped, seen, seenAll}
 use Rattle.theorem_history.proofs.ReadBytes.TransferBytes.{accessAt, access-lengths, access-buffer, Lies, Asked, Done}
 use Rattle.theorem_history.proofs.ReadBytes.TransferBytes.{bytes-in}
 use Rattle.theorem_history.proofs.ReadBytes.SlaveBytes.{Wants, SameMaster}
 use Rattle.theorem_history.proofs.ReadBytes.ActiveTransfers.{activeAt, lies, owner-free, owner-wants, some-left}
 use Rattle.theorem_history.proofs.ReadBytes.ActiveTransfers.{carries-serving, carried-access, carried-none}
+use Rattle.theorem_history.proofs.ReadBytes.ClearedBytes.{cleared-length-is, cleared-master}
 use Rattle.theorem_history.proofs.ReadBytes.FirstCycles.{lineAt, seen-silent, seen-serving, silent-past}
 
 -- the last request of master m is carried out: if it is a read, the front of the master's part is what its step gave
@@ -60,10 +63,10 @@ brought-kept b d e r s m l h c =
           sym (front-same n (partOf m) (partOf m) (partOf m + 512) l (h .part) (omega arith) (omega arith)) ∙ c .reads w);
     }
 
--- ---- a clock in which no slave serves the master
+-- ---- a clock in which no slave serves the master, and it holds no unmapped transfer
 
 module _
-    (b : Board) (legal : Legal b) (st : State) (sound : Sound b st) (m : ℕ)
+    (b : Board) (legal : Legal b) (st : State) (sound : Sound b st) (m : ℕ) (mapped : unmappedAt b st m ≡ false)
     (unserved : (k : ℕ) → k < b .«slave_count» → slotAfterGrant b st k .serving ≡ true → slotAfterGrant b st k .owner ≢ m)
   where
     brought-stepped : (o : ℕ) → o ≢ m → (d : Store) (r : Reference) → Brought b d r m → Brought b d (stepped b o r) m
@@ -134,12 +137,16 @@ module _
         → Brought b (storeAfter b st d) (seenAll b ss (linesOf b st) r) m
     unfolding storeAfter
     brought-clock ss d r c =
-        brought-accesses (b .«slave_count») (omega arith) d (seenAll b ss (linesOf b st) r) (brought-lines ss d r c)
+        let told = seenAll b ss (linesOf b st) r in
+        let e = carriedBy b st (b .«slave_count») d in
+        brought-kept b e (clearedBy b st 8 e) told told m (cleared-length-is b legal st sound e told)
+        (cleared-master b legal st sound e told m mapped)
+        (brought-accesses (b .«slave_count») (omega arith) d told (brought-lines ss d r c))
 
--- as one that passes latency clocks requests no slave
+-- as one that passes latency clocks requests no slave, and holds no unmapped transfer
 pub brought-late : (b : Board) (legal : Legal b) (st : State) (sound : Sound b st) (m : ℕ) → lateAt st m ≢ 0
     → (ss : List ℕ) (d : Store) (r : Reference) → Brought b d r m
     → Brought b (storeAfter b st d) (seenAll b ss (linesOf b st) r) m
 brought-late b legal st sound m late =
-    brought-clock b legal st sound m
+    brought-clock b legal st sound m (late-mapped b st legal sound m late)
     (λ k a on e. late (ap (λ (j : ℕ). lateAt st j) (sym e) ∙ owner-free b legal st sound k a on))

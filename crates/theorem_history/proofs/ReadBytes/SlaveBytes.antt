@@ -25,10 +25,11 @@ use Rattle.theorem_history.proofs.ReadBytes.TransferBytes.{served-begin
 use Rattle.theorem_history.proofs.ReadBytes.TransferBytes.{step-apart, access-lengths, access-memory, access-buffer}
 use Rattle.theorem_history.proofs.ReadBytes.TransferBytes.{asked-accessed}
 
--- master m holds the transfer t, and it is for slave k
+-- master m holds the transfer t, and it is for slave k of the board
 pub record Wants (b : Board) (m k : ℕ) (t : Transfer) : Type 0 where
   pub held : t .held ≡ true
   pub target : targetOf b m (t .address) ≡ k
+  pub within : k < b .«slave_count»
 
 -- slave k, whose slot is x, and the masters whose transfers are for it
 pub record Right (b : Board) (held : ℕ → Transfer) (d : Store) (r : Reference) (k : ℕ) (x : Slot) : Type 0 where
@@ -51,12 +52,12 @@ pub record SameMaster (d e : Store) (r s : Reference) (m : ℕ) : Type 0 where
   pub given : r .given m ≡ s .given m
 
 -- and of slave k
-record SameSlave (b : Board) (d e : Store) (r s : Reference) (k : ℕ) : Type 0 where
-  memory : length (d .memory) ≡ length (e .memory)
-  buffer : length (d .buffer) ≡ length (e .buffer)
-  bytes : length (r .bytes) ≡ length (s .bytes)
-  range : Agree (startOf b k) (endOf b k) (d .memory) (e .memory)
-  step : Agree (startOf b k) (endOf b k) (r .bytes) (s .bytes)
+pub record SameSlave (b : Board) (d e : Store) (r s : Reference) (k : ℕ) : Type 0 where
+  pub memory : length (d .memory) ≡ length (e .memory)
+  pub buffer : length (d .buffer) ≡ length (e .buffer)
+  pub bytes : length (r .bytes) ≡ length (s .bytes)
+  pub range : Agree (startOf b k) (endOf b k) (d .memory) (e .memory)
+  pub step : Agree (startOf b k) (endOf b k) (r .bytes) (s .bytes)
 
 pub asked-kept : (b : Board) (d e : Store) (r s : Reference) (m : ℕ) (t : Transfer) → bytesHeld b m t ≤ 512
     → length (d .buffer) ≡ length (e .buffer) → SameMaster d e r s m → Asked b d r m t → Asked b e s m t
@@ -84,7 +85,7 @@ pub record GoesOn (t′ t : Transfer) (x y : Slot) : Type 0 where
   pub transfer : t′ ≡ t
 
 module _ (b : Board) (held : ℕ → Transfer) (k : ℕ) (lies : (m : ℕ) → Wants b m k (held m) → Lies b m k (held m)) where
-  right-kept : (d e : Store) (r s : Reference) (x : Slot) → SameSlave b d e r s k
+  pub right-kept : (d e : Store) (r s : Reference) (x : Slot) → SameSlave b d e r s k
       → ((m : ℕ) → Wants b m k (held m) → SameMaster d e r s m) → Right b held d r k x → Right b held e s k x
   right-kept d e r s x h f c = record {
     memory = sym (h .memory) ∙ c .memory;

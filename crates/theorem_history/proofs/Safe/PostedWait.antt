@@ -1,5 +1,5 @@
--- A post that is taken, where a history has led: its master waits there, and what it may have to wait for is at most the quoted
--- wait, because every slave is within its owner's turn.
+-- A post for a slave that is taken, where a history has led: its master waits there, and what it may have to wait for is at most the
+-- quoted wait, because every slave is within its owner's turn.
 -- Assumes nothing.
 use mathlib.Core.Path.{_≡_, refl, ap, _∙_}
 use mathlib.Core.Bool.{Bool, true, false}
@@ -17,9 +17,9 @@ use Rattle.fabric_state.specs.Records.{transferAt, slotAt}
 use Rattle.fabric_state.specs.Posting.{Request, transferOf, withTransfer}
 use Rattle.fabric.specs.Calls.{World}
 use Rattle.fabric_state.proofs.StateLaws.{transfer-with, slot-with, late-with}
-use Rattle.fabric_state.proofs.RequestLaws.{Accepted, accepted, accepted-accesses, requests-of}
+use Rattle.fabric_state.proofs.RequestLaws.{Accepted, accepted, accepted-accesses, target-mapped, requests-of}
 use Rattle.theorem_bounds.proofs.Potential.{pot-quoted}
-use Rattle.theorem_history.specs.Claim.{slaveFor, waitFor, lengthOf, lateFor}
+use Rattle.theorem_history.specs.Claim.{slaveFor, Mapped, waitFor, lengthOf, lateFor}
 use Rattle.theorem_history.proofs.OneClock.PairFigures.{sharesOf, singleOf, longestOf, wait-quoted}
 use Rattle.theorem_history.proofs.OneClock.AfterGrant.{leftAt}
 use Rattle.theorem_history.proofs.OneClock.UsableGrants.{usableAt, usable-none}
@@ -29,11 +29,12 @@ use Rattle.theorem_history.proofs.Histories.Standing.{Standing}
 use Rattle.theorem_history.proofs.Safe.WaitBounds.{Waiting}
 
 module _ (b : Board) (legal : Legal b) where
-  module _ (st : State) (q : Request) (taken : Taken b st q) where
+  module _ (st : State) (q : Request) (mapped : Mapped b q) (taken : Taken b st q) where
     -- the request is for a slave of the board
     pub fits : Accepted b (q .master) (transferOf q) (slaveFor b q)
     unfolding slaveFor
-    fits = accepted b legal (q .master) (transferOf q) (taken .fits)
+    fits =
+        accepted b legal (q .master) (transferOf q) (taken .fits) (target-mapped b (q .master) (transferOf q) mapped)
 
     -- its transfer lasts a clock at least, and no longer than rule 6.4 allows it
     pub lasts : 1 ≤ ownLength (masterAt b (q .master)) (slaveAt b (slaveFor b q)) (transferOf q)
@@ -54,7 +55,7 @@ module _ (b : Board) (legal : Legal b) where
     unfolding lateFor
     own-latency = omega arith
 
-  module _ (w : World) (x : Standing b w) (q : Request) (taken : Taken b (w .state) q) where
+  module _ (w : World) (x : Standing b w) (q : Request) (mapped : Mapped b q) (taken : Taken b (w .state) q) where
     abbrev st : State
     st = w .state
 
@@ -68,7 +69,7 @@ module _ (b : Board) (legal : Legal b) where
     then = withTransfer st m (transferOf q)
 
     hs : s < b .«slave_count»
-    hs = fits st q taken .within
+    hs = fits st q mapped taken .within
 
     holds : transferAt then m ≡ transferOf q
     holds = transfer-with st m (transferOf q) (x .sound .transfers) (omega (arith, taken .master, legal .fewMasters))
@@ -89,7 +90,7 @@ module _ (b : Board) (legal : Legal b) where
     posted-waits = record {
       holds = holds;
       asks = requests-of b then s m (late-with st m (transferOf q) m ∙ x .sound .free m (taken .free))
-          (ap (λ (t : Transfer). t .held) holds) (rw holds (fits st q taken .selected));
+          (ap (λ (t : Transfer). t .held) holds) (rw holds (fits st q mapped taken .selected));
       off = rw (slot-with st m (transferOf q) s) off;
       bound = λ a.
           let aside : slotAt st s .owner ≡ m → slotAt st s .remaining ≡ 0 = rw (slot-with st m (transferOf q) s) at a in

@@ -1,5 +1,5 @@
 -- The upper bounds, from where a master waits with at most K clocks to wait for: its first cycle comes within K + 1 clocks, its
--- finish within K clocks, its own length and its latency. Each clock and each post of another master keeps such a bound.
+-- finish within K clocks, its own length and its latency. Each clock, each post of another master and each take keeps such a bound.
 -- Assumes nothing.
 use mathlib.Core.Path.{_≡_, refl, sym, ap, _∙_}
 use mathlib.Core.Bool.{Bool, true, false, not, true≢false}
@@ -13,12 +13,14 @@ use Rattle.description_board.specs.Legal.{Legal}
 use Rattle.fabric_accesses.specs.declared.Transfer.{Transfer}
 use Rattle.fabric_accesses.specs.Accesses.{latencyOf, ownLength}
 use Rattle.fabric_state.specs.declared.Slot.{Slot}
+use Rattle.fabric_state.specs.declared.Log.{Log}
 use Rattle.fabric_state.specs.declared.State.{State}
 use Rattle.fabric_state.specs.declared.Clocked.{Clocked}
 use Rattle.fabric_state.specs.Records.{transferAt, slotAt, lateAt}
 use Rattle.fabric_state.specs.Posting.{Request, transferOf, withTransfer}
 use Rattle.fabric_state.specs.Soundness.{requests, latencyAt}
 use Rattle.fabric_state.specs.Control.{stepOf, ended, finished, stateAfter}
+use Rattle.fabric_state.specs.Logging.{withoutOldest, withLog}
 use Rattle.fabric.specs.Calls.{World}
 use Rattle.fabric_state.proofs.StateLaws.{slot-after, slot-with, late-with, mask-bit, late-after, late-ends, late-less}
 use Rattle.fabric_state.proofs.StateLaws.{ended-here, finished-now, finished-then}
@@ -30,9 +32,10 @@ use Rattle.theorem_history.proofs.OneClock.AfterGrant.{longAt, leftIn, 
 use Rattle.theorem_history.proofs.OneClock.AfterGrant.{begins, silent, after-grant}
 use Rattle.theorem_history.proofs.OneClock.SlaveClock.{potAt, acts, stays, nearer, owner-after, left-after}
 use Rattle.theorem_history.proofs.OneClock.MasterClock.{kept-after, asks-after, shown}
-use Rattle.theorem_history.proofs.Histories.CallCases.{withPost, answerOf, tells}
+use Rattle.theorem_history.proofs.Histories.CallCases.{withPost, withTake, answerOf, tells}
 use Rattle.theorem_history.proofs.Histories.OnePost.{Taken, post-taken, left-with, pot-with, kept-with, asks-with}
-use Rattle.theorem_history.proofs.Histories.Standing.{Standing, post-stands, clock-stands}
+use Rattle.theorem_history.proofs.Histories.Standing.{Standing, post-stands, clock-stands, take-stands}
+use Rattle.theorem_history.proofs.Histories.OneTake.{asks-logged, left-logged, pot-logged}
 use Rattle.theorem_history.proofs.Safe.ClockTests.{By, by-now, by-later}
 
 -- master m holds the transfer t for slave s, is not served, and has K clocks at the most to wait for
@@ -212,6 +215,31 @@ module _
           bound = omega (arith, left-with b st (x .sound) (q .master) (transferOf q) (taken .free) s hs, y .bound);
         }
 
+    -- ---- a take
+
+    module _ (w : World) where
+      abbrev left : Log
+      left = withoutOldest (w .state .log)
+
+      wait-take : (K : ℕ) → Waiting b m s t K (w .state) → Waiting b m s t K (withTake w .state)
+      unfolding withLog
+      wait-take K y = record {
+        holds = y .holds;
+        asks = asks-logged b (w .state) left s m ∙ y .asks;
+        off = y .off;
+        bound = λ a. omega (arith, pot-logged b (w .state) left s m, y .bound a);
+      }
+
+      serve-take : (L : ℕ) → InService b m s t L (w .state) → InService b m s t L (withTake w .state)
+      unfolding withLog
+      serve-take L y = record {
+        holds = y .holds;
+        asks = asks-logged b (w .state) left s m ∙ y .asks;
+        on = y .on;
+        own = y .own;
+        bound = omega (arith, left-logged b (w .state) left s, y .bound);
+      }
+
     -- ---- along a history
 
     module _ (lasts : 1 ≤ own) where
@@ -262,8 +290,18 @@ module _
           served L l n h (goes z) =
               by-later (names m) (L - 1 + behind) n (answerOf b w) xs (omega arith) (r .serve (L - 1) z)
 
+      bounds-take : (w : World) (xs : List Clocked) → Bounds b m s t (withTake w .state) xs → Bounds b m s t (w .state) xs
+      unfolding withLog
+      bounds-take w xs r = record {
+        first = λ K y. r .first K (wait-take w K y);
+        late = r .late;
+        serve = λ L y. r .serve L (serve-take w L y);
+        finish = λ K y. r .finish K (wait-take w K y);
+      }
+
       pub bounds : (cs : List Call) (w : World) → History b w cs → Standing b w → Bounds b m s t (w .state) (answers cs)
       bounds =
           tells b (λ w xs. Standing b w → Bounds b m s t (w .state) xs) bounds-none
           (λ w q e xs f x. let k = post-taken b w q e in bounds-post w x q k xs (f (post-stands b legal w q x k)))
           (λ w e xs f x. bounds-clock w x xs (f (clock-stands b legal w x)))
+          (λ w e xs f x. bounds-take w xs (f (take-stands b legal w x)))

@@ -13,7 +13,7 @@ use Rattle.description_board.specs.Legal.{Legal}
 use Rattle.fabric_state.specs.Posting.{Request, transferOf}
 use Rattle.fabric.specs.Calls.{World, post}
 use Rattle.theorem_history.specs.Claim.{Call, Start, History, after, answers, shows, names, any, Accepted, afterPosting}
-use Rattle.theorem_history.specs.Claim.{slaveFor, waitFor, lengthOf, lateFor}
+use Rattle.theorem_history.specs.Claim.{slaveFor, Mapped, waitFor, lengthOf, lateFor}
 use Rattle.theorem_history.proofs.Histories.CallCases.{TakesPost, withPost, post-leaves}
 use Rattle.theorem_history.proofs.Histories.LentLengths.{post-before, lent-before, counted-lent}
 use Rattle.theorem_history.proofs.Histories.OnePost.{Taken, post-taken}
@@ -25,7 +25,7 @@ use Rattle.theorem_history.proofs.Safe.PostedWait.{fits, lasts, own-len
 module _
     (b : Board) (legal : Legal b) (w : World) (before : List Call) (q : Request) (calls : List Call) (start : Start b w)
     (history : History b w before) (accepted : Accepted b (after w before) q)
-    (later : History b (afterPosting b (after w before) q) calls)
+    (mapped : Mapped b q) (later : History b (afterPosting b (after w before) q) calls)
   where
     -- where the request is posted
     abbrev here : World
@@ -51,23 +51,23 @@ module _
     bounded : (some : 1 ≤ length (answers calls))
         → Bounds b (q .master) (slaveFor b q) (transferOf q) (withPost here q .state) (answers calls)
     bounded some =
-        bounds b legal (q .master) (taken .master) (slaveFor b q) (fits b legal (here .state) q taken .within) (transferOf q)
-        (lasts b legal (here .state) q taken) calls (withPost here q) behind (post-stands b legal here q (stands some) taken)
+        bounds b legal (q .master) (taken .master) (slaveFor b q) (fits b legal (here .state) q mapped taken .within) (transferOf q)
+        (lasts b legal (here .state) q mapped taken) calls (withPost here q) behind (post-stands b legal here q (stands some) taken)
 
     pub within : waitFor b q + 1 ≤ length (answers calls)
         → any (shows (q .master)) (take (waitFor b q + 1) (answers calls)) ≡ true
     within l =
         let some : 1 ≤ length (answers calls) = omega arith in
         let k = waitFor b q in
-        rw (add-one k) (bounded some .first k (posted-waits b legal here (stands some) q taken) (omega arith))
+        rw (add-one k) (bounded some .first k (posted-waits b legal here (stands some) q mapped taken) (omega arith))
 
     pub finished : waitFor b q + lengthOf b q + lateFor b q ≤ length (answers calls)
         → any (names (q .master)) (take (waitFor b q + lengthOf b q + lateFor b q) (answers calls)) ≡ true
     finished l =
-        let lasting = lasts b legal (here .state) q taken in
-        let enough = own-length b legal (here .state) q taken in
-        let late = own-latency b legal (here .state) q taken in
+        let lasting = lasts b legal (here .state) q mapped taken in
+        let enough = own-length b legal (here .state) q mapped taken in
+        let late = own-latency b legal (here .state) q mapped taken in
         let some : 1 ≤ length (answers calls) = omega arith in
         let k = waitFor b q in
         by-more (names (q .master)) _ (k + lengthOf b q + lateFor b q) (answers calls) (omega arith)
-        (bounded some .finish k (posted-waits b legal here (stands some) q taken)) l
+        (bounded some .finish k (posted-waits b legal here (stands some) q mapped taken)) l
