@@ -42,6 +42,7 @@ lent count n =
       masters = b .masters;
       slaves = b .slaves;
       shares = set (b .shares) 16 n;
+      «default_line» = false;
     }
 
 -- state, memory and buffer after a reset of the board of section 9

@@ -58,7 +58,7 @@ servedAnswers q done =
     let w = lanePosted q in
     let slot : Slot = record { owner = 0; remaining = 0; serving = true; done = done; waited = 0 } in
     clock laneBoard
-    (record { transfers = w .state .transfers; slots = set (w .state .slots) 0 slot; late = w .state .late })
+    (record { transfers = w .state .transfers; slots = set (w .state .slots) 0 slot; late = w .state .late; log = w .state .log })
     (w .store) .number
 
 -- a word written by itself, and a slave of the given width and burst with native alignment

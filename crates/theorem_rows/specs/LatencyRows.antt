@@ -70,7 +70,7 @@ postAnswers n = post latencyBoard (readClocked n .state) (readClocked n .store .
 unfoldable pub lateAnswers : World → ℕ → ℕ → ℕ
 lateAnswers w m n =
     clock latencyBoard
-    (record { transfers = w .state .transfers; slots = w .state .slots; late = set (w .state .late) m n })
+    (record { transfers = w .state .transfers; slots = w .state .slots; late = set (w .state .late) m n; log = w .state .log })
     (w .store) .number
 
 -- the state in which the card serves the read of master 0
@@ -78,7 +78,8 @@ unfoldable pub serving : World
 serving =
     let w = aloneWith (readBy 0) in
     let slot : Slot = record { owner = 0; remaining = 0; serving = true; done = 0; waited = 0 } in
-    let st : State = record { transfers = w .state .transfers; slots = set (w .state .slots) 0 slot; late = w .state .late } in
+    let st : State =
+    record { transfers = w .state .transfers; slots = set (w .state .slots) 0 slot; late = w .state .late; log = w .state .log } in
     record { state = st; store = w .store }
 
 -- the access of a single of master 1 at address 4

@@ -7,3 +7,4 @@ pub mod VariantRows
 pub mod OrderRows
 pub mod LaneRows
 pub mod LatencyRows
+pub mod UnmappedRows

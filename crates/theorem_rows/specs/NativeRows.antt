@@ -64,6 +64,7 @@ joined width native = record {
       set (replicate 16 noSlave) 0
       (record { base = 0; span = 16; width = 2; burst = 2; «read_wait» = 0; «write_wait» = 0; native = native; latency = 0 });
   shares = set (replicate 128 0) 0 1;
+  «default_line» = false;
 }
 
 pub record NativeRows : Type 0 where
