@@ -1,7 +1,7 @@
 #!/bin/sh
-# Tries table and simulate on boards that are refused, simulate on scripts with refused calls, writes of some of the lanes and cards
-# with latency, and both with options and names. Compares what they write on standard output and on standard error, byte for byte, with
-# the text that stands here. Refusal k is rule 7.k of docs/RULES.md.
+# Tries table and simulate on boards that are refused, simulate on scripts with refused calls, writes of some of the lanes, cards with
+# latency, and unmapped transfers with their log, and both with options and names. Compares what they write on standard output and on
+# standard error, byte for byte, with the text that stands here. Refusal k is rule 7.k of docs/RULES.md.
 set -eu
 
 root=$(CDPATH= cd -- "$(dirname -- "$0")/.." && pwd)
@@ -76,8 +76,8 @@ refused "master,4,8\n$slave\nshare,0,0,1,1,1,1,1\nslave,8,8,1,1,0,0,0\n" 1 "line
 refused 's,1,1,1,1,1,1\n' 1 "line 1: refusal 1: $line"
 refused 's,1,1,1,1,1,1,1\n' 1 "line 1: refusal 1: $line"
 refused "$slave" 1 "line 1: refusal 1: $line"
-refused "$slave\n" 2 'line 1: refusal 2: line kind out of order or over the count'
-refused "master,4,8\n$slave\nmaster,4,8\n" 2 'line 3: refusal 2: line kind out of order or over the count'
+refused "$slave\n" 2 'line 1: refusal 2: line kind out of order, over the count or behind default'
+refused "master,4,8\n$slave\nmaster,4,8\n" 2 'line 3: refusal 2: line kind out of order, over the count or behind default'
 refused 'master,3,8\n' 3 'line 1: refusal 3: value outside its list or range'
 refused 'master,4,8\nslave,0,8,1,1,0,0,2,0\n' 3 'line 2: refusal 3: value outside its list or range'
 refused 'master,4,8\nslave,0,8,1,1,0,0,0,64\n' 3 'line 2: refusal 3: value outside its list or range'
@@ -95,6 +95,31 @@ native='slave,0,8,2,1,0,0,1,0'
 refused "master,2,8\nmaster,1,8\n$native\nshare,0,0,1\nshare,1,0,1\n" 19 "line 5: refusal 19: $narrow"
 refused "master,1,8\n$native\nshare,1,0,1\n" 7 "line 3: refusal 7: $share"
 
+# The line default stands behind a slave line and in front of none (rules 1.4 and 7.2), and has no number (rule 1.3).
+kind='refusal 2: line kind out of order, over the count or behind default'
+single="master,4,8\n$slave\nshare,0,0,1\n"
+refused 'default\n' 2 "line 1: $kind"
+refused "default\n$single" 2 "line 1: $kind"
+refused 'master,4,8\ndefault\n' 2 "line 2: $kind"
+refused "master,4,8\ndefault\n$slave\nshare,0,0,1\n" 2 "line 2: $kind"
+refused "master,4,8\n$slave\ndefault\nshare,0,0,1\n" 2 "line 4: $kind"
+refused "${single}default\ndefault\n" 2 "line 5: $kind"
+refused "${single}default\nmaster,4,8\n" 2 "line 5: $kind"
+refused "${single}default\nslave,8,8,1,1,0,0,0,0\n" 2 "line 5: $kind"
+refused "${single}default\nshare,0,0,0\n" 2 "line 5: $kind"
+refused "${single}default\ndefault\nx\n" 2 "line 5: $kind"
+refused "${single}default" 1 "line 4: refusal 1: $line"
+refused "${single}default,1\n" 1 "line 4: refusal 1: $line"
+refused "${single}default,\n" 1 "line 4: refusal 1: $line"
+refused "${single}default \n" 1 "line 4: refusal 1: $line"
+refused "${single}Default\n" 1 "line 4: refusal 1: $line"
+refused "${single}defaul\n" 1 "line 4: refusal 1: $line"
+refused "${single}defaults\n" 1 "line 4: refusal 1: $line"
+refused "${single}default\n\n" 1 "line 5: refusal 1: $line"
+refused "${single}default\nshare,0,0\n" 1 "line 5: refusal 1: $line"
+refused "${single}default\ndefault" 1 "line 5: refusal 1: $line"
+refused 'default,1\n' 1 "line 1: refusal 1: $line"
+
 # No line is to blame: the end of the text, and its length (rule 8.3).
 refused '' 2 'refusal 2: at the end, no master or no slave'
 refused 'master,4,8\nmaster,4,8\n' 2 'refusal 2: at the end, no master or no slave'
@@ -109,6 +134,7 @@ unshared() {
 
 masters='master,4,8\nmaster,2,1\nmaster,8,4\nmaster,4,1\n'
 unshared "master,4,8\n$slave\n" 0
+unshared "master,4,8\n$slave\ndefault\n" 0
 unshared "$masters$slave\n" 0
 unshared "$masters$slave\nshare,1,0,1\nshare,2,0,1\nshare,3,0,1\n" 0
 unshared "$masters$slave\nshare,0,0,1\nshare,2,0,1\nshare,3,0,1\n" 1
@@ -137,7 +163,7 @@ refused "$masters$slave\nshare,3,0,1\nshare,3,0,1\n" 7 "line 7: refusal 7: $shar
 refused "master,2,8\nmaster,1,8\n$native\nshare,1,0,1\n" 19 "line 4: refusal 19: $narrow"
 refused "master,1,8\nmaster,2,8\n$native\nshare,0,0,1\n" 19 "line 4: refusal 19: $narrow"
 refused "$masters$slave\nshare,0,0,0\n" 3 'line 6: refusal 3: value outside its list or range'
-refused "$masters$slave\nshare,0,0,1\n$slave\n" 2 'line 7: refusal 2: line kind out of order or over the count'
+refused "$masters$slave\nshare,0,0,1\n$slave\n" 2 'line 7: refusal 2: line kind out of order, over the count or behind default'
 refused "$masters$slave\nshare,0,0,1\nx\n" 1 "line 7: refusal 1: $line"
 refused "master,4,8\n$slave\nshare,0,0,1" 1 "line 3: refusal 1: $line"
 refused "$masters$slave\nshare,0,0,1" 1 "line 6: refusal 1: $line"
@@ -243,8 +269,8 @@ disordered "$masters$slave\nshare,1,0,1\nshare,0,0,1\nshare,0,0,1\n" 7
 disordered "$masters$slave\nshare,1,0,1\nshare,0,0,1\nshare,4,0,1\n" 7
 disordered "master,2,8\nmaster,2,8\nmaster,1,8\n$native\nshare,1,0,1\nshare,0,0,1\nshare,2,0,1\n" 6
 refused "$masters$slave\nshare,1,0,1\nx\nshare,0,0,1\n" 1 "$behind 1: $line"
-refused "$masters$slave\nshare,1,0,1\n$slave\nshare,0,0,1\n" 2 "$behind 2: line kind out of order or over the count"
-refused "master,4,8\nshare,1,0,1\nshare,0,0,1\n$slave\n" 2 'line 2: refusal 2: line kind out of order or over the count'
+refused "$masters$slave\nshare,1,0,1\n$slave\nshare,0,0,1\n" 2 "$behind 2: line kind out of order, over the count or behind default"
+refused "master,4,8\nshare,1,0,1\nshare,0,0,1\n$slave\n" 2 'line 2: refusal 2: line kind out of order, over the count or behind default'
 refused "$masters$slave\nshare,1,0,1\nshare,0,0,1\n$(printf '%08193d' 0)\n" 1 'refusal 1: text over 8192 bytes'
 
 # A board that is taken is not explained.
@@ -286,6 +312,9 @@ ordered "${two}share,0,0,100\nshare,0,2,1\nshare,0,10,99\nshare,1,1,50\nshare,1,
 1,1,0,2
 1,9,0,2
 1,11,0,2'
+ordered "${two}share,0,1,1\nshare,1,0,1\ndefault\n" '0,1,0,8
+1,0,0,2'
+ordered "${single}default\n" 0,0,0,8
 ordered "master,4,8\n${cards}$(seq 0 15 | sed 's/.*/share,0,&,1\\n/' | tr -d '\n')" "$(seq 0 15 | sed 's/.*/0,&,0,8/')"
 
 # Of several files one is refused with 21, and the others are printed as by themselves.
@@ -347,7 +376,7 @@ refused_call 'post,0,read,4096,15,1,11223344\n' post 18 'data not beats times wi
 
 # A board that the script has overwritten is refused by the call that it is handed to (rule 8.5).
 called 'count,0,1\nreset\n' 'reset,2' \
-    'simulate: script line 2: refusal 2: at the end, no master or no slave; line kind out of order or over the count'
+    'simulate: script line 2: refusal 2: at the end, no master or no slave; line kind out of order, over the count or behind default'
 called 'reset\nslave,0,4100,4096,2,8,1,0,0,0\npost,0,read,4096,15,1,-\nclock,1\nwait,0,0\n' 'reset,0
 post,4
 clock,4,0
@@ -384,10 +413,21 @@ unshared_calls 'share,1,0,0\nwait,1,0\nclock,1\nwait,0,0\n' 'wait,0,36,2
 clock,20,0
 wait,0,6,32' 4:1
 
-# The state is cleared before a reset, also before one that is refused: no last owner is 1 any more.
-unshared_calls 'share,1,0,0\nreset\nstate\n' "reset,20
+# The log of a state as it is printed: COUNT,LOST, and entries from the oldest on, each MASTER,ADDRESS,WRITE; those behind are 0.
+log_of() {
+    echo "log,$1"
+    shift
+    for index in 0 1 2 3 4 5 6 7; do
+        echo "entry,$index,${1-0,0,0}"
+        [ $# -eq 0 ] || shift
+    done
+}
+
+# The state is cleared before a reset, also before one that is refused: no last owner is 1 any more, and the log is empty.
+unshared_calls 'share,1,0,0\nlog,3,1\nentry,2,1,8192,1\nreset\nstate\n' "reset,20
 $(seq 0 7 | sed 's/.*/transfer,&,0,0,0,0,0,0/')
-$(seq 0 15 | sed 's/.*/slot,&,0,0,0,0,0/')" 3:1
+$(seq 0 15 | sed 's/.*/slot,&,0,0,0,0,0/')
+$(log_of 0,0)" 5:1
 
 # What was refused is taken when the share line is given back. Nothing has moved: master 0 is served from where it was.
 unshared_calls 'share,1,0,0\nreset\nshare,1,0,3\nreset\nclock,1\n' "reset,20
@@ -469,7 +509,7 @@ called 'share,1,0,1\nshare,0,1,1\nreset\n' reset,7 "simulate: script line 3: ref
 
 # What the lines of the board are refused with comes before 20, and 2 too (rule 8.5).
 called 'share,0,0,0\nshare,1,0,0\ncount,2,0\nreset\n' reset,2 \
-    'simulate: script line 4: refusal 2: at the end, no master or no slave; line kind out of order or over the count'
+    'simulate: script line 4: refusal 2: at the end, no master or no slave; line kind out of order, over the count or behind default'
 called 'share,1,0,0\nslave,0,4096,4096,2,8,1,0,2,0\nreset\n' reset,3 \
     'simulate: script line 3: refusal 3: value outside its list or range'
 called 'share,1,0,0\nshare,0,0,101\nreset\n' reset,3 'simulate: script line 3: refusal 3: value outside its list or range'
@@ -584,12 +624,16 @@ wait,0,9,48
 wait,0,60,3"
 
 # The state in the middle of a write, and behind it: what is done counts the accesses carried out. The transfer of master 0, the slot
-# of card 0, and the latency clocks that the master still has to pass, where it is not 0.
-state_of() {
+# of card 0, and the latency clocks that the master still has to pass, where it is not 0. The log is empty.
+parts_of() {
     printf 'transfer,0,%s,%s\n' "$1" "${3-0}"
     seq 1 7 | sed 's/.*/transfer,&,0,0,0,0,0,0/'
     printf 'slot,0,%s\n' "$2"
     seq 1 15 | sed 's/.*/slot,&,0,0,0,0,0/'
+}
+state_of() {
+    parts_of "$@"
+    log_of 0,0
 }
 narrowed "reset\npost,0,write,4104,240,1,$bytes\nclock,3\nstate\nclock,1\nstate\nclock,2\nstate\n" "reset,0
 post,0
@@ -705,6 +749,250 @@ counted 1,0,4104,12,1,0 0,1,1,0,0 "$(clocks 0:1,0,8,3,4,0)"
 narrowed 'reset\ntransfer,0,1,0,4104,12,1,1\nclock,1\n' 'reset,0
 clock,9,0' "simulate: script line 3: $rule"
 
+# The first board of section 9 with the line default, on which unmapped posts are taken (rules 3.7 and 4.17): a script, a format of
+# printf, what is printed, and what is explained.
+{ cat fabric.txt && echo default; } > answered.txt
+answered() {
+    # shellcheck disable=SC2059
+    printf "$1" > calls.txt
+    try simulate calls.txt "$2" "${3-}" answered.txt
+}
+
+# A clock in which card 0 is idle: its mask, and the masters that it answers with response 3.
+answers() {
+    printf 'clock,0,%s\n%s\n' "$1" "$idle"
+    shift
+    for master in "$@"; do
+        echo "response,$master,3"
+    done
+}
+
+# The state behind a reset, but for its log: as log_of has it.
+rests_with() {
+    parts_of 0,0,0,0,0 1,0,0,0,0
+    log_of "$@"
+}
+
+# The next clock finishes an unmapped transfer, and no later one says anything of it. Without the line its post is refused with 16.
+for address in 0 4092 8192 4294967292; do
+    answered "reset\npost,0,read,$address,15,1,-\nclock,2\n" "reset,0
+post,0
+$(answers 1 0)
+$(answers 0)"
+    refused_call "post,0,read,$address,15,1,-\n" post 16 'no connected slave there'
+done
+# A read brings zeros, beats times width bytes whichever lanes it names; a write leaves its words in the buffer, and no byte of the
+# memory changes.
+answered 'reset\nfill,buffer,0,ffffffffffff\npost,0,read,8192,3,1,-\nshow,buffer,0,6\nclock,1\nshow,buffer,0,6\n' "reset,0
+post,0
+ffffffffffff
+$(answers 1 0)
+00000000ffff"
+answered "reset\nfill,buffer,0,$(printf '%072d' 0 | sed 's/0/f/g')\npost,0,read,8192,15,8,-\nclock,1\nshow,buffer,0,36\n" "reset,0
+post,0
+$(answers 1 0)
+$(printf '%064d' 0)ffffffff"
+answered 'reset\nfill,memory,0,11223344\npost,0,write,0,15,1,a1b2c3d4\nclock,1\nshow,buffer,0,4\nshow,memory,0,4\n' "reset,0
+post,0
+$(answers 1 0)
+a1b2c3d4
+11223344"
+# How far a burst reaches is asked of one that begins in a card alone.
+answered 'reset\npost,0,read,4092,15,8,-\npost,1,read,4096,3,1,-\nclock,1\npost,0,read,8188,15,2,-\npost,0,read,4294967292,15,8,-\n'"\
+clock,1\n" 'reset,0
+post,0
+post,0
+clock,0,1
+slave,0,1,1,0,3,1,0
+response,0,3
+post,17
+post,0
+clock,0,3
+slave,0,2,1,0,3,1,0
+response,0,3' "simulate: script line 5: refusal 17: burst passes the slave's end"
+
+# What else is refused of a post is refused of an unmapped one too: the post, its number and the words.
+answered_post() {
+    answered "reset\n$1\nclock,1\nstate\n" "reset,0
+post,$2
+$(answers 0)
+$(rests_with 0,0)" "simulate: script line 2: refusal $2: $3"
+}
+
+answered_post 'post,2,read,8192,15,1,-' 11 'no such master'
+answered_post 'post,0,read,8192,15,0,-' 13 "$beats"
+answered_post 'post,0,read,8192,15,9,-' 13 "$beats"
+answered_post 'post,1,read,8192,3,2,-' 13 "$beats"
+answered_post 'post,0,read,8194,15,1,-' 14 "address no multiple of the master's width"
+answered_post 'post,0,read,8192,6,1,-' 15 'lanes not legal, or a burst without all lanes'
+answered_post 'post,0,read,8192,3,2,-' 15 'lanes not legal, or a burst without all lanes'
+answered_post 'post,0,write,8192,15,1,112233' 18 'data not beats times width bytes'
+answered_post 'post,0,read,8192,15,1,11223344' 18 'data not beats times width bytes'
+answered 'reset\npost,0,read,8192,15,1,-\npost,0,read,8192,15,1,-\nclock,1\npost,0,read,8192,15,1,-\n' "reset,0
+post,0
+post,12
+$(answers 1 0)
+post,0" 'simulate: script line 3: refusal 12: master holds a transfer'
+# A wait is looked up for a connected pair, with the line too.
+answered 'wait,0,1\nwait,2,0\nwait,0,0\nwait,1,0\n' 'wait,16,0,0
+wait,11,0,0
+wait,0,6,32
+wait,0,36,2' 'simulate: script line 1: refusal 16: no connected slave there
+simulate: script line 2: refusal 11: no such master'
+# An address of a card that the master is not connected to is unmapped for it alone. Card 1 has the 8 bytes from 0 on.
+answered 'slave,1,0,8,2,1,0,0,0,0\ncount,2,2\nlend,memory,4104\nshare,1,1,1\nreset\npost,0,read,0,15,1,-\npost,1,read,0,3,1,-\n'"\
+clock,1\ntake\ntake\n" "reset,0
+post,0
+post,0
+clock,0,3
+$idle
+slave,1,2,1,0,3,1,0
+response,0,3
+take,0,0,0,0
+take,22,0,0,0" 'simulate: script line 10: refusal 22: the log is empty: there is no entry to take'
+
+# The script gives the board the line, and takes it away: a transfer that is held then breaks a rule (7.9), as 7.16 holds of it.
+called 'reset\npost,0,read,8192,15,1,-\ndefault,1\npost,0,read,8192,15,1,-\nclock,1\ndefault,0\npost,0,read,8192,15,1,-\n' "reset,0
+post,16
+post,0
+$(answers 1 0)
+post,16" 'simulate: script line 2: refusal 16: no connected slave there
+simulate: script line 7: refusal 16: no connected slave there'
+answered 'reset\npost,0,read,8192,15,1,-\ndefault,0\nclock,1\npost,1,read,4096,3,1,-\ntake\ndefault,1\nclock,1\ntake\n' "reset,0
+post,0
+clock,9,0
+post,9
+take,9,0,0,0
+$(answers 1 0)
+take,0,0,8192,0" "simulate: script line 4: $rule
+simulate: script line 5: $rule
+simulate: script line 6: $rule"
+
+# A lent state with an unmapped transfer of master 0, and the slot of card 0: it is finished, or breaks a rule (7.9), where it has
+# latency clocks to pass, where the card serves it, and where it is refused to a post.
+unmapped() {
+    if [ "$3" = taken ]; then
+        answered "reset\ntransfer,0,$1\nslot,0,$2\nclock,1\n" "reset,0
+$(answers 1 0)"
+        return
+    fi
+    answered "reset\ntransfer,0,$1\nslot,0,$2\nclock,1\ntake\n" 'reset,0
+clock,9,0
+take,9,0,0,0' "simulate: script line 4: $rule
+simulate: script line 5: $rule"
+}
+
+unmapped 1,0,8192,15,1,0 1,0,0,0,0 taken
+unmapped 1,1,8192,12,1,0 1,0,0,0,0 taken
+unmapped 1,0,4092,15,8,0 0,1,0,0,0 taken
+unmapped 1,0,8192,15,1,1 1,0,0,0,0 refused
+unmapped 1,1,8192,15,1,1 1,0,0,0,0 refused
+unmapped 1,0,8192,15,1,0 0,1,1,0,0 refused
+unmapped 1,0,8192,15,9,0 1,0,0,0,0 refused
+unmapped 1,0,8194,15,1,0 1,0,0,0,0 refused
+unmapped 1,0,8192,6,1,0 1,0,0,0,0 refused
+
+# The log (rules 4.18 and 4.19). A clock enters by master number, in whichever order was posted; the oldest entry is taken first.
+answered 'reset\npost,1,write,0,3,1,a1b2\npost,0,read,8192,15,1,-\nclock,1\nstate\ntake\nstate\ntake\ntake\nstate\n' "reset,0
+post,0
+post,0
+$(answers 3 0 1)
+$(rests_with 2,0 0,8192,0 1,0,1)
+take,0,0,8192,0
+$(rests_with 1,0 1,0,1)
+take,0,1,0,1
+take,22,0,0,0
+$(rests_with 0,0)" 'simulate: script line 9: refusal 22: the log is empty: there is no entry to take'
+answered 'reset\npost,1,read,0,3,1,-\nclock,1\npost,0,write,4,15,1,01020304\nclock,1\ntake\npost,1,read,2,3,1,-\nclock,1\nstate\n' \
+    "reset,0
+post,0
+$(answers 2 1)
+post,0
+$(answers 1 0)
+take,0,1,0,0
+post,0
+$(answers 2 1)
+$(rests_with 2,0 0,4,1 1,2,0)"
+# Eight entries fill it. What comes then is dropped, and the lost mark stays when there is space again, until a reset.
+fills='reset\n' filled=reset,0 entries=
+for k in 0 1 2 3; do
+    fills="${fills}post,0,read,$((16 * k)),15,1,-\npost,1,write,$((16 * k + 2)),3,1,a1b2\nclock,1\n"
+    filled="$filled
+post,0
+post,0
+$(answers 3 0 1)"
+    entries="$entries 0,$((16 * k)),0 1,$((16 * k + 2)),1"
+done
+# shellcheck disable=SC2086
+answered "${fills}state\npost,0,write,64,15,1,01020304\npost,1,read,66,3,1,-\nclock,1\nstate\ntake\nstate\npost,1,read,68,3,1,-\nclock,1\n\
+state\nreset\nstate\ntake\n" "$filled
+$(rests_with 8,0 $entries)
+post,0
+post,0
+$(answers 3 0 1)
+$(rests_with 8,1 $entries)
+take,0,0,0,0
+$(rests_with 7,1 ${entries# 0,0,0})
+post,0
+$(answers 2 1)
+$(rests_with 8,1 ${entries# 0,0,0} 1,68,0)
+reset,0
+$(rests_with 0,0)
+take,22,0,0,0" 'simulate: script line 26: refusal 22: the log is empty: there is no entry to take'
+# Where a clock finds one place, the lower master has it.
+answered 'reset\nlog,7,0\npost,1,read,66,3,1,-\npost,0,write,64,15,1,01020304\nclock,1\nstate\n' "reset,0
+post,0
+post,0
+$(answers 3 0 1)
+$(rests_with 8,1 0,0,0 0,0,0 0,0,0 0,0,0 0,0,0 0,0,0 0,0,0 0,64,1)"
+# Entries from the count on stay as they are when another is entered, and move with the others when one is taken.
+answered 'reset\nentry,5,7,99,1\nentry,7,1,2,1\npost,0,read,8192,15,1,-\nclock,1\nstate\ntake\nstate\n' "reset,0
+post,0
+$(answers 1 0)
+$(rests_with 1,0 0,8192,0 0,0,0 0,0,0 0,0,0 0,0,0 7,99,1 0,0,0 1,2,1)
+take,0,0,8192,0
+$(rests_with 0,0 0,0,0 0,0,0 0,0,0 0,0,0 7,99,1 0,0,0 1,2,1)"
+
+# Any board has a log, and what an entry says is not judged.
+empty='refusal 22: the log is empty: there is no entry to take'
+called 'take\nreset\ntake\nlog,1,0\nentry,0,255,4294967295,1\ntake\ntake\n' 'take,22,0,0,0
+reset,0
+take,22,0,0,0
+take,0,255,4294967295,1
+take,22,0,0,0' "simulate: script line 1: $empty
+simulate: script line 3: $empty
+simulate: script line 7: $empty"
+# A count over eight breaks a rule (7.9), on any board and for every call on a state; one of eight does not, with the mark or without.
+for count in 9 256 4294967295; do
+    logs="reset\nlog,$count,0\nclock,1\npost,0,read,4096,15,1,-\ntake\nlog,8,1\nclock,1\npost,0,read,4096,15,1,-\ntake\n"
+    logged="reset,0
+clock,9,0
+post,9
+take,9,0,0,0
+$(answers 0)
+post,0
+take,0,0,0,0"
+    judged="simulate: script line 3: $rule
+simulate: script line 4: $rule
+simulate: script line 5: $rule"
+    called "$logs" "$logged" "$judged"
+    answered "$logs" "$logged" "$judged"
+done
+# A take judges the board, then the state, then the log (rule 8.4), and no length is asked of it.
+called 'reset\nlog,9,0\ncount,0,1\ntake\n' 'reset,0
+take,2,0,0,0' \
+    'simulate: script line 4: refusal 2: at the end, no master or no slave; line kind out of order, over the count or behind default'
+unshared_calls 'share,1,0,0\nlog,9,0\ntake\nlog,0,0\ntake\nlog,1,0\ntake\nshare,1,0,3\ntake\n' 'take,20,0,0,0
+take,20,0,0,0
+take,20,0,0,0
+take,0,0,0,0' '4:1 6:1 8:1'
+called 'reset\nslot,0,2,0,0,0,0\ntake\nlog,1,0\ntake\n' 'reset,0
+take,9,0,0,0
+take,9,0,0,0' "simulate: script line 3: $rule
+simulate: script line 5: $rule"
+called 'lend,memory,0\nlend,buffer,0\nreset\nlog,1,0\nentry,0,1,2,0\ntake\n' 'reset,0
+take,0,1,2,0' ''
+
 # A line with many refused clocks is explained once, and only lines that are refused are.
 called 'reset\nclock,1\nlend,buffer,0\nclock,1000\nlend,buffer,4096\nclock,1\nclock,0\n' "reset,0
 clock,0,0
@@ -747,6 +1035,13 @@ problem 'slave,0,0,0,0,0,0,0,4294967296,0' "$range"
 problem 'slave,0,0,0,0,0,0,0,0,4294967296' "$range"
 problem 'share,0,16,1' "$range"
 problem 'count,256,1' "$range"
+problem 'default,2' "$range"
+problem 'log,4294967296,0' "$range"
+problem 'log,0,2' "$range"
+problem 'entry,8,0,0,0' "$range"
+problem 'entry,0,256,0,0' "$range"
+problem 'entry,0,0,4294967296,0' "$range"
+problem 'entry,0,0,0,2' "$range"
 problem 'lend,memory,4105' "$range"
 problem 'lend,buffer,4105' "$range"
 past='reaches past what is lent'
@@ -771,6 +1066,16 @@ problem 'fill,cards,0,00' "$form"
 problem 'post,0,fetch,4096,15,1,-' "$form"
 problem 'slave,0,0,0,0,0,0,0,0' "$form"
 problem 'slave,0,0,0,0,0,0,0,0,0,0' "$form"
+problem 'default' "$form"
+problem 'default,0,0' "$form"
+problem 'default,' "$form"
+problem 'take,' "$form"
+problem 'take,1' "$form"
+problem 'log,0' "$form"
+problem 'log,0,0,0' "$form"
+problem 'entry,0,0,0' "$form"
+problem 'entry,0,0,0,0,0' "$form"
+problem 'response,0,3' "$form"
 problem 'transfer,0,0,0,0,0,0' "$form"
 problem 'transfer,0,0,0,0,0,0,0,0' "$form"
 
@@ -798,7 +1103,7 @@ cmp -s output output.expected || {
 # How the programs are called. The version is that of the C header.
 version=$(sed -n 's/^#define FABRIC_VERSION "\(.*\)"$/\1/p' "$root/include/fabric.h")
 meanings="  1 text over 8192 bytes; $line
-  2 at the end, no master or no slave; line kind out of order or over the count
+  2 at the end, no master or no slave; line kind out of order, over the count or behind default
   3 value outside its list or range
   4 base no multiple of span
   5 slave overlaps an earlier one
@@ -882,7 +1187,8 @@ $meanings
   18 data not beats times width bytes
   19 $narrow
   20 a master has no share line
-  21 $order"
+  21 $order
+  22 the log is empty: there is no entry to take"
 try simulate script.txt "$help" '' --help
 try simulate script.txt "$help" '' -h
 try simulate script.txt "simulate (Zelgwy) $version" '' --version

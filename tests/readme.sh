@@ -125,5 +125,13 @@ example docs/SIMULATE.md '1122a1b2' > shown
 target/bin/simulate latency.txt < script.txt > is 2>&1
 same 'docs/SIMULATE.md, a card with latency: something else is printed'
 
+example docs/SIMULATE.md 'slave,12288,' > shown
+cp boards/service.txt is
+same 'docs/SIMULATE.md, an address that no card has: boards/service.txt is another'
+example docs/SIMULATE.md 'fill,buffer,0,ffffffff' > script.txt
+example docs/SIMULATE.md 'response,0,3' > shown
+target/bin/simulate boards/service.txt < script.txt > is 2>&1
+same 'docs/SIMULATE.md, an address that no card has: something else is printed'
+
 echo "readme: $examples examples, $different differences"
 [ "$different" -eq 0 ]

@@ -228,6 +228,24 @@ board lateencoder.txt "$(sed '/^slave,8192,/s/,0$/,5/' encoder.txt)\n" "$head
 1,1,26,3"
 late='late.txt latest.txt latewrite.txt lateequal.txt lateencoder.txt'
 
+# A board with the line default. The cards have 1, 3 and 2 clocks an access; card 2 has latency, 1 clock a write. The turns are, at
+# card 0: 3 + 8, 1, 1 + 4; at card 1, where a word of the masters 0 and 2 is two accesses: 6 + 48, 3, 24; at card 2: 16, 8.
+board service.txt "$(cat "$given/service.txt")\n" "$head
+0,0,6,8
+0,1,27,48
+0,2,8,16
+1,0,16,1
+1,1,78,3
+2,0,12,4
+2,1,57,24
+2,2,16,8"
+# The line changes no figure (rule 1.11), also behind the longest text that a board has.
+board default.txt "$(cat document01.txt)\ndefault\n" "$head
+0,0,6,32
+1,0,36,2"
+board largestdefault.txt "$(cat largest.txt)\ndefault\n" "$(cat ../pages/largest.txt)"
+answered='service.txt default.txt largestdefault.txt'
+
 # Boards that are refused, one for each number at least.
 line='line 3: refusal 1: no final line feed, unknown first word, wrong count of fields, or bad number'
 board text.txt "$(sed 's/^slave/card/' document01.txt)\n" refused,1 "$line"
@@ -238,7 +256,7 @@ board seven.txt "$(sed 's/,0$//' document01.txt)\n" refused,1 \
 board unended.txt "$(cat document01.txt)" refused,1 "line 5${line#line 3}"
 board full.txt "$(head -n 2 document01.txt)\n$(printf '%08169d' 0)\n" refused,1 "$line"
 board long.txt "$(head -n 2 document01.txt)\n$(printf '%08170d' 0)\n" refused,1 'refusal 1: text over 8192 bytes'
-board order.txt "$(sed 2q document01.txt)\nshare,0,0,2\n" refused,2 'line 3: refusal 2: line kind out of order or over the count'
+board order.txt "$(sed 2q document01.txt)\nshare,0,0,2\n" refused,2 'line 3: refusal 2: line kind out of order, over the count or behind default'
 board empty.txt '' refused,2 'refusal 2: at the end, no master or no slave'
 board value.txt "$(sed 's/^share,1,0,3/share,1,0,101/' document01.txt)\n" refused,3 \
     'line 5: refusal 3: value outside its list or range'
@@ -252,6 +270,15 @@ board share.txt "$(sed 's/^share,1,0,3/share,0,0,3/' document01.txt)\n" refused,
 board narrow.txt "$(sed 's/^master,2,1/master,1,1/' encoder.txt)\n" refused,19 \
     'line 8: refusal 19: master narrower than native slave'
 board unshared.txt "$(grep -v '^share,4,' crane.txt)\n" refused,20 'refusal 20: master 4 has no share line'
+# The line default in front of the slave lines, in front of the share lines, and twice; with a number, unended, and on a board of
+# which a master has no share line.
+kind='refusal 2: line kind out of order, over the count or behind default'
+board early.txt "$(sed '2a default' document01.txt)\n" refused,2 "line 3: $kind"
+board between.txt "$(sed '3a default' document01.txt)\n" refused,2 "line 5: $kind"
+board twice.txt "$(cat service.txt)\ndefault\n" refused,2 "line 16: $kind"
+board number.txt "$(sed 's/^default/default,1/' service.txt)\n" refused,1 "line 15${line#line 3}"
+board undefault.txt "$(cat service.txt)" refused,1 "line 15${line#line 3}"
+board noshare.txt "$(grep -v '^share,1,' service.txt)\n" refused,20 'refusal 20: master 1 has no share line'
 # Share lines by slave, then master: behind 2 masters and 16 cards the third is the first out of order. By master, then the slave's
 # word: 0, 1, 10, .. 15, 2. Backwards, and a master has none: what is missing at the end comes behind.
 unordered='share line out of order: by master, then slave'
@@ -262,8 +289,9 @@ board byword.txt "$(grep -v '^share,' cards.txt && grep '^share,' cards.txt | so
 board backwards.txt "$(sed '/^share,/d' unshared.txt && sed '/^share,/!d' unshared.txt | sort -r)\n" refused,21 \
     "line 13: refusal 21: $unordered"
 refused='text.txt old.txt seven.txt unended.txt full.txt long.txt order.txt empty.txt value.txt toolate.txt base.txt overlap.txt
-spans.txt share.txt narrow.txt unshared.txt byslave.txt byword.txt backwards.txt'
-boards="$taken $late $refused"
+spans.txt share.txt narrow.txt unshared.txt early.txt between.txt twice.txt number.txt undefault.txt noshare.txt byslave.txt byword.txt
+backwards.txt'
+boards="$taken $late $answered $refused"
 holds 'full.txt has 8,192 bytes' "$(wc -c < full.txt)" -eq 8192
 holds 'long.txt has 8,193 bytes' "$(wc -c < long.txt)" -eq 8193
 printf 'master,4,64\nmaster,8,64\nslave,0,4096,4,64,10,77,0,0\nshare,0,0,1\nshare,1,0,1\n' > ../input
@@ -288,7 +316,7 @@ done
 {
     try $boards
     try_behind $boards
-    try $refused $late $taken
+    try $refused $answered $late $taken
     try $(printf '%s\n' $boards | sort)
     try $(printf '%s\n' $boards | sort -r)
     try $(for name in $boards; do printf '%s\n' $boards | sed "s/^/$name /"; done)
@@ -337,6 +365,24 @@ for waits in 255,0 0,255 254,255 255,254; do
     sed "s/,255,255,/,$waits,/" largest.txt > "$waits/largest.txt"
 done
 try 255,0/largest.txt 0,255/largest.txt 254,255/largest.txt 255,254/largest.txt largest.txt
+
+# With the line default behind its text, and without that line, a board has the same table. A text that is refused is refused for the
+# same: no line behind the one that is charged counts, and no master is connected by it.
+mkdir with without
+for name in $taken $late default.txt; do
+    { sed '/^default$/d' "$name" && echo default; } > "with/$name"
+    sed '/^default$/d' "$name" > "without/$name"
+    try "$name" "with/$name" "without/$name"
+done
+sed '/^default$/d' service.txt > without/service.txt
+try service.txt without/service.txt
+for name in text.txt old.txt seven.txt order.txt value.txt toolate.txt base.txt overlap.txt spans.txt share.txt narrow.txt unshared.txt \
+    early.txt between.txt twice.txt number.txt byslave.txt byword.txt backwards.txt; do
+    { cat "$name" && echo default; } > "with/$name"
+    try "with/$name" "$name"
+done
+holds 'the line was added' "$(tail -n 1 with/crane.txt)" = default
+holds 'the line was taken away' "$(tail -n 1 without/service.txt)" = share,2,2,1
 
 # Each share line exchanged with the next one, of every board that is taken: the lower line is charged, and the tables of the
 # boards among them are printed.

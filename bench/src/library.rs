@@ -1,15 +1,16 @@
 //! The library's calls for C, as include/fabric.h has them. They are linked and not compiled with the benchmark: none of their
 //! code is put into the caller's, and nothing that they write is left out because nobody looks at it.
 
-/// Board, state and lines: the numbers of the header's structs, in their order.
-pub const BOARD: usize = 274;
-pub const STATE: usize = 128;
+/// Board, state and lines: the numbers of the header's structs, in their order; and the numbers of a clock's responses.
+pub const BOARD: usize = 275;
+pub const STATE: usize = 154;
 pub const LINES: usize = 96;
+pub const RESPONSES: usize = 8;
 /// Bytes that every table has room in.
 pub const TABLE: usize = 2504;
 
 mod linked {
-    use super::{BOARD, LINES, STATE};
+    use super::{BOARD, LINES, RESPONSES, STATE};
 
     extern "C" {
         pub fn fabric_read(text: *const u8, text_length: usize, board: *mut [u32; BOARD]) -> u32;
@@ -43,6 +44,7 @@ mod linked {
             buffer: *mut u8,
             buffer_length: usize,
             lines: *mut [u32; LINES],
+            responses: *mut [u32; RESPONSES],
             mask: *mut u32,
         ) -> u32;
         pub fn fabric_run(
@@ -53,6 +55,7 @@ mod linked {
             buffer: *mut u8,
             buffer_length: usize,
             lines: *mut [u32; LINES],
+            responses: *mut [u32; RESPONSES],
             most: u32,
             clocks: *mut u32,
             mask: *mut u32,
@@ -115,6 +118,7 @@ pub struct Lent<'a> {
     pub memory: &'a mut [u8],
     pub buffer: &'a mut [u8],
     pub lines: [u32; LINES],
+    pub responses: [u32; RESPONSES],
 }
 
 impl Lent<'_> {
@@ -163,6 +167,7 @@ impl Lent<'_> {
                 self.buffer.as_mut_ptr(),
                 self.buffer.len(),
                 &mut self.lines,
+                &mut self.responses,
                 &mut mask,
             )
         };
@@ -182,6 +187,7 @@ impl Lent<'_> {
                 self.buffer.as_mut_ptr(),
                 self.buffer.len(),
                 &mut self.lines,
+                &mut self.responses,
                 most,
                 &mut clocks,
                 &mut mask,

@@ -48,6 +48,7 @@ fn numbers(board: &Board) -> [u32; library::BOARD] {
     numbers.extend(masters.map(u32::from));
     numbers.extend(slaves);
     numbers.extend(shares.map(u32::from));
+    numbers.push(board.default.into());
     numbers.try_into().expect("a board has as many numbers")
 }
 

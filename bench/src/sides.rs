@@ -2,7 +2,7 @@
 
 use std::hint::black_box;
 
-use crate::library::{Lent, BOARD, LINES, STATE};
+use crate::library::{Lent, BOARD, LINES, RESPONSES, STATE};
 use model::board::Board;
 use model::fabric::{clock, post, reset, Answer, State, Transfer};
 
@@ -37,6 +37,7 @@ impl<'a> Library<'a> {
             memory,
             buffer,
             lines: [0; LINES],
+            responses: [0; RESPONSES],
         };
         assert_eq!(lent.reset(), 0);
         Library(lent)

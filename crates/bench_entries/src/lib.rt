@@ -108,6 +108,7 @@ fn clock_all(
     mut clocks: u32,
 ) -> u32 {
     let mut lines = [0u32; LINES_NUMBERS];
+    let mut responses = [0u32; MASTERS];
     let mut posted = [0u32; MASTERS];
     let mut idle: u32 = 255;
     let mut sum: u32 = 0;
@@ -117,7 +118,14 @@ fn clock_all(
             post_idle(board, &mut *state, &mut *buffer, &mut posted, m, idle);
             m += 1;
         } else {
-            let answer = fabric::clock(board, &mut *state, &mut *memory, &mut *buffer, &mut lines);
+            let answer = fabric::clock(
+                board,
+                &mut *state,
+                &mut *memory,
+                &mut *buffer,
+                &mut lines,
+                &mut responses,
+            );
             idle = answer.mask;
             sum = std::num::wrapping_add_u32(sum, idle);
             clocks -= 1;

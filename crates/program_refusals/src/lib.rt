@@ -11,6 +11,7 @@ use common_numbers::BAD_STATE;
 use common_numbers::BAD_TEXT;
 use common_numbers::BAD_VALUE;
 use common_numbers::BAD_WORDS;
+use common_numbers::EMPTY_LOG;
 use common_numbers::HELD;
 use common_numbers::NO_MASTER;
 use common_numbers::NO_SHARE;
@@ -53,7 +54,10 @@ fn say_of_line(fd: i32, number: u32) -> bool {
             fd,
             b"no final line feed, unknown first word, wrong count of fields, or bad number",
         ),
-        BAD_ORDER => program_streams::write_all(fd, b"line kind out of order or over the count"),
+        BAD_ORDER => program_streams::write_all(
+            fd,
+            b"line kind out of order, over the count or behind default",
+        ),
         BAD_VALUE => program_streams::write_all(fd, b"value outside its list or range"),
         BAD_BASE => program_streams::write_all(fd, b"base no multiple of span"),
         OVERLAP => program_streams::write_all(fd, b"slave overlaps an earlier one"),
@@ -70,7 +74,7 @@ fn say_of_line(fd: i32, number: u32) -> bool {
     }
 }
 
-// Refusals 8 to 10, of what is lent, and 11 to 18, of a post or of a wait that is looked up.
+// Refusals 8 to 10, of what is lent, 11 to 18, of a post or of a wait that is looked up, and 22, where the log is read.
 fn say_of_call(fd: i32, number: u32) -> bool {
     match number {
         BAD_LENGTH => program_streams::write_all(fd, b"memory or buffer not of its exact length"),
@@ -90,12 +94,13 @@ fn say_of_call(fd: i32, number: u32) -> bool {
         NOT_CONNECTED => program_streams::write_all(fd, b"no connected slave there"),
         PAST_END => program_streams::write_all(fd, b"burst passes the slave's end"),
         BAD_WORDS => program_streams::write_all(fd, b"data not beats times width bytes"),
+        EMPTY_LOG => program_streams::write_all(fd, b"the log is empty: there is no entry to take"),
         _ => program_streams::write_all(fd, b"no refusal has this number"),
     }
 }
 
 // A number by itself: of 1 and 2 both kinds of cause. 19 to 21 came behind the numbers of the calls: 20 is the text's, 19 and 21 a
-// line's.
+// line's. 22 is a call's again.
 fn say_number(fd: i32, number: u32) -> bool {
     if number == NO_SHARE {
         return say_of_text(fd, number);

@@ -1,7 +1,12 @@
 // What the simulator prints. It gathers in a buffer, which is written out when full and at the end.
+use common_numbers::ENTRIES_FROM;
+use common_numbers::ENTRY_NUMBERS;
 use common_numbers::LATE_FROM;
 use common_numbers::LINE_FIELDS;
 use common_numbers::LINES_NUMBERS;
+use common_numbers::LOG_ENTRIES;
+use common_numbers::LOG_FROM;
+use common_numbers::LOST_AT;
 use common_numbers::MASTERS;
 use common_numbers::SLAVES;
 use common_numbers::SLOT_NUMBERS;
@@ -186,7 +191,25 @@ fn slaves_up_to(count: u32) -> usize
     SLAVES
 }
 
-// Prints what a clock answered: slave lines only where it was not refused.
+// Prints the response of master m, where it is not 0 (rule 4.17).
+fn put_response(out: &mut [u8; ROOM], session: Session, m: usize, response: u64) -> Session {
+    if response == 0 {
+        return session;
+    }
+    put_line(out, session, b"response", &[m as u64, response])
+}
+
+fn put_responses(out: &mut [u8; ROOM], session: Session, responses: &[u32; MASTERS]) -> Session {
+    let mut next = session;
+    let mut m = 0;
+    while m < MASTERS {
+        next = put_response(&mut *out, next, m, number_at(responses, m));
+        m += 1;
+    }
+    next
+}
+
+// Prints what a clock answered: slave lines and responses only where it was not refused.
 pub fn put_clock(
     out: &mut [u8; ROOM],
     session: Session,
@@ -194,20 +217,22 @@ pub fn put_clock(
     mask: u32,
     lines: &[u32; LINES_NUMBERS],
     slave_count: u32,
+    responses: &[u32; MASTERS],
 ) -> Session {
-    let next = put_line(&mut *out, session, b"clock", &[number as u64, mask as u64]);
+    let mut next = put_line(&mut *out, session, b"clock", &[number as u64, mask as u64]);
     if number != 0 {
         return next;
     }
-    put_records(
-        out,
+    next = put_records(
+        &mut *out,
         next,
         b"slave",
         slaves_up_to(slave_count),
         lines,
         0,
         LINE_FIELDS,
-    )
+    );
+    put_responses(out, next, responses)
 }
 
 // Prints the transfer of master m, and behind its numbers the latency clocks that the master still has to pass (rule 4.16), which
@@ -243,8 +268,32 @@ fn put_transfers(out: &mut [u8; ROOM], session: Session, state: &[u32; STATE_NUM
     next
 }
 
+// Prints the log of a state: its count and its lost mark, and all entries, those from the count on too.
+fn put_log(out: &mut [u8; ROOM], session: Session, state: &[u32; STATE_NUMBERS]) -> Session {
+    let numbers = [number_at(state, LOG_FROM), number_at(state, LOST_AT)];
+    let next = put_line(&mut *out, session, b"log", &numbers);
+    put_records(
+        out,
+        next,
+        b"entry",
+        LOG_ENTRIES,
+        state,
+        ENTRIES_FROM,
+        ENTRY_NUMBERS,
+    )
+}
+
 // Prints all of a state. Its marks are 0 or 1: a line of the script and the library write no other.
 pub fn put_state(out: &mut [u8; ROOM], session: Session, state: &[u32; STATE_NUMBERS]) -> Session {
-    let next = put_transfers(&mut *out, session, state);
-    put_records(out, next, b"slot", SLAVES, state, SLOTS_FROM, SLOT_NUMBERS)
+    let mut next = put_transfers(&mut *out, session, state);
+    next = put_records(
+        &mut *out,
+        next,
+        b"slot",
+        SLAVES,
+        state,
+        SLOTS_FROM,
+        SLOT_NUMBERS,
+    );
+    put_log(out, next, state)
 }

@@ -8,37 +8,46 @@ ghost use Rattle.io.specs.Counts.{Counts};
 use crate::hex;
 use common_text::Number;
 
-// The kinds of line, by the indices of their words in WORDS. Those up to COUNT overwrite an entry of the board or the state.
+// The kinds of line, by the indices of their words in WORDS. Those up to DEFAULT overwrite an entry of the state, up to ENTRY, or of
+// the board; those behind them up to TAKE call the fabric.
 pub const TRANSFER: usize = 0;
 
 pub const SLOT: usize = 1;
 
-pub const MASTER: usize = 2;
+pub const LOG: usize = 2;
 
-pub const SLAVE: usize = 3;
+pub const ENTRY: usize = 3;
 
-pub const SHARE: usize = 4;
+pub const MASTER: usize = 4;
 
-pub const COUNT: usize = 5;
+pub const SLAVE: usize = 5;
 
-pub const RESET: usize = 6;
+pub const SHARE: usize = 6;
 
-pub const STATE: usize = 7;
+pub const COUNT: usize = 7;
 
-pub const POST: usize = 8;
+pub const DEFAULT: usize = 8;
 
-pub const CLOCK: usize = 9;
+pub const RESET: usize = 9;
 
-pub const WAIT: usize = 10;
+pub const POST: usize = 10;
 
-pub const FILL: usize = 11;
+pub const CLOCK: usize = 11;
 
-pub const SHOW: usize = 12;
+pub const TAKE: usize = 12;
 
-pub const LEND: usize = 13;
+pub const STATE: usize = 13;
+
+pub const WAIT: usize = 14;
+
+pub const FILL: usize = 15;
+
+pub const SHOW: usize = 16;
+
+pub const LEND: usize = 17;
 
 // How many kinds there are; the kind of a line that is none of them.
-pub const KINDS: usize = 14;
+pub const KINDS: usize = 18;
 
 // The room for what a line has behind its word. A slave line has the most, its card's index and eight numbers.
 pub const FIELD_COUNT: usize = 10;
@@ -52,14 +61,18 @@ const LETTERS: usize = FIELD_COUNT + 1;
 const WORDS: [[u8; WORD_BYTES]; KINDS] = [
     *b"transfer",
     *b"slot,,,,",
+    *b"log,,,,,",
+    *b"entry,,,",
     *b"master,,",
     *b"slave,,,",
     *b"share,,,",
     *b"count,,,",
+    *b"default,",
     *b"reset,,,",
-    *b"state,,,",
     *b"post,,,,",
     *b"clock,,,",
+    *b"take,,,,",
+    *b"state,,,",
     *b"wait,,,,",
     *b"fill,,,,",
     *b"show,,,,",
@@ -70,14 +83,18 @@ const WORDS: [[u8; WORD_BYTES]; KINDS] = [
 const FIELDS: [[u8; LETTERS]; KINDS] = [
     *b"mffwbbw    ",
     *b"cbbfhb     ",
+    *b"wf         ",
+    *b"mbwf       ",
     *b"mbb        ",
     *b"cwwbbbbww  ",
     *b"mcb        ",
     *b"bb         ",
-    *b"           ",
+    *b"f          ",
     *b"           ",
     *b"wdwbbp     ",
     *b"w          ",
+    *b"           ",
+    *b"           ",
     *b"ww         ",
     *b"snx        ",
     *b"snn        ",
@@ -154,7 +171,7 @@ fn is_word(word: &[u8], own: &[u8]) -> bool {
 
 // The kind that a first word names, or KINDS.
 fn kind_of(word: &[u8]) -> usize
-    ensures { λ r. ⌜ r ≤ 14 ⌝ }
+    ensures { λ r. ⌜ r ≤ 18 ⌝ }
 {
     let words = WORDS;
     let mut kind = 0;
@@ -181,7 +198,8 @@ fn named(field: &[u8], first: &[u8], second: &[u8]) -> Field {
 // The largest number that has ten digits.
 const TEN_DIGITS: u64 = 9999999999;
 
-// The largest number of a field by its letter: a flag, a master, a card, a number of one byte, of two, of four, of ten digits.
+// The largest number of a field by its letter: a flag, a master or an entry of the log, a card, a number of one byte, of two, of
+// four, of ten digits.
 fn most(letter: u8) -> u64 {
     match letter {
         b'f' => 1,
@@ -238,7 +256,7 @@ fn refused(problem: u8) -> Command {
 
 // The fields of a line of a kind behind its word, from position `from` on. Each pass reads the field behind the comma at `at`.
 fn parse_fields(line: &[u8], kind: usize, from: usize) -> Command
-    requires { ⌜ kind < 14 × from ≤ length (now line) ⌝ }
+    requires { ⌜ kind < 18 × from ≤ length (now line) ⌝ }
 {
     let rows = FIELDS;
     let letters = rows[kind];

@@ -2,6 +2,7 @@
 use common_numbers::BOARD_NUMBERS;
 use common_numbers::BUFFER_BYTES;
 use common_numbers::LINES_NUMBERS;
+use common_numbers::MASTERS;
 use common_numbers::STATE_NUMBERS;
 ghost use Prim.Native.Nat.{_<_};
 use crate::lending;
@@ -71,6 +72,41 @@ fn left_after(left: u64, broken: bool) -> u64
     left - 1
 }
 
+// A clock whose answer is printed: its number, and the session behind it.
+pub struct Clocked {
+    pub number: u32,
+    pub session: Session,
+}
+
+// One clock, with its answer.
+fn clock_once(
+    board: &[u32; BOARD_NUMBERS],
+    state: &mut [u32; STATE_NUMBERS],
+    session: Session,
+    memory: &mut [u8],
+    buffer: &mut [u8],
+    out: &mut [u8; ROOM],
+) -> Clocked {
+    let mut lines = [0u32; LINES_NUMBERS];
+    let mut responses = [0u32; MASTERS];
+    let c = fabric::clock(board, state, memory, buffer, &mut lines, &mut responses);
+    let number = c.number;
+    let slaves = description_layout::slave_count(board);
+    let printed = program_script::put_clock(
+        out,
+        session,
+        number,
+        c.mask,
+        &lines,
+        slaves,
+        &responses,
+    );
+    Clocked {
+        number: number,
+        session: printed,
+    }
+}
+
 // `count` clocks, each with its answer. A refused clock changes nothing, so that those behind it are refused alike: the last
 // one's number explains them all.
 fn obey_clock(
@@ -82,19 +118,73 @@ fn obey_clock(
     buffer: &mut [u8],
     out: &mut [u8; ROOM],
 ) -> Session {
-    let mut lines = [0u32; LINES_NUMBERS];
     let mut next = session;
     let mut number: u32 = 0;
     let mut left = count;
     while 0 < left {
-        let c = fabric::clock(board, &mut *state, &mut *memory, &mut *buffer, &mut lines);
+        let c = clock_once(
+            board,
+            &mut *state,
+            next,
+            &mut *memory,
+            &mut *buffer,
+            &mut *out,
+        );
         number = c.number;
-        let slaves = description_layout::slave_count(board);
-        next = program_script::put_clock(&mut *out, next, number, c.mask, &lines, slaves);
+        next = c.session;
         left = left_after(left, next.broken);
     }
     let lowest = description_rules::without_share(board);
     program_script::call(&*out, next, number, lowest)
+}
+
+// A mark as it is printed.
+fn mark_of(b: bool) -> u64 {
+    if b { 1 } else { 0 }
+}
+
+// The oldest entry of the log, taken out of it; of a refused take zeros are printed.
+fn obey_take(
+    board: &[u32; BOARD_NUMBERS],
+    state: &mut [u32; STATE_NUMBERS],
+    session: Session,
+    out: &mut [u8; ROOM],
+) -> Session {
+    let t = fabric::take(board, state);
+    let number = t.number;
+    let numbers = [
+        number as u64,
+        t.master as u64,
+        t.address as u64,
+        mark_of(t.write),
+    ];
+    let printed = program_script::put_line(&mut *out, session, b"take", &numbers);
+    let lowest = description_rules::without_share(board);
+    program_script::call(&*out, printed, number, lowest)
+}
+
+// The lines that call the fabric.
+fn obey_call(
+    board: &[u32; BOARD_NUMBERS],
+    state: &mut [u32; STATE_NUMBERS],
+    session: Session,
+    c: Command,
+    line: &[u8],
+    memory: &mut [u8],
+    buffer: &mut [u8],
+    out: &mut [u8; ROOM],
+) -> Session {
+    if c.kind == program_script::RESET {
+        return obey_reset(board, state, session, out);
+    }
+    if c.kind == program_script::POST {
+        return obey_post(board, state, session, c, line, buffer, out);
+    }
+    if c.kind == program_script::CLOCK {
+        let count = program_script::value_at(c, 0);
+        return obey_clock(board, state, session, count, memory, buffer, out);
+    }
+    obey_take(board, state, session, out)
 }
 
 // The wait is that of the board as it was read, on which every master has a share line.
@@ -150,19 +240,12 @@ fn obey_command(
     buffer: &mut [u8],
     out: &mut [u8; ROOM],
 ) -> Session {
-    if c.kind <= program_script::COUNT {
+    if c.kind <= program_script::DEFAULT {
         overwrite::overwrite(board, state, c);
         return session;
     }
-    if c.kind == program_script::RESET {
-        return obey_reset(board, state, session, out);
-    }
-    if c.kind == program_script::POST {
-        return obey_post(board, state, session, c, line, buffer, out);
-    }
-    if c.kind == program_script::CLOCK {
-        let count = program_script::value_at(c, 0);
-        return obey_clock(board, state, session, count, memory, buffer, out);
+    if c.kind <= program_script::TAKE {
+        return obey_call(board, state, session, c, line, memory, buffer, out);
     }
     if c.kind == program_script::STATE {
         return program_script::put_state(out, session, state);

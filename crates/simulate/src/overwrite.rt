@@ -1,6 +1,10 @@
-// Entries of the board and the state, overwritten by what a line says, number by number in the order of the line's fields.
+// Parts of the board and the state, overwritten by what a line says, number by number in the order of the line's fields.
 use common_numbers::BOARD_NUMBERS;
+use common_numbers::DEFAULT_AT;
+use common_numbers::ENTRIES_FROM;
+use common_numbers::ENTRY_NUMBERS;
 use common_numbers::LATE_FROM;
+use common_numbers::LOG_FROM;
 use common_numbers::MASTER_NUMBERS;
 use common_numbers::MASTERS_FROM;
 use common_numbers::SHARES_FROM;
@@ -17,6 +21,9 @@ use program_script::Command;
 // The field of a transfer line behind the master's index and the transfer's numbers: the latency clocks that the master still has to
 // pass (rule 4.16).
 const LATE_FIELD: usize = TRANSFER_NUMBERS + 1;
+
+// The fields of a log line, its count and its lost mark, which stand in front of the entries.
+const LOG_FIELDS: usize = ENTRIES_FROM - LOG_FROM;
 
 // A field of a line as a number of an array. The line's limits keep it within 32 bits.
 pub fn number_at(c: Command, i: usize) -> u32 {
@@ -46,7 +53,8 @@ fn put(numbers: &mut [u32], index: usize, c: Command, first: usize, count: usize
     }
 }
 
-// An entry of the state. The first field is its index. The count of a transfer line stands behind the slots.
+// A part of the state. The first field is its index, but of a log line, which has none. The count of a transfer line stands behind
+// the slots.
 fn put_state(state: &mut [u32; STATE_NUMBERS], c: Command, i: usize)
     requires { ⌜ i < 16 ⌝ }
 {
@@ -55,7 +63,15 @@ fn put_state(state: &mut [u32; STATE_NUMBERS], c: Command, i: usize)
         put(state, LATE_FROM + i, c, LATE_FIELD, 1);
         return;
     }
-    put(state, SLOTS_FROM + SLOT_NUMBERS * i, c, 1, SLOT_NUMBERS);
+    if c.kind == program_script::SLOT {
+        put(state, SLOTS_FROM + SLOT_NUMBERS * i, c, 1, SLOT_NUMBERS);
+        return;
+    }
+    if c.kind == program_script::LOG {
+        put(state, LOG_FROM, c, 0, LOG_FIELDS);
+        return;
+    }
+    put(state, ENTRIES_FROM + ENTRY_NUMBERS * i, c, 1, ENTRY_NUMBERS);
 }
 
 // A master's shares of a slave: the first two fields are their indices.
@@ -66,7 +82,8 @@ fn put_share(board: &mut [u32; BOARD_NUMBERS], c: Command, m: usize)
     put(board, SHARES_FROM + SLAVES * m + s, c, 2, 1);
 }
 
-// An entry of the board, or its counts, which stand in front of the masters.
+// A part of the board: a master, a slave, a pair's shares, the mark of the line `default`, or the counts, which stand in front of the
+// masters.
 fn put_board(board: &mut [u32; BOARD_NUMBERS], c: Command, i: usize)
     requires { ⌜ i < 16 ⌝ }
 {
@@ -88,13 +105,17 @@ fn put_board(board: &mut [u32; BOARD_NUMBERS], c: Command, i: usize)
         put_share(board, c, i);
         return;
     }
+    if c.kind == program_script::DEFAULT {
+        put(board, DEFAULT_AT, c, 0, 1);
+        return;
+    }
     put(board, 0, c, 0, MASTERS_FROM);
 }
 
-// An entry of the state or of the board overwritten, or the board's counts. A master or a card has a number below 16.
+// A part of the state or of the board overwritten. A master, a card or an entry of the log has a number below 16.
 pub fn overwrite(board: &mut [u32; BOARD_NUMBERS], state: &mut [u32; STATE_NUMBERS], c: Command) {
     let i = program_script::value_at(c, 0) as usize % SLAVES;
-    if (c.kind == program_script::TRANSFER) | (c.kind == program_script::SLOT) {
+    if c.kind <= program_script::ENTRY {
         put_state(state, c, i);
         return;
     }

@@ -2,6 +2,7 @@
 use common_numbers::BOARD_NUMBERS;
 use common_numbers::BUFFER_BYTES;
 use common_numbers::LINES_NUMBERS;
+use common_numbers::MASTERS;
 use common_numbers::STATE_NUMBERS;
 
 fn main() {
@@ -9,6 +10,7 @@ fn main() {
     let mut board = [0u32; BOARD_NUMBERS];
     let mut state = [0u32; STATE_NUMBERS];
     let mut lines = [0u32; LINES_NUMBERS];
+    let mut responses = [0u32; MASTERS];
     let mut memory = [0u8; 4096];
     let mut buffer = [0u8; BUFFER_BYTES];
     description::read(text, &mut board);
@@ -20,6 +22,7 @@ fn main() {
         &mut memory,
         &mut buffer,
         &mut lines,
+        &mut responses,
         1000,
     );
     if ran.mask == 1 {

@@ -8,11 +8,11 @@ use Rattle.bench_entries.proofs.clock_all.Statement.{statement}
 use Rattle.bench_entries.proofs.clock_all.Tie as tie
 
 abbrev Inv-loop : tie.InvT-loop
-Inv-loop board state₀ memory₀ buffer₀ clocks₀ lines₀ posted₀ idle₀ sum₀ m₀ state memory buffer clocks lines posted idle sum m =
+Inv-loop board state₀ memory₀ buffer₀ clocks₀ lines₀ responses₀ posted₀ idle₀ sum₀ m₀ state memory buffer clocks lines responses posted idle sum m =
     (m ≤ 8) × (length memory ≡ length memory₀) × (length buffer ≡ length buffer₀)
 
 abbrev μ-loop : tie.MeasureT-loop
-μ-loop board state₀ memory₀ buffer₀ clocks₀ lines₀ posted₀ idle₀ sum₀ m₀ state memory buffer clocks lines posted idle sum m =
+μ-loop board state₀ memory₀ buffer₀ clocks₀ lines₀ responses₀ posted₀ idle₀ sum₀ m₀ state memory buffer clocks lines responses posted idle sum m =
     clocks * 9 + (8 - m)
 
 loop-holds : tie.Need-loop-holds Inv-loop μ-loop

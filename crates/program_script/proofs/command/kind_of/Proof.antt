@@ -1,14 +1,14 @@
--- `program_script::command::kind_of` meets its contract. The loop's invariant: `kind` is at most 14. Assumes nothing.
+-- `program_script::command::kind_of` meets its contract. The loop's invariant: `kind` is at most 18. Assumes nothing.
 use Prim.Native.Nat.{_≤_, _-_}
 use borrow.Author.Needs.{needs}
 use Rattle.program_script.proofs.command.kind_of.Statement.{statement}
 use Rattle.program_script.proofs.command.kind_of.Tie as tie
 
 abbrev Inv-loop : tie.InvT-loop
-Inv-loop word words kind₀ kind = kind ≤ 14
+Inv-loop word words kind₀ kind = kind ≤ 18
 
 abbrev μ-loop : tie.MeasureT-loop
-μ-loop word words kind₀ kind = 14 - kind
+μ-loop word words kind₀ kind = 18 - kind
 
 loop-holds : tie.Need-loop-holds Inv-loop μ-loop
 loop-holds c = search needs

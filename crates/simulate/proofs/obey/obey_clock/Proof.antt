@@ -7,23 +7,17 @@ use Rattle.simulate.proofs.obey.obey_clock.Statement.{statement}
 use Rattle.simulate.proofs.obey.obey_clock.Tie as tie
 
 abbrev Inv-loop : tie.InvT-loop
-Inv-loop board state₀ count memory₀ buffer₀ out₀ lines₀ next₀ number₀ left₀ state memory buffer out lines next number left =
+Inv-loop board state₀ count memory₀ buffer₀ out₀ next₀ number₀ left₀ state memory buffer out next number left =
     (length memory ≡ length memory₀) × (length buffer ≡ length buffer₀)
 
 abbrev μ-loop : tie.MeasureT-loop
-μ-loop board state₀ count memory₀ buffer₀ out₀ lines₀ next₀ number₀ left₀ state memory buffer out lines next number left = left
+μ-loop board state₀ count memory₀ buffer₀ out₀ next₀ number₀ left₀ state memory buffer out next number left = left
 
 loop-holds : tie.Need-loop-holds Inv-loop μ-loop
 loop-holds c = search needs
 
-clock-requires : tie.Need-clock-requires Inv-loop μ-loop
-clock-requires c κs = search needs
-
-slave-count-requires : tie.Need-slave-count-requires Inv-loop μ-loop
-slave-count-requires c κs = search needs
-
-put-clock-requires : tie.Need-put-clock-requires Inv-loop μ-loop
-put-clock-requires c κs = search needs
+clock-once-requires : tie.Need-clock-once-requires Inv-loop μ-loop
+clock-once-requires c κs = search needs
 
 left-after-requires : tie.Need-left-after-requires Inv-loop μ-loop
 left-after-requires c κs = search needs
@@ -56,9 +50,7 @@ obey-clock-spec =
     Inv-loop
     μ-loop
     loop-holds
-    clock-requires
-    slave-count-requires
-    put-clock-requires
+    clock-once-requires
     left-after-requires
     loop-less
     loop-again
