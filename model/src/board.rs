@@ -1,4 +1,4 @@
-//! A board: its masters, its slaves and the shares of each pair.
+//! A board: its masters, its slaves, the shares of each pair, and whether unmapped addresses are answered.
 
 pub const MASTER_LIMIT: usize = 8;
 pub const SLAVE_LIMIT: usize = 16;
@@ -65,6 +65,8 @@ pub struct Board {
     pub masters: [Master; MASTER_LIMIT],
     pub slaves: [Slave; SLAVE_LIMIT],
     pub shares: [[u8; SLAVE_LIMIT]; MASTER_LIMIT],
+    /// Whether transfers to addresses that no connected slave has are taken, and answered with an error.
+    pub default: bool,
 }
 
 impl Board {

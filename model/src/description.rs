@@ -30,6 +30,7 @@ pub enum Line {
         slave: u64,
         shares: u64,
     },
+    Default,
 }
 
 /// Where in a text a refusal was found; lines count from 0.
@@ -99,6 +100,7 @@ fn parse_line(line: &[u8]) -> Option<Line> {
                 shares,
             })
         }
+        b"default" => numbers(&fields[1..]).map(|[]| Line::Default),
         _ => None,
     }
 }
@@ -112,8 +114,11 @@ struct Draft {
 }
 
 impl Draft {
-    /// Refusals 2 to 7, 19 and 21 of one line, lowest first; a good line is taken.
+    /// Refusals 2 to 7, 19 and 21 of one line, lowest first; a good line is taken. None is behind the line `default`.
     fn take(&mut self, line: &Line) -> Result<(), u8> {
+        if self.board.default {
+            return Err(2);
+        }
         match *line {
             Line::Master { width, burst } => self.take_master(width, burst),
             Line::Slave {
@@ -133,6 +138,7 @@ impl Draft {
                 slave,
                 shares,
             } => self.take_share(master, slave, shares),
+            Line::Default => self.take_default(),
         }
     }
 
@@ -218,6 +224,15 @@ impl Draft {
         }
         self.board.shares[master][slave] = shares as u8;
         self.last_pair = Some(pair);
+        Ok(())
+    }
+
+    /// It stands behind the slaves, and behind the shares where there are any.
+    fn take_default(&mut self) -> Result<(), u8> {
+        if self.board.slave_count == 0 {
+            return Err(2);
+        }
+        self.board.default = true;
         Ok(())
     }
 
@@ -322,7 +337,11 @@ fn each_line(board: &Board, mut each: impl FnMut(Line) -> Result<(), u8>) -> Res
     for index in 0..board.slave_count as usize {
         each(slave_line(board, index))?;
     }
-    each_share_line(board, each)
+    each_share_line(board, &mut each)?;
+    match board.default {
+        true => each(Line::Default),
+        false => Ok(()),
+    }
 }
 
 /// Refusals 2 to 7, 19 and 20 of a board that did not come through the reader: those of the lines that the writer would put,
@@ -353,6 +372,7 @@ fn line_text(line: &Line) -> String {
             slave,
             shares,
         } => format!("share,{master},{slave},{shares}"),
+        Line::Default => "default".to_string(),
     }
 }
 

@@ -1,19 +1,23 @@
-//! The fabric: its state, and the calls reset, post and clock.
+//! The fabric: its state, and the calls reset, post, clock and take.
 
 mod access;
 mod arbiter;
 mod judge;
+mod log;
 mod words;
 
 use crate::board::{Board, MASTER_LIMIT, SLAVE_LIMIT};
 use crate::description::check_board;
-use judge::{judge_clock, judge_post};
+use judge::{judge_clock, judge_post, judge_take, Target, Targets};
 
+pub use log::{Entry, Log, LOG_LENGTH};
 pub use words::total_accesses;
 
 pub const BUFFER_LENGTH: usize = 4_096;
 /// Each master's part of the buffer.
 pub const PART_LENGTH: usize = 512;
+/// The response to an unmapped transfer (DECODEERROR); every other response is 0 (OKAY).
+pub const DECODE_ERROR: u8 = 3;
 
 /// What a master has posted and not finished. Where `held` is false, nothing else counts but that `late` is 0.
 #[derive(Clone, Copy, Default, PartialEq, Eq, Debug)]
@@ -43,6 +47,7 @@ pub struct Slot {
 pub struct State {
     pub transfers: [Transfer; MASTER_LIMIT],
     pub slots: [Slot; SLAVE_LIMIT],
+    pub log: Log,
 }
 
 /// What a clock shows of a slave.
@@ -57,12 +62,13 @@ pub struct SlaveLine {
     pub place: u8,
 }
 
-/// What a clock answers: its number, the mask of the masters that finished, and a line for each slave.
+/// What a clock answers: its number, the mask of the masters that finished, a line for each slave and a response to each master.
 #[derive(Clone, Copy, Default, PartialEq, Eq, Debug)]
 pub struct Answer {
     pub number: u8,
     pub mask: u8,
     pub lines: [SlaveLine; SLAVE_LIMIT],
+    pub responses: [u8; MASTER_LIMIT],
 }
 
 /// Every slave's last owner is the highest master, so that master 0 is tried first; all else is 0. A refused reset hands back
@@ -121,6 +127,37 @@ fn pass_latencies(state: &mut State) -> u8 {
     mask
 }
 
+/// Finishes the transfers that no connected slave has, by master number: a read gets zeros, and the log an entry. The mask of
+/// their masters.
+fn finish_unmapped(
+    board: &Board,
+    state: &mut State,
+    targets: &Targets,
+    buffer: &mut [u8],
+    responses: &mut [u8; MASTER_LIMIT],
+) -> u8 {
+    let mut mask = 0;
+    for (master, target) in targets.iter().enumerate() {
+        if *target != Target::Unmapped {
+            continue;
+        }
+        let transfer = state.transfers[master];
+        if !transfer.write {
+            let length = transfer.beats as usize * board.masters[master].width as usize;
+            master_part(buffer, master)[..length].fill(0);
+        }
+        state.log.enter(Entry {
+            master: master as u8,
+            address: transfer.address,
+            write: transfer.write,
+        });
+        state.transfers[master] = Transfer::default();
+        responses[master] = DECODE_ERROR;
+        mask |= 1 << master;
+    }
+    mask
+}
+
 /// Clock: one cycle of every slave. A slave that is granted has its first cycle in the same clock.
 pub fn clock(board: &Board, state: &mut State, memory: &mut [u8], buffer: &mut [u8]) -> Answer {
     let mut answer = Answer::default();
@@ -133,6 +170,7 @@ pub fn clock(board: &Board, state: &mut State, memory: &mut [u8], buffer: &mut [
     };
     // before the slaves act: a latency that begins in this clock is passed from the next one on
     answer.mask = pass_latencies(state);
+    answer.mask |= finish_unmapped(board, state, &targets, buffer, &mut answer.responses);
     // the slaves' bytes lie one after another, by slave number
     let mut start = 0;
     for slave in 0..board.slave_count as usize {
@@ -145,4 +183,12 @@ pub fn clock(board: &Board, state: &mut State, memory: &mut [u8], buffer: &mut [
         }
     }
     answer
+}
+
+/// Take: the oldest entry of the log, which makes space there. A refused one hands back zeros.
+pub fn take(board: &Board, state: &mut State) -> (u8, Entry) {
+    match judge_take(board, state) {
+        Err(number) => (number, Entry::default()),
+        Ok(()) => (0, state.log.take_oldest()),
+    }
 }

@@ -54,6 +54,7 @@ fn place_name(text: &[u8], place: Place) -> &'static str {
         Some(b"master") => "master",
         Some(b"slave") => "slave",
         Some(b"share") => "share",
+        Some(b"default") => "default",
         _ => "other",
     }
 }

@@ -7,10 +7,12 @@ use std::io::{self, BufRead, Write};
 
 use crate::board::{Board, Master, Slave, MASTER_LIMIT, SLAVE_LIMIT};
 use crate::description::{number, read};
-use crate::fabric::{clock, post, reset, Slot, State, Transfer, BUFFER_LENGTH};
+use crate::fabric::{
+    clock, post, reset, take, Entry, Slot, State, Transfer, BUFFER_LENGTH, LOG_LENGTH,
+};
 use crate::wait::{wait_call, ANSWER_LENGTH};
 use fields::{byte, exactly, flag, hex_bytes, index, is_write, number32, up_to};
-use print::{put_clock, put_slots, put_transfers};
+use print::{put_clock, put_log, put_slots, put_taken, put_transfers};
 
 pub use print::put_hex;
 
@@ -83,15 +85,19 @@ impl Simulator {
             b"show" => self.run_show(rest, output),
             b"reset" => print_answer(self.run_reset(rest), output),
             b"post" => print_answer(self.run_post(rest), output),
+            b"take" => self.run_take(rest, output),
             b"wait" => print_answer(self.run_wait(rest), output),
             b"fill" => Ok(self.run_fill(rest)),
             b"lend" => Ok(self.run_lend(rest)),
             b"transfer" => Ok(self.run_transfer(rest)),
             b"slot" => Ok(self.run_slot(rest)),
+            b"log" => Ok(self.run_log(rest)),
+            b"entry" => Ok(self.run_entry(rest)),
             b"master" => Ok(self.run_master(rest)),
             b"slave" => Ok(self.run_slave(rest)),
             b"share" => Ok(self.run_share(rest)),
             b"count" => Ok(self.run_count(rest)),
+            b"default" => Ok(self.run_default(rest)),
             _ => Ok(None),
         }
     }
@@ -137,6 +143,17 @@ impl Simulator {
             put_clock(&mut text, &self.board, &answer);
             output.write_all(&text)?;
         }
+        Ok(Some(()))
+    }
+
+    fn run_take(&mut self, fields: &[&[u8]], output: &mut impl Write) -> io::Result<Option<()>> {
+        if !fields.is_empty() {
+            return Ok(None);
+        }
+        let (number, entry) = take(&self.board, &mut self.state);
+        let mut text = Vec::new();
+        put_taken(&mut text, number, &entry);
+        output.write_all(&text)?;
         Ok(Some(()))
     }
 
@@ -200,6 +217,7 @@ impl Simulator {
         let mut text = Vec::new();
         put_transfers(&mut text, &self.state.transfers);
         put_slots(&mut text, &self.state.slots);
+        put_log(&mut text, &self.state.log);
         output.write_all(&text)?;
         Ok(Some(()))
     }
@@ -227,6 +245,26 @@ impl Simulator {
             serving: flag(serving)?,
             done: up_to(done, u16::MAX as u64)? as u16,
             waited: byte(waited)?,
+        };
+        Some(())
+    }
+
+    fn run_log(&mut self, fields: &[&[u8]]) -> Option<()> {
+        let [count, lost] = exactly(fields)?;
+        let count = number32(count)?;
+        let lost = flag(lost)?;
+        self.state.log.count = count;
+        self.state.log.lost = lost;
+        Some(())
+    }
+
+    fn run_entry(&mut self, fields: &[&[u8]]) -> Option<()> {
+        let [place, master, address, write] = exactly(fields)?;
+        let place = index(place, LOG_LENGTH)?;
+        self.state.log.entries[place] = Entry {
+            master: byte(master)?,
+            address: number32(address)?,
+            write: flag(write)?,
         };
         Some(())
     }
@@ -272,6 +310,12 @@ impl Simulator {
         let slaves = byte(slaves)?;
         self.board.master_count = masters;
         self.board.slave_count = slaves;
+        Some(())
+    }
+
+    fn run_default(&mut self, fields: &[&[u8]]) -> Option<()> {
+        let [mark] = exactly(fields)?;
+        self.board.default = flag(mark)?;
         Some(())
     }
 }

@@ -1,6 +1,6 @@
 //! The arbiter of a slave: who is granted when it is free.
 
-use super::judge::Targets;
+use super::judge::{Target, Targets};
 use super::State;
 use crate::board::Board;
 
@@ -9,7 +9,7 @@ use crate::board::Board;
 pub fn grant(board: &Board, state: &mut State, targets: &Targets, slave: usize) -> bool {
     let slot = &mut state.slots[slave];
     let last_owner = slot.owner as usize;
-    let requests = |master: usize| targets[master] == Some(slave);
+    let requests = |master: usize| targets[master] == Target::Slave(slave);
     if requests(last_owner) && slot.remaining > 0 {
         slot.remaining -= 1;
     } else {

@@ -303,6 +303,8 @@ pub fn board(random: &mut Random, size: Size) -> Board {
     place_slaves(random, &mut board);
     connect(random, &mut board, size);
     set_latencies(random, &mut board);
+    // behind all else too
+    board.default = random.chance(1, 2);
     debug_assert!(check_board(&board).is_ok());
     board
 }
@@ -334,6 +336,7 @@ pub fn longest_board(random: &mut Random) -> Board {
     }
     board.slaves = std::array::from_fn(longest_slave);
     board.shares = [[100; SLAVE_LIMIT]; MASTER_LIMIT];
+    board.default = true;
     debug_assert!(check_board(&board).is_ok());
     board
 }
@@ -375,7 +378,7 @@ fn taken_text(random: &mut Random) -> Vec<u8> {
     joined(&lines(&board))
 }
 
-/// Boards for the simulator and the table, a file each: more than four in five are taken by the reader, one in a hundred is about
+/// Boards for the simulator and the table, a file each: about four in five are taken by the reader, one in a hundred is about
 /// as long as a text may be or longer.
 pub fn write_boards(seed: u64, count: usize, directory: &Path) -> io::Result<()> {
     fs::create_dir_all(directory)?;
@@ -401,6 +404,10 @@ pub fn write_boards(seed: u64, count: usize, directory: &Path) -> io::Result<()>
             }
             18 | 19 => {
                 let plan = texts::latency_plan(&mut random);
+                texts::text(&mut random, plan)
+            }
+            20 => {
+                let plan = texts::default_plan(&mut random);
                 texts::text(&mut random, plan)
             }
             _ => taken_text(&mut random),

@@ -4,6 +4,7 @@ mod clocks;
 mod corrupt;
 mod late;
 mod lines;
+mod log;
 mod malformed;
 mod native;
 mod partial;
@@ -11,6 +12,7 @@ mod posts;
 mod restore;
 mod slots;
 mod unconnected;
+mod unmapped;
 
 use std::io::{self, Write};
 
@@ -27,6 +29,8 @@ struct Style {
     eager: usize,
     /// Of eight posts, how many are bursts.
     bursts: usize,
+    /// Of eight posts, how many are to unmapped addresses, where the board takes them.
+    unmapped: usize,
     longest_clock: usize,
 }
 
@@ -107,6 +111,7 @@ impl Author {
             hot: self.hot_slave(),
             eager: self.random.pick(&[2, 5, 7, 8, 8]),
             bursts: self.random.pick(&[0, 1, 2, 4, 6, 8]),
+            unmapped: self.random.pick(&[0, 0, 0, 1, 2, 4]),
             longest_clock: self.random.pick(&[1, 1, 2, 3, 6, 20]),
         }
     }
@@ -126,6 +131,7 @@ impl Author {
             hot: None,
             eager: 0,
             bursts: 0,
+            unmapped: 0,
             longest_clock: 20,
         };
         for _ in 0..self.random.between(2, 6) {
@@ -170,8 +176,22 @@ impl Author {
         }
     }
 
+    /// Sometimes transfers to unmapped addresses. They come beside the calls that are asked for, so that of all else there is as
+    /// much as without them.
+    fn beside(&mut self) {
+        if self.random.chance(1, 2) {
+            let lines = self.lines;
+            self.unmapped();
+            self.lines = lines;
+        }
+    }
+
     fn closing(&mut self) {
         self.put("state");
+        if self.random.chance(1, 4) {
+            self.take_all();
+            self.put("state");
+        }
         let lent = self.lent("memory");
         let count = lent.min(2048);
         self.put(&format!("show,memory,0,{count}"));
@@ -186,7 +206,7 @@ impl Author {
     }
 }
 
-/// A script of about `calls` lines for the board of a text.
+/// A script of about `calls` lines, and some about unmapped addresses, for the board of a text.
 pub fn write_script(
     seed: u64,
     calls: usize,
@@ -208,6 +228,7 @@ pub fn write_script(
     author.opening();
     while author.lines < calls {
         author.stretch();
+        author.beside();
     }
     author.closing();
     output.write_all(&author.script)

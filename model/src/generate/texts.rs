@@ -1,6 +1,7 @@
 //! Description texts, good ones and damaged ones.
 
 mod damage;
+mod default;
 mod fields;
 mod latency;
 mod long;
@@ -16,12 +17,13 @@ use super::boards::{board, joined, lines, longest_board, Size};
 use super::random::Random;
 use crate::description::TEXT_LIMIT;
 use damage::{line_text, whole_text, LINE_DAMAGES, WHOLE_DAMAGES};
+use default::{default_text, frequency, DEFAULTS, FIRST_GOOD};
 use fields::{field_text, field_values, two_fields_text, two_lines_text};
 use latency::{latency_text, LATENCIES, ONLY_ABOVE};
 use long::long_text;
 use meaning::{meaning_text, MEANINGS};
 use native::{native_text, NATIVES};
-use parts::{damage_board, fields_of, Kind, KINDS};
+use parts::{damage_board_with, fields_of, Kind, KINDS};
 use unconnected::{unconnected_text, ONLY_UNCONNECTED, UNCONNECTED};
 use unordered::{unordered_text, FAULTS, ORDERS};
 
@@ -42,6 +44,8 @@ pub enum Plan {
     Native(usize),
     /// The numbered text about the latency field of a slave line.
     Latency(usize),
+    /// The numbered text about the line `default`.
+    Default(usize),
     /// The numbered text in which a master has no share line.
     Unconnected(usize),
     /// Share lines in the numbered order, beside the numbered fault; fault 0 is none.
@@ -55,7 +59,7 @@ pub enum Plan {
 /// A plan for each value of each field.
 fn plans_of_fields() -> Vec<Plan> {
     let mut random = Random::new(0);
-    let board = damage_board(&mut random);
+    let board = damage_board_with(&mut random, Kind::Default);
     let lines = lines(&board);
     let plans_of_kind = |kind: Kind| {
         let fields = fields_of(&lines[kind.range(&board, lines.len()).start]);
@@ -71,7 +75,7 @@ fn plans_of_fields() -> Vec<Plan> {
 /// Both sides of the limit with every fault, and some lengths further off.
 fn plans_of_lengths() -> Vec<Plan> {
     let limits = [TEXT_LIMIT, TEXT_LIMIT + 1];
-    let mut plans: Vec<Plan> = (1..=9)
+    let mut plans: Vec<Plan> = (1..=10)
         .flat_map(|fault| limits.map(|length| Plan::Long(length, fault)))
         .collect();
     let further = [TEXT_LIMIT - 1, TEXT_LIMIT + 2, 10_000, 20_000];
@@ -93,13 +97,19 @@ pub fn damaging_plans() -> Vec<Plan> {
     let mut plans = plans_of_fields();
     for kind in KINDS {
         plans.extend((0..LINE_DAMAGES).map(|damage| Plan::Line(kind, damage)));
-        let pairs = if kind == Kind::Slave { 80 } else { 40 };
+        let pairs = match kind {
+            Kind::Slave => 80,
+            Kind::Master | Kind::Share => 40,
+            // it has no second field
+            Kind::Default => 0,
+        };
         plans.extend((0..pairs).map(|_| Plan::TwoFields(kind)));
     }
     plans.extend((0..WHOLE_DAMAGES).map(Plan::Whole));
     plans.extend((0..2 * MEANINGS).map(|case| Plan::Meaning(case % MEANINGS)));
     plans.extend((0..5 * NATIVES).map(|case| Plan::Native(case % NATIVES)));
     plans.extend((0..3 * LATENCIES).map(|case| Plan::Latency(case % LATENCIES)));
+    plans.extend((0..DEFAULTS).flat_map(|case| vec![Plan::Default(case); frequency(case)]));
     plans.extend((0..2 * UNCONNECTED).map(|case| Plan::Unconnected(case % UNCONNECTED)));
     plans.extend((0..60).map(|case| Plan::Unconnected(case % ONLY_UNCONNECTED)));
     plans.extend((0..100).map(|_| Plan::TwoLines));
@@ -128,6 +138,12 @@ pub fn unordered_plan(random: &mut Random) -> Plan {
 pub fn latency_plan(random: &mut Random) -> Plan {
     let limit = random.pick(&[ONLY_ABOVE, ONLY_ABOVE, LATENCIES]);
     Plan::Latency(random.below(limit))
+}
+
+/// The line `default` elsewhere, twice, misspelt or with lines behind it; in one of three cases it is in its place.
+pub fn default_plan(random: &mut Random) -> Plan {
+    let first = random.pick(&[0, 0, FIRST_GOOD]);
+    Plan::Default(random.between(first, DEFAULTS - 1))
 }
 
 /// A text of a length near the limit, or far above it.
@@ -165,6 +181,7 @@ pub fn text(random: &mut Random, plan: Plan) -> Vec<u8> {
         Plan::Meaning(case) => meaning_text(random, case),
         Plan::Native(case) => native_text(random, case),
         Plan::Latency(case) => latency_text(random, case),
+        Plan::Default(case) => default_text(random, case),
         Plan::Unconnected(case) => unconnected_text(random, case),
         Plan::Unordered(order, fault) => unordered_text(random, order, fault),
         Plan::Long(length, fault) => long_text(random, length, fault),

@@ -1,7 +1,7 @@
 //! The lines that a script's calls print.
 
 use crate::board::Board;
-use crate::fabric::{Answer, Slot, Transfer};
+use crate::fabric::{Answer, Entry, Log, Slot, Transfer};
 
 pub fn put_hex(text: &mut Vec<u8>, bytes: &[u8]) {
     const DIGITS: &[u8; 16] = b"0123456789abcdef";
@@ -35,7 +35,7 @@ fn put_line(text: &mut Vec<u8>, word: &[u8], values: &[u32]) {
     text.push(b'\n');
 }
 
-/// A clock's answer; of one that is not refused, a line for each slave of the board.
+/// A clock's answer; of one that is not refused, a line for each slave of the board and one for each response other than 0.
 pub fn put_clock(text: &mut Vec<u8>, board: &Board, answer: &Answer) {
     put_line(text, b"clock", &[answer.number as u32, answer.mask as u32]);
     if answer.number != 0 {
@@ -56,6 +56,22 @@ pub fn put_clock(text: &mut Vec<u8>, board: &Board, answer: &Answer) {
         ];
         put_line(text, b"slave", &values);
     }
+    for (master, &response) in answer.responses.iter().enumerate() {
+        if response != 0 {
+            put_line(text, b"response", &[master as u32, response as u32]);
+        }
+    }
+}
+
+/// What take answers.
+pub fn put_taken(text: &mut Vec<u8>, number: u8, entry: &Entry) {
+    let Entry {
+        master,
+        address,
+        write,
+    } = *entry;
+    let values = [number as u32, master as u32, address, write as u32];
+    put_line(text, b"take", &values);
 }
 
 pub fn put_transfers(text: &mut Vec<u8>, transfers: &[Transfer]) {
@@ -84,5 +100,19 @@ pub fn put_slots(text: &mut Vec<u8>, slots: &[Slot]) {
             slot.waited as u32,
         ];
         put_line(text, b"slot", &values);
+    }
+}
+
+/// The log's own line, and one for each place of it.
+pub fn put_log(text: &mut Vec<u8>, log: &Log) {
+    put_line(text, b"log", &[log.count, log.lost as u32]);
+    for (index, entry) in log.entries.iter().enumerate() {
+        let values = [
+            index as u32,
+            entry.master as u32,
+            entry.address,
+            entry.write as u32,
+        ];
+        put_line(text, b"entry", &values);
     }
 }

@@ -2,7 +2,7 @@
 
 use model::board::Board;
 use model::description::read;
-use model::fabric::{self, Answer, SlaveLine, State, Transfer, BUFFER_LENGTH};
+use model::fabric::{self, Answer, Entry, SlaveLine, State, Transfer, BUFFER_LENGTH};
 
 pub struct Fabric {
     pub board: Board,
@@ -37,6 +37,10 @@ impl Fabric {
     pub fn clock(&mut self) -> Answer {
         let (memory, buffer) = (&mut self.memory, &mut self.buffer);
         fabric::clock(&self.board, &mut self.state, memory, buffer)
+    }
+
+    pub fn take(&mut self) -> (u8, Entry) {
+        fabric::take(&self.board, &mut self.state)
     }
 
     /// Clocks until a master finishes: the lines of slave 0.

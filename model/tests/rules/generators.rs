@@ -1,10 +1,14 @@
 //! The generators: boards that are taken, and texts and scripts that reach every refusal.
 
+use std::fs;
+use std::path::Path;
+
 use crate::late_tally::{late_tally, LateTally, FAULTS};
 use crate::tally::{tally, Tally};
+use crate::unmapped_tally::{unmapped_tally, UnmappedTally, CASES};
 use model::board::Board;
 use model::description::{read, write};
-use model::generate::boards::{any_size, board, longest_board, Size};
+use model::generate::boards::{any_size, board, longest_board, write_boards, Size};
 use model::generate::random::Random;
 use model::generate::{scripts, texts};
 use model::records::print_boards;
@@ -107,8 +111,8 @@ fn the_longest_board_is_taken() {
     let board = longest_board(&mut Random::new(1));
     let text = write(&board);
     assert_eq!(read(text.as_bytes()), Ok(board));
-    // 8 lines of 12 bytes, 3 of 41 and 13 of 40, and of each master 10 of 14 and 6 of 15
-    assert_eq!(text.len(), 96 + 123 + 520 + 8 * (140 + 90));
+    // 8 lines of 12 bytes, 3 of 41 and 13 of 40, of each master 10 of 14 and 6 of 15, and the last one of 8
+    assert_eq!(text.len(), 96 + 123 + 520 + 8 * (140 + 90) + 8);
 }
 
 /// What is answered to 2,000 generated texts.
@@ -164,6 +168,18 @@ fn generated_scripts_reach_every_refusal_of_a_post() {
         let line = format!("post,{number}");
         assert!(printed.lines().any(|answer| answer == line), "no {line}");
     }
+}
+
+#[test]
+fn generated_scripts_reach_every_refusal_of_a_take() {
+    let printed = printed_by_scripts(0..200);
+    for number in [2, 3, 4, 5, 6, 7, 9, 19, 20, 22] {
+        let line = format!("take,{number},0,0,0");
+        assert!(printed.lines().any(|answer| answer == line), "no {line}");
+    }
+    assert!(printed.lines().any(|answer| answer.starts_with("take,0,")));
+    // neither memory nor buffer is lent
+    assert!(!printed.lines().any(|answer| answer.starts_with("take,8,")));
 }
 
 #[test]
@@ -267,5 +283,112 @@ fn generated_scripts_have_every_case_of_a_latency() {
     println!("{cases:?}");
     for (name, scripts) in cases {
         assert!(scripts >= 24, "{name} only in {scripts} of 400");
+    }
+}
+
+#[test]
+fn about_half_of_the_generated_boards_have_the_mark() {
+    let marked = boards_that(|board| board.default);
+    assert!((80..=120).contains(&marked), "{marked} of 200");
+    let folder = Path::new(env!("CARGO_TARGET_TMPDIR")).join("marked_boards");
+    let _ = fs::remove_dir_all(&folder);
+    write_boards(6, 500, &folder).expect("the boards cannot be written");
+    let boards: Vec<Option<Board>> = (0..500)
+        .map(|index| fs::read(folder.join(format!("{index}.txt"))).expect("no board"))
+        .map(|text| read(&text).ok())
+        .collect();
+    let taken = boards.iter().flatten().count();
+    let marked = boards
+        .iter()
+        .flatten()
+        .filter(|board| board.default)
+        .count();
+    assert!(taken > 380, "only {taken} of 500 are taken");
+    assert!((180..=260).contains(&marked), "{marked} of {taken}");
+}
+
+/// What alone a text is refused for, where that is its line `default`.
+#[derive(Clone, Copy, PartialEq, Eq, Debug)]
+enum DefaultFault {
+    /// It has a further field.
+    Longer,
+    Twice,
+    /// It stands before the first slave.
+    Early,
+    /// A slave or a share line stands behind it.
+    Between,
+}
+
+fn is_taken(lines: &[&[u8]]) -> bool {
+    read(&[&lines.join(&b'\n')[..], b"\n"].concat()).is_ok()
+}
+
+/// The text with `default` last and once is taken, as it stands it is not.
+fn default_fault(text: &[u8]) -> Option<DefaultFault> {
+    let text = text.strip_suffix(b"\n")?;
+    let lines: Vec<&[u8]> = text.split(|&byte| byte == b'\n').collect();
+    let is_default = |line: &&[u8]| *line == b"default" || line.starts_with(b"default,");
+    let others: Vec<&[u8]> = lines
+        .iter()
+        .copied()
+        .filter(|line| !is_default(line))
+        .collect();
+    let right = [&others[..], &[b"default"]].concat();
+    let found: Vec<&[u8]> = lines.iter().copied().filter(is_default).collect();
+    if found.is_empty() || is_taken(&lines) || !is_taken(&right) {
+        return None;
+    }
+    let place = lines.iter().position(|line| is_default(&line))?;
+    let is_slave = |line: &&[u8]| line.starts_with(b"slave");
+    match (found[..] == [b"default"], found.len()) {
+        (false, 1) => Some(DefaultFault::Longer),
+        (_, 2..) => Some(DefaultFault::Twice),
+        _ if lines[..place].iter().any(is_slave) => Some(DefaultFault::Between),
+        _ => Some(DefaultFault::Early),
+    }
+}
+
+#[test]
+fn generated_texts_are_often_refused_for_the_line_default_alone() {
+    let mut random = Random::new(3);
+    let texts: Vec<Vec<u8>> = texts::damaging_plans()
+        .into_iter()
+        .map(|plan| texts::text(&mut random, plan))
+        .collect();
+    let count = |fault| {
+        let is_such = |text: &&Vec<u8>| default_fault(text) == Some(fault);
+        texts.iter().filter(is_such).count()
+    };
+    let faults = [
+        DefaultFault::Longer,
+        DefaultFault::Twice,
+        DefaultFault::Early,
+        DefaultFault::Between,
+    ]
+    .map(|fault| (fault, count(fault)));
+    println!("{faults:?} of {}", texts.len());
+    assert!(faults.iter().all(|&(_, count)| count > 50), "{faults:?}");
+    let is_unconnected = |text: &&Vec<u8>| text.ends_with(b"\ndefault\n") && read(text) == Err(20);
+    let unconnected = texts.iter().filter(is_unconnected).count();
+    assert!(unconnected > 100, "only {unconnected}");
+}
+
+/// Of 400 scripts of 100 calls, how many have each case of unmapped transfers and of the log.
+fn scripts_with_unmapped() -> Vec<(&'static str, usize)> {
+    let tallies: Vec<UnmappedTally> = (0..400)
+        .map(|seed| board_and_script(seed, 100))
+        .map(|(text, script)| unmapped_tally(text.as_bytes(), &script))
+        .collect();
+    let has = |tally: &&UnmappedTally, case: &str| tally.get(case).is_some_and(|&count| count > 0);
+    let count = |case: &'static str| tallies.iter().filter(|tally| has(tally, case)).count();
+    CASES.into_iter().map(|case| (case, count(case))).collect()
+}
+
+#[test]
+fn generated_scripts_have_every_case_of_unmapped_transfers() {
+    let cases = scripts_with_unmapped();
+    println!("{cases:#?}");
+    for (case, scripts) in cases {
+        assert!(scripts >= 24, "{case} only in {scripts} of 400");
     }
 }

@@ -195,7 +195,7 @@ impl LateTally {
 }
 
 /// The lines of a script, each of several clocks as so many lines of one.
-fn single_clocks(script: &[u8]) -> Vec<&[u8]> {
+pub fn single_clocks(script: &[u8]) -> Vec<&[u8]> {
     let times = |line: &[u8]| match line.strip_prefix(b"clock,") {
         Some(count) => String::from_utf8_lossy(count).parse().unwrap_or(1),
         None => 1,

@@ -608,7 +608,8 @@ fn a_script_prints_the_counts() {
     let (before, state) = output.split_once("transfer,").expect("no state");
     assert_eq!(before, "reset,0\npost,0\nclock,0,0\nslave,0,2,0,4,15,1,0\n");
     assert!(state.starts_with("0,1,0,4,15,1,2\ntransfer,1,0,0,0,0,0,0\n"));
-    let (_, behind) = state.split_once("slot,15,0,0,0,0,0\n").expect("no slots");
+    let (_, log) = state.split_once("slot,15,0,0,0,0,0\n").expect("no slots");
+    let (_, behind) = log.split_once("entry,7,0,0,0\n").expect("no log");
     let idle = "slave,0,0,0,0,0,0,0\n";
     assert_eq!(
         behind,

@@ -2,6 +2,7 @@
 
 mod accesses;
 mod arbiter;
+mod default_line;
 mod description;
 mod fabric;
 mod files;
@@ -10,12 +11,17 @@ mod histories;
 mod lanes;
 mod late_tally;
 mod latency;
+mod log;
 mod native;
 mod order;
 mod posts;
 mod programs;
 mod tally;
 mod unconnected;
+mod unmapped;
+mod unmapped_histories;
+mod unmapped_scripts;
+mod unmapped_tally;
 mod waits;
 mod words;
 mod worst;
@@ -26,3 +32,11 @@ const BOARD: &str = "master,4,8\n\
                      slave,4096,4096,2,8,1,0,0,0\n\
                      share,0,0,2\n\
                      share,1,0,3\n";
+
+/// The same board with its last line, so that unmapped transfers are taken.
+const MARKED: &str = "master,4,8\n\
+                      master,2,1\n\
+                      slave,4096,4096,2,8,1,0,0,0\n\
+                      share,0,0,2\n\
+                      share,1,0,3\n\
+                      default\n";

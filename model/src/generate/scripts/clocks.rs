@@ -31,7 +31,7 @@ impl Author {
     }
 
     /// Sometimes the words that a finished transfer moved.
-    fn look_at_finished(&mut self, master: usize, transfer: &Transfer) {
+    pub fn look_at_finished(&mut self, master: usize, transfer: &Transfer) {
         if self.random.chance(1, 4) {
             self.put(&format!(
                 "show,buffer,{},{PART_LENGTH}",
@@ -50,8 +50,12 @@ impl Author {
                 false => width,
             };
             let start = slave_start(&self.board, slave) + word * stride;
-            let count = transfer.beats as usize * stride;
-            self.put(&format!("show,memory,{start},{count}"));
+            // an unmapped transfer, to a slave that is not connected, may pass its end
+            let end = start + transfer.beats as usize * stride;
+            let end = end.min(self.lent("memory"));
+            if start < end {
+                self.put(&format!("show,memory,{start},{}", end - start));
+            }
         }
     }
 
@@ -110,6 +114,7 @@ impl Author {
                 let slave = self.random.below(self.slaves());
                 self.fill_slave(slave);
             }
+            6 => self.put("take"),
             _ => {}
         }
     }

@@ -126,8 +126,8 @@ impl Author {
         let mut slave = self.board.slaves[index];
         let other = self.board.slaves[self.random.below(self.slaves())];
         let any = self.random.draw() as u32;
-        match self.random.below(17) {
-            0 => slave.base = self.edge_base(&slave, &other),
+        match self.random.below(19) {
+            0 | 17 | 18 => slave.base = self.edge_base(&slave, &other),
             1 => slave.base = any & !slave.span.saturating_sub(1),
             2 => slave.span = self.edge_span(&slave, any),
             3 => slave.width = self.random.pick(&WIDTH_EDGES),
@@ -299,6 +299,9 @@ impl Author {
                 10 => self.wait(),
                 _ => self.put("reset"),
             }
+            if self.random.chance(1, 4) {
+                self.put("take");
+            }
         }
     }
 
@@ -339,6 +342,15 @@ impl Author {
         }
         for _ in 0..self.random.pick(&[1, 1, 1, 2, 2, 3]) {
             self.corrupt_line(&style);
+            match self.random.below(12) {
+                0 => self.corrupt_log(),
+                1 => self.change_mark(),
+                _ => {}
+            }
+            // every call looks at the board
+            if check_board(&self.simulator.board).is_err() && self.random.chance(1, 2) {
+                self.call_each(&style);
+            }
             if self.random.chance(1, 2) {
                 self.try_calls(&style);
             }

@@ -106,6 +106,7 @@ impl Author {
             hot: Some(slave),
             eager: self.random.pick(&[4, 7, 8]),
             bursts: self.random.pick(&[0, 0, 0, 1]),
+            unmapped: self.random.pick(&[0, 0, 1]),
             longest_clock: 1,
         };
         for _ in 0..self.random.between(5, 12) {

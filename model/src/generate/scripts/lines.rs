@@ -1,7 +1,7 @@
 //! The lines of a script.
 
 use crate::board::{Master, Slave};
-use crate::fabric::{Slot, Transfer};
+use crate::fabric::{Entry, Log, Slot, Transfer};
 use crate::script::put_hex;
 
 /// Bytes as the script has them; none are a dash.
@@ -37,6 +37,23 @@ pub fn slot_line(slave: usize, slot: &Slot) -> String {
         ..
     } = slot;
     format!("slot,{slave},{owner},{remaining},{serving},{done},{waited}")
+}
+
+pub fn log_line(log: &Log) -> String {
+    let lost = log.lost as u8;
+    format!("log,{},{lost}", log.count)
+}
+
+pub fn entry_line(index: usize, entry: &Entry) -> String {
+    let write = entry.write as u8;
+    let Entry {
+        master, address, ..
+    } = entry;
+    format!("entry,{index},{master},{address},{write}")
+}
+
+pub fn default_line(mark: bool) -> String {
+    format!("default,{}", mark as u8)
 }
 
 pub fn slave_line(index: usize, slave: &Slave) -> String {

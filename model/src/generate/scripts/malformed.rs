@@ -2,6 +2,34 @@
 
 use super::Author;
 
+/// Lines about the log and about unmapped addresses; some only print or stand in a description.
+const UNMAPPED: [&str; 24] = [
+    "take,",
+    "take,1",
+    "Take",
+    "default",
+    "default,",
+    "default,2",
+    "default,256",
+    "default,01",
+    "default,1,1",
+    "log",
+    "log,0",
+    "log,0,2",
+    "log,0,0,0",
+    "log,01,0",
+    "log,4294967296,0",
+    "entry,8,0,0,0",
+    "entry,0,256,0,0",
+    "entry,0,0,4294967296,0",
+    "entry,0,0,0,2",
+    "entry,0,0,0",
+    "entry,0,0,0,0,0",
+    "entry,0,0,0,read",
+    "entry,00,0,0,0",
+    "response,0,3",
+];
+
 const MALFORMED: [&str; 51] = [
     "",
     "nonsense",
@@ -62,11 +90,12 @@ impl Author {
         let name = self.random.pick(&["memory", "buffer"]);
         let limit = self.lend_limit(name);
         let lent = self.lent(name);
-        let line = match self.random.below(8) {
+        let line = match self.random.below(12) {
             0 => format!("lend,{name},{}", limit + 1),
             1 => format!("show,{name},{},2", lent - 1),
             2 => format!("show,{name},0,{}", lent + 1),
             3 => format!("fill,{name},{},0000", lent - 1),
+            4..=7 => self.random.pick(&UNMAPPED).to_string(),
             _ => self.random.pick(&MALFORMED).to_string(),
         };
         self.script.extend(line.as_bytes());

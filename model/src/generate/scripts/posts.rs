@@ -13,7 +13,8 @@ pub struct Post {
     pub address: u64,
     pub lanes: u8,
     pub beats: usize,
-    length: usize,
+    /// How many bytes are handed in.
+    pub length: usize,
 }
 
 impl Author {
@@ -62,7 +63,7 @@ impl Author {
         word * width
     }
 
-    fn lanes(&mut self, width: u8, beats: usize) -> u8 {
+    pub fn lanes(&mut self, width: u8, beats: usize) -> u8 {
         if beats > 1 || self.random.chance(1, 3) {
             return all_lanes(width);
         }
@@ -117,7 +118,11 @@ impl Author {
             false => self.random.below(self.masters()),
         };
         let width = self.board.masters[master].width;
-        self.good_post(master, style).unwrap_or(Post {
+        let post = match self.board.default && self.random.chance(1, 8) {
+            true => self.unmapped_post(master, style),
+            false => self.good_post(master, style),
+        };
+        post.unwrap_or(Post {
             master: master as u64,
             write: false,
             address: self.board.slaves[0].base as u64,
@@ -286,11 +291,10 @@ impl Author {
         faults
     }
 
-    fn damaged_post(&mut self, mut post: Post) -> Post {
+    fn damaged_post(&mut self, mut post: Post, faults: &[u8]) -> Post {
         let master = post.master as usize;
         let width = self.board.masters[master].width as usize;
-        let faults = self.faults();
-        for &fault in &faults {
+        for &fault in faults {
             self.damage(&mut post, master, fault);
         }
         post.length = if faults.contains(&18) {
@@ -304,7 +308,12 @@ impl Author {
     }
 
     pub fn put_damaged_post(&mut self, post: Post) {
-        let post = self.damaged_post(post);
+        let faults = self.faults();
+        self.put_post_with(post, &faults);
+    }
+
+    pub fn put_post_with(&mut self, post: Post, faults: &[u8]) {
+        let post = self.damaged_post(post, faults);
         self.put_post(&post);
         let part = (post.master as usize % MASTER_LIMIT) * PART_LENGTH;
         if self.lent("buffer") >= BUFFER_LENGTH && self.random.chance(1, 16) {
@@ -325,7 +334,11 @@ impl Author {
                     self.put_damaged_post(post);
                 }
             }
-            if let Some(post) = self.good_post(master, style) {
+            let post = match self.board.default && self.random.chance(style.unmapped, 8) {
+                true => self.unmapped_post(master, style),
+                false => self.good_post(master, style),
+            };
+            if let Some(post) = post {
                 self.put_post(&post);
             }
         }

@@ -1,6 +1,8 @@
 //! Lengths lent wrongly, and board, state and lengths put right. Only what differs is put.
 
-use super::lines::{master_line, slave_line, slot_line, transfer_line};
+use super::lines::{
+    default_line, entry_line, log_line, master_line, slave_line, slot_line, transfer_line,
+};
 use super::Author;
 use crate::board::{Board, MASTER_LIMIT, SLAVE_LIMIT};
 use crate::fabric::{State, BUFFER_LENGTH};
@@ -20,6 +22,9 @@ impl Author {
         self.put_masters(&now, wanted);
         self.put_slaves(&now, wanted);
         self.put_shares(&now, wanted);
+        if now.default != wanted.default {
+            self.put(&default_line(wanted.default));
+        }
         self.board = *wanted;
     }
 
@@ -55,6 +60,7 @@ impl Author {
         let now = self.simulator.state;
         self.put_transfers(&now, wanted);
         self.put_slots(&now, wanted);
+        self.put_log(&now, wanted);
     }
 
     fn put_transfers(&mut self, now: &State, wanted: &State) {
@@ -69,6 +75,17 @@ impl Author {
         for (slave, slot) in wanted.slots.iter().enumerate() {
             if now.slots[slave] != *slot {
                 self.put(&slot_line(slave, slot));
+            }
+        }
+    }
+
+    fn put_log(&mut self, now: &State, wanted: &State) {
+        if (now.log.count, now.log.lost) != (wanted.log.count, wanted.log.lost) {
+            self.put(&log_line(&wanted.log));
+        }
+        for (index, entry) in wanted.log.entries.iter().enumerate() {
+            if now.log.entries[index] != *entry {
+                self.put(&entry_line(index, entry));
             }
         }
     }

@@ -49,7 +49,7 @@ impl Author {
 
     /// Most of the calls that look at the board, in any order.
     fn call_most(&mut self, style: &Style) {
-        let mut calls = [0, 1, 2, 3, 4];
+        let mut calls = [0, 1, 2, 3, 4, 5];
         self.random.shuffle(&mut calls);
         for call in calls {
             match call {
@@ -64,6 +64,7 @@ impl Author {
                 }
                 3 if self.random.chance(1, 3) => self.put("reset"),
                 4 if self.random.chance(1, 4) => self.wait(),
+                5 if self.random.chance(1, 2) => self.put("take"),
                 _ => {}
             }
         }

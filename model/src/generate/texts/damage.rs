@@ -1,6 +1,6 @@
 //! Texts whose lines, or whose bytes, are damaged.
 
-use super::parts::{damage_board, fields_of, joined_fields, pick_line, Kind};
+use super::parts::{damage_board, damage_board_with, fields_of, joined_fields, pick_line, Kind};
 use crate::generate::boards::{joined, lines};
 use crate::generate::random::Random;
 
@@ -94,7 +94,7 @@ fn replaced(line: &[u8], from: &[u8], to: &[u8]) -> Vec<u8> {
 
 /// One line of this kind damaged, or the lines around it.
 pub fn line_text(random: &mut Random, kind: Kind, damage: usize) -> Vec<u8> {
-    let board = damage_board(random);
+    let board = damage_board_with(random, kind);
     let mut lines = lines(&board);
     let index = pick_line(random, &board, lines.len(), kind);
     damage_line(random, &mut lines, index, damage);
@@ -149,14 +149,21 @@ fn foreign_text(random: &mut Random, damage: usize) -> Vec<u8> {
         30 => {
             let length = random.below(200);
             (0..length)
-                .map(|_| random.pick(b"masterlvh,0123456789\n"))
+                .map(|_| random.pick(b"masterlvhdfu,0123456789\n"))
                 .collect()
         }
         31 => random
-            .pick(&["master", "slave", "share", "master,", ",", "0"])
+            .pick(&["master", "slave", "share", "default", "master,", ",", "0"])
             .into(),
         _ => random
-            .pick(&["master\n", "slave\n", "share\n", "master,\n", ",\n"])
+            .pick(&[
+                "master\n",
+                "slave\n",
+                "share\n",
+                "default\n",
+                "master,\n",
+                ",\n",
+            ])
             .into(),
     }
 }

@@ -1,6 +1,8 @@
 //! Texts in which one or two fields have another value.
 
-use super::parts::{damage_board, fields_of, joined_fields, pick_line, value_of, Kind, KINDS};
+use super::parts::{
+    damage_board, damage_board_with, fields_of, joined_fields, pick_line, value_of, Kind, KINDS,
+};
 use crate::board::{Board, MASTER_LIMIT, SLAVE_LIMIT};
 use crate::generate::boards::{joined, lines};
 use crate::generate::random::Random;
@@ -17,7 +19,8 @@ fn word_values(word: &str) -> Vec<Vec<u8>> {
     let capital = word[..1].to_uppercase() + &word[1..];
     let last_capital = word[..word.len() - 1].to_string() + &word[word.len() - 1..].to_uppercase();
     let mut values: Vec<Vec<u8>> = [
-        "", "master", "slave", "share", "masters", "slaves", "shares", "bus", "#", "0", "-",
+        "", "master", "slave", "share", "default", "masters", "slaves", "shares", "defaults",
+        "bus", "#", "0", "-",
     ]
     .iter()
     .map(|value| value.as_bytes().to_vec())
@@ -234,6 +237,7 @@ fn edges(board: &Board, kind: Kind, fields: &[Vec<u8>], field: usize) -> Vec<u64
         (Kind::Share, 1) => index_edges(board.master_count as u64, MASTER_LIMIT as u64),
         (Kind::Share, 2) => index_edges(board.slave_count as u64, SLAVE_LIMIT as u64),
         (Kind::Share, _) => SHARES_EDGES.to_vec(),
+        (Kind::Default, _) => Vec::new(),
     }
 }
 
@@ -255,7 +259,7 @@ fn with_field(board: &Board, line: &[u8], kind: Kind, field: usize, value: usize
 }
 
 pub fn field_text(random: &mut Random, kind: Kind, field: usize, value: usize) -> Vec<u8> {
-    let board = damage_board(random);
+    let board = damage_board_with(random, kind);
     let mut lines = lines(&board);
     let index = pick_line(random, &board, lines.len(), kind);
     lines[index] = with_field(&board, &lines[index], kind, field, value);

@@ -11,13 +11,16 @@ fn fault_line(fault: usize) -> &'static str {
         2 => "master,4,8\n",
         3 => "share,0,0,0\n",
         7 => "share,8,0,1\n",
+        10 => "default\n",
         _ => "",
     }
 }
 
 /// A good board, then lines of one fault, then one long line up to the length.
 pub fn long_text(random: &mut Random, length: usize, fault: usize) -> Vec<u8> {
-    let board = board(random, Size::Small);
+    let mut board = board(random, Size::Small);
+    // behind the line `default` all lines would be refused for their place
+    board.default &= ![1, 3, 7].contains(&fault);
     let mut text = joined(&lines(&board));
     if (4..=6).contains(&fault) {
         text = joined(&slave_fault(random, fault));

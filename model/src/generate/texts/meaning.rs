@@ -1,6 +1,6 @@
 //! Texts in which each line can be right and what they say together is not.
 
-use super::parts::{damage_board, fields_of, pick_line, place_for, value_of, Kind};
+use super::parts::{damage_board, fields_of, pick_line, place_for, value_of, Kind, DEFAULT};
 use crate::board::{Slave, MEMORY_LIMIT};
 use crate::generate::boards::{connect_rest, free_base, joined, lines, spans_to_the_limit};
 use crate::generate::random::Random;
@@ -134,7 +134,7 @@ fn share_meaning(random: &mut Random, case: usize) -> Vec<Vec<u8>> {
     lines
 }
 
-/// Lines out of order, or none of a kind.
+/// Lines out of order, or none of a kind; the line `default` stands last where the board has it.
 fn order_meaning(random: &mut Random, case: usize) -> Vec<Vec<u8>> {
     let board = damage_board(random);
     let lines = lines(&board);
@@ -144,7 +144,8 @@ fn order_meaning(random: &mut Random, case: usize) -> Vec<Vec<u8>> {
     let bad_master = vec![b"master,3,8".to_vec()];
     let bad_share = vec![b"share,99,99,0".to_vec()];
     let free_slave = vec![slave_line(4, 7)];
-    match case {
+    let default = vec![DEFAULT.to_vec(); board.default as usize];
+    let mut lines = match case {
         0 => masters,
         1 => slaves,
         2 => shares,
@@ -162,7 +163,9 @@ fn order_meaning(random: &mut Random, case: usize) -> Vec<Vec<u8>> {
         14 => [masters, slaves].concat(),
         15 => [free_slave, masters, slaves].concat(),
         _ => [masters, slaves, shares, bad_master].concat(),
-    }
+    };
+    lines.extend(default);
+    lines
 }
 
 pub fn meaning_text(random: &mut Random, case: usize) -> Vec<u8> {

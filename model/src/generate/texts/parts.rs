@@ -12,9 +12,13 @@ pub enum Kind {
     Master,
     Slave,
     Share,
+    Default,
 }
 
-pub const KINDS: [Kind; 3] = [Kind::Master, Kind::Slave, Kind::Share];
+pub const KINDS: [Kind; 4] = [Kind::Master, Kind::Slave, Kind::Share, Kind::Default];
+
+/// The line that a board with the mark ends with.
+pub const DEFAULT: &[u8] = b"default";
 
 impl Kind {
     pub fn word(self) -> &'static str {
@@ -22,6 +26,7 @@ impl Kind {
             Kind::Master => "master",
             Kind::Slave => "slave",
             Kind::Share => "share",
+            Kind::Default => "default",
         }
     }
 
@@ -30,6 +35,7 @@ impl Kind {
             Kind::Master => 3,
             Kind::Slave => 9,
             Kind::Share => 4,
+            Kind::Default => 1,
         }
     }
 
@@ -37,10 +43,12 @@ impl Kind {
     pub fn range(self, board: &Board, line_count: usize) -> Range<usize> {
         let slaves = board.master_count as usize;
         let shares = slaves + board.slave_count as usize;
+        let default = line_count - board.default as usize;
         match self {
             Kind::Master => 0..slaves,
             Kind::Slave => slaves..shares,
-            Kind::Share => shares..line_count,
+            Kind::Share => shares..default,
+            Kind::Default => default..line_count,
         }
     }
 }
@@ -54,6 +62,13 @@ pub fn damage_board(random: &mut Random) -> Board {
         _ => Size::Largest,
     };
     board(random, size)
+}
+
+/// A board that has a line of this kind, to be damaged.
+pub fn damage_board_with(random: &mut Random, kind: Kind) -> Board {
+    let mut board = damage_board(random);
+    board.default |= kind == Kind::Default;
+    board
 }
 
 pub fn pick_line(random: &mut Random, board: &Board, line_count: usize, kind: Kind) -> usize {
@@ -82,10 +97,24 @@ pub fn pair_of(line: &[u8]) -> (u64, u64) {
     (number(1), number(2))
 }
 
+/// How many lines stand before the one that ends the text, where it is `default`; else all of them.
+pub fn before_default(lines: &[Vec<u8>]) -> usize {
+    match lines.last() {
+        Some(line) if line == DEFAULT => lines.len() - 1,
+        _ => lines.len(),
+    }
+}
+
+/// Puts a line last of the share lines: behind `default` it would be refused for its place alone.
+pub fn push_share(lines: &mut Vec<Vec<u8>>, line: Vec<u8>) {
+    lines.insert(before_default(lines), line);
+}
+
 /// Where a share line of the pair is put among those from `first` on: in two of three cases in its order, else anywhere.
 pub fn place_for(random: &mut Random, lines: &[Vec<u8>], first: usize, pair: (u64, u64)) -> usize {
+    let end = before_default(lines);
     match random.chance(2, 3) {
-        true => first + lines[first..].partition_point(|line| pair_of(line) < pair),
-        false => random.between(first, lines.len()),
+        true => first + lines[first..end].partition_point(|line| pair_of(line) < pair),
+        false => random.between(first, end),
     }
 }

@@ -1,6 +1,6 @@
 //! Texts in which a master has no share line, with nothing else wrong and beside another fault.
 
-use super::parts::{fields_of, joined_fields, place_for, Kind};
+use super::parts::{fields_of, joined_fields, place_for, push_share, Kind};
 use crate::board::{Board, SLAVE_LIMIT};
 use crate::generate::boards::{
     board, connect_rest, disconnect_narrow, joined, lines, uneven_widths, Size,
@@ -76,9 +76,9 @@ fn damage(random: &mut Random, board: &Board, lines: &mut Vec<Vec<u8>>, fault: u
     match fault {
         11 if !shares.is_empty() => {
             let twice = lines[random.between(shares.start, shares.end - 1)].clone();
-            lines.push(twice);
+            push_share(lines, twice);
         }
-        11 => lines.push(b"share,8,0,1".to_vec()),
+        11 => push_share(lines, b"share,8,0,1".to_vec()),
         12 => lines.push(lines[0].clone()),
         13 => lines.insert(slaves.end, lines[slaves.start].clone()),
         14 => lines.insert(slaves.end, b"slave,4,8,1,1,0,0,0,0".to_vec()),

@@ -2,7 +2,7 @@
 
 use std::cmp::Reverse;
 
-use super::parts::{fields_of, joined_fields, pair_of, Kind};
+use super::parts::{before_default, fields_of, joined_fields, pair_of, push_share, Kind};
 use crate::board::{Board, SLAVE_LIMIT};
 use crate::generate::boards::{
     board, connect_rest, disconnect_narrow, joined, lines, uneven_widths, Size,
@@ -116,9 +116,8 @@ fn reorder(random: &mut Random, shares: &mut [Vec<u8>], order: usize) {
 /// The first share line whose pair comes before the one above; the last share line where there is none.
 fn charged(lines: &[Vec<u8>], first: usize) -> usize {
     let comes_before = |&line: &usize| pair_of(&lines[line]) < pair_of(&lines[line - 1]);
-    (first + 1..lines.len())
-        .find(comes_before)
-        .unwrap_or(lines.len() - 1)
+    let end = before_default(lines);
+    (first + 1..end).find(comes_before).unwrap_or(end - 1)
 }
 
 /// The line with another fault, of a lower number.
@@ -147,9 +146,9 @@ fn damage(random: &mut Random, board: &Board, lines: &mut Vec<Vec<u8>>, fault: u
         1..=5 => lines[place] = worse_line(random, board, &lines[place], fault),
         7 if place > first => lines[place] = lines[random.between(first, place - 1)].clone(),
         8 if place > first => lines.insert(place, lines[place - 1].clone()),
-        9 => lines.insert(random.between(place + 1, lines.len()), bad_line),
+        9 => lines.insert(random.between(place + 1, before_default(lines)), bad_line),
         10 => lines.insert(random.between(first + 1, place.max(first + 1)), bad_line),
-        11 => lines.push(lines[place].clone()),
+        11 => push_share(lines, lines[place].clone()),
         _ => {}
     }
 }
@@ -167,7 +166,7 @@ fn narrow_lines(random: &mut Random) -> Vec<Vec<u8>> {
     // where no slave takes the narrow master, this makes it as wide as one
     connect_rest(random, &mut board, 3);
     let mut lines = lines(&board);
-    lines.push(format!("share,{master},{slave},1").into_bytes());
+    push_share(&mut lines, format!("share,{master},{slave},1").into_bytes());
     lines
 }
 
