@@ -1,8 +1,8 @@
 /*
  * What the calls do to the numbers and bytes they are lent: which numbers are refused and with what (refusal k is rule 7.k),
  * that a refusal leaves everything as it was (rule 8.1), which master is named where one has no share line (rule 8.3), what a
- * native slave does with a master's word (rule 4.10), when a read at a slave with latency is finished (rule 4.16), and that a run
- * of clocks leaves what as many clocks leave (rule 4.15).
+ * native slave does with a master's word (rule 4.10), when a read at a slave with latency is finished (rule 4.16), what becomes of
+ * an unmapped transfer and of the log (rules 4.17 to 4.19), and that a run of clocks leaves what as many clocks leave (rule 4.15).
  */
 #include <stdio.h>
 #include <stdlib.h>
@@ -22,20 +22,23 @@ static const char description[] =
 
 #define MEMORY_BYTES (4096 + 64)
 
-/* Everything that is lent to a clock. */
+/* Everything that is lent to a clock or a take. */
 struct lent {
     struct fabric_board board;
     struct fabric_state state;
     uint8_t memory[MEMORY_BYTES];
     uint8_t buffer[FABRIC_BUFFER_BYTES];
     struct fabric_lines lines;
+    uint32_t responses[FABRIC_MASTERS];
     uint32_t mask;
     uint32_t clocks;
+    struct fabric_entry entry;
 };
 
 static struct lent fresh; /* the board after a reset, nothing posted */
 static struct lent tried;
 static struct lent other;
+static struct lent expected; /* what `tried` is to be */
 static const uint8_t words[FABRIC_PART_BYTES] = {1, 2, 3, 4, 5, 6, 7, 8, 9};
 static int checks, failed;
 
@@ -75,7 +78,68 @@ static int same_lent(const struct lent *a, const struct lent *b)
 
 static int same_answer(const struct lent *a, const struct lent *b)
 {
-    return memcmp(&a->lines, &b->lines, sizeof a->lines) == 0 && a->mask == b->mask;
+    return memcmp(&a->lines, &b->lines, sizeof a->lines) == 0 && memcmp(a->responses, b->responses, sizeof a->responses) == 0
+           && a->mask == b->mask;
+}
+
+/* Whether all that a clock answers is 0, as behind a refusal. */
+static int answers_none(const struct lent *l)
+{
+    return all_zero(&l->lines, sizeof l->lines) && all_zero(l->responses, sizeof l->responses) && l->mask == 0;
+}
+
+/* What a clock answers is to be written by it: other numbers stand there before. */
+static void spoil_answer(struct lent *l)
+{
+    memset(&l->lines, 0xa5, sizeof l->lines);
+    memset(l->responses, 0xa5, sizeof l->responses);
+    l->mask = 0xa5;
+}
+
+static uint32_t one_if(uint32_t mark)
+{
+    return mark != 0 ? 1 : 0;
+}
+
+/* Any mark but 0 is yes (rule 2.4): all of them as 0 or 1. */
+static struct fabric_state marked(struct fabric_state s)
+{
+    for (uint32_t m = 0; m < FABRIC_MASTERS; m++) {
+        s.transfer[m].held = one_if(s.transfer[m].held);
+        s.transfer[m].write = one_if(s.transfer[m].write);
+    }
+    for (uint32_t i = 0; i < FABRIC_SLAVES; i++)
+        s.slot[i].serving = one_if(s.slot[i].serving);
+    s.log.lost = one_if(s.log.lost);
+    for (uint32_t i = 0; i < FABRIC_LOG_ENTRIES; i++)
+        s.log.entry[i].write = one_if(s.log.entry[i].write);
+    return s;
+}
+
+/* Whether two are the same but for the numbers of marks that are yes in both. */
+static int same_marked(const struct lent *a, const struct lent *b)
+{
+    struct fabric_state ours = marked(a->state), theirs = marked(b->state);
+
+    return memcmp(&a->board, &b->board, sizeof a->board) == 0 && memcmp(&ours, &theirs, sizeof ours) == 0
+           && memcmp(a->memory, b->memory, sizeof a->memory) == 0 && memcmp(a->buffer, b->buffer, sizeof a->buffer) == 0;
+}
+
+/* The masters that hold an unmapped transfer (rule 3.7), bit m for master m: of a board and a state that no rule refuses. */
+static uint32_t unmapped(const struct lent *l)
+{
+    uint32_t masters = 0;
+
+    for (uint32_t m = 0; m < l->board.master_count; m++) {
+        uint32_t selected = 0;
+
+        for (uint32_t s = 0; s < l->board.slave_count; s++)
+            selected += l->board.shares[m][s] != 0
+                        && (l->state.transfer[m].address & ~(l->board.slave[s].span - 1)) == l->board.slave[s].base;
+        if (l->state.transfer[m].held != 0 && selected == 0)
+            masters |= 1u << m;
+    }
+    return masters;
 }
 
 static uint32_t read_text(const char *text, size_t length, struct fabric_board *board)
@@ -153,32 +217,74 @@ static uint32_t clock_lent(struct lent *l, size_t memory_length, size_t buffer_l
     uint8_t *memory = (uint8_t *)lend(l->memory, memory_length);
     uint8_t *buffer = (uint8_t *)lend(l->buffer, buffer_length);
     struct fabric_lines *lines = (struct fabric_lines *)lend(&l->lines, sizeof l->lines);
+    uint32_t *responses = (uint32_t *)lend(l->responses, sizeof l->responses);
     uint32_t *mask = (uint32_t *)lend(&l->mask, sizeof l->mask);
     uint32_t *clocks = (uint32_t *)lend(&l->clocks, sizeof l->clocks);
     uint32_t number;
 
     if (most == ONE_CLOCK)
-        number = fabric_clock(board, state, memory, memory_length, buffer, buffer_length, lines, mask);
+        number = fabric_clock(board, state, memory, memory_length, buffer, buffer_length, lines, responses, mask);
     else
-        number = fabric_run(board, state, memory, memory_length, buffer, buffer_length, lines, (uint32_t)most, clocks, mask);
+        number = fabric_run(board, state, memory, memory_length, buffer, buffer_length, lines, responses, (uint32_t)most, clocks,
+                            mask);
     take_back(&l->board, board, sizeof l->board);
     take_back(&l->state, state, sizeof l->state);
     take_back(l->memory, memory, memory_length);
     take_back(l->buffer, buffer, buffer_length);
     take_back(&l->lines, lines, sizeof l->lines);
+    take_back(l->responses, responses, sizeof l->responses);
     take_back(&l->mask, mask, sizeof l->mask);
     take_back(&l->clocks, clocks, sizeof l->clocks);
     return number;
 }
 
+/*
+ * The responses of a clock or a run that is taken: 3 for each master that held an unmapped transfer before it, which its first
+ * clock finishes, else 0 (rules 4.13 and 4.17).
+ */
+static void check_responses(const struct lent *l, uint32_t unmapped_before)
+{
+    for (uint32_t m = 0; m < FABRIC_MASTERS; m++)
+        check_number("a response", l->responses[m], (unmapped_before >> m & 1) != 0 ? FABRIC_DECODE_ERROR : FABRIC_OKAY);
+    check("a master with response 3 is finished", (unmapped_before & ~l->mask) == 0);
+    check("behind a clock no unmapped transfer is held", unmapped(l) == 0);
+}
+
 static uint32_t clock_once(struct lent *l)
 {
-    return clock_lent(l, sizeof l->memory, sizeof l->buffer, ONE_CLOCK);
+    struct lent before = *l;
+    uint32_t number = clock_lent(l, sizeof l->memory, sizeof l->buffer, ONE_CLOCK);
+
+    if (number == FABRIC_TAKEN)
+        check_responses(l, unmapped(&before));
+    return number;
 }
 
 static uint32_t run(struct lent *l, uint32_t most)
 {
-    return clock_lent(l, sizeof l->memory, sizeof l->buffer, most);
+    struct lent before = *l;
+    uint32_t number = clock_lent(l, sizeof l->memory, sizeof l->buffer, most);
+
+    if (number == FABRIC_TAKEN && most > 0) {
+        check_responses(l, unmapped(&before));
+        check("a run ends with the first clock where that has a response of 3", unmapped(&before) == 0 || l->clocks == 1);
+    }
+    if (number == FABRIC_TAKEN && most == 0)
+        check("no clock answers 0, and changes nothing", answers_none(l) && same_lent(l, &before) && l->clocks == 0);
+    return number;
+}
+
+static uint32_t take(struct lent *l)
+{
+    struct fabric_board *board = (struct fabric_board *)lend(&l->board, sizeof l->board);
+    struct fabric_state *state = (struct fabric_state *)lend(&l->state, sizeof l->state);
+    struct fabric_entry *entry = (struct fabric_entry *)lend(&l->entry, sizeof l->entry);
+    uint32_t number = fabric_take(board, state, entry);
+
+    take_back(&l->board, board, sizeof l->board);
+    take_back(&l->state, state, sizeof l->state);
+    take_back(&l->entry, entry, sizeof l->entry);
+    return number;
 }
 
 /* A reading that is refused leaves the board, and the line to blame or the master without a share line is named (rule 8.3). */
@@ -307,6 +413,48 @@ static void unordered_texts(void)
     refuses_texts("the order of share lines", texts, sizeof texts / sizeof texts[0]);
 }
 
+#define THREE_SHARES "share,0,0,1\nshare,1,0,1\nshare,2,0,1\n"
+#define WITHOUT MASTERS SLAVE THREE_SHARES
+
+/* The line `default` (rules 1.3 and 1.4): once, behind all others. A line behind it is judged for its form, then for its place. */
+static void default_texts(void)
+{
+    static const struct judged_text texts[] = {
+        {WITHOUT "default\n", FABRIC_TAKEN, 0},
+        {WITHOUT "default\ndefault\n", FABRIC_BAD_ORDER, 9},
+        {"default\n", FABRIC_BAD_ORDER, 1},
+        {"default\n" WITHOUT, FABRIC_BAD_ORDER, 1},
+        {MASTERS "default\n", FABRIC_BAD_ORDER, 4},
+        {MASTERS "default\n" SLAVE THREE_SHARES, FABRIC_BAD_ORDER, 4},
+        {MASTERS SLAVE "default\n" THREE_SHARES, FABRIC_BAD_ORDER, 6},
+        {MASTERS SLAVE "default\nslave,64,64,2,1,0,0,0,0\n" THREE_SHARES, FABRIC_BAD_ORDER, 6},
+        {WITHOUT "default\nmaster,4,8\n", FABRIC_BAD_ORDER, 9},
+        {WITHOUT "default\nslave,64,64,2,1,0,0,0,0\n", FABRIC_BAD_ORDER, 9},
+        {WITHOUT "default\nslave,1,2,3,4,256,256,2,64\n", FABRIC_BAD_ORDER, 9},
+        {WITHOUT "default\nshare,0,0,1\n", FABRIC_BAD_ORDER, 9},
+        {WITHOUT "default\nshare,9,99,101\n", FABRIC_BAD_ORDER, 9},
+        {MASTERS SLAVE "share,0,0,1\ndefault\nshare,1,0,1\n", FABRIC_BAD_ORDER, 7},
+        {WITHOUT "default\n\n", FABRIC_BAD_TEXT, 9},
+        {WITHOUT "default\nshare,0,0\n", FABRIC_BAD_TEXT, 9},
+        {WITHOUT "default\ndefault,1\n", FABRIC_BAD_TEXT, 9},
+        {WITHOUT "default\ndefault", FABRIC_BAD_TEXT, 9},
+        {WITHOUT "default,1\n", FABRIC_BAD_TEXT, 8},
+        {WITHOUT "default,0\n", FABRIC_BAD_TEXT, 8},
+        {WITHOUT "default,\n", FABRIC_BAD_TEXT, 8},
+        {WITHOUT "default", FABRIC_BAD_TEXT, 8},
+        {WITHOUT "defaults\n", FABRIC_BAD_TEXT, 8},
+        {WITHOUT "defaul\n", FABRIC_BAD_TEXT, 8},
+        {WITHOUT "Default\n", FABRIC_BAD_TEXT, 8},
+        {WITHOUT "default \n", FABRIC_BAD_TEXT, 8},
+        {WITHOUT "default\r\n", FABRIC_BAD_TEXT, 8},
+        {MASTERS "default,1\n", FABRIC_BAD_TEXT, 4},
+    };
+
+    refuses_texts("the line default", texts, sizeof texts / sizeof texts[0]);
+    names_master("the line default and no share line", MASTERS SLAVE "default\n", 0);
+    names_master("the line default and no share line of the second", MASTERS SLAVE "share,0,0,1\nshare,2,0,1\ndefault\n", 1);
+}
+
 /* The lowest master of so many that a set, bit m for master m, does not have; their count where it has all. */
 static uint32_t lowest_without(uint32_t set, uint32_t count)
 {
@@ -367,6 +515,7 @@ static void board_read(void)
     check("the masters read", memcmp(board.master, masters, sizeof masters) == 0);
     check("the slaves read", memcmp(board.slave, slaves, sizeof slaves) == 0);
     check("the shares read", memcmp(board.shares, shares, sizeof shares) == 0);
+    check_number("no line default", board.default_line, 0);
     memset(&fresh, 0, sizeof fresh);
     fresh.board = board;
     for (size_t i = 0; i < sizeof fresh.memory; i++)
@@ -381,24 +530,48 @@ static void board_read(void)
     fresh.state.slot[0].owner = fresh.state.slot[1].owner = 1;
 }
 
-/* A refused clock and a refused run of clocks: all lent is as it was, and lines, mask and clocks are 0. */
+/* The same board with the line `default` in its text has the mark, 1, and else the same numbers and the same state. */
+static void default_read(void)
+{
+    char text[sizeof description + 8];
+
+    sprintf(text, "%sdefault\n", description);
+    tried = fresh;
+    memset(&tried.board, 0xa5, sizeof tried.board);
+    check_number("reading the line default", read_text(text, strlen(text), &tried.board), FABRIC_TAKEN);
+    check_number("the line default", tried.board.default_line, 1);
+    memset(&tried.state, 0xa5, sizeof tried.state);
+    check_number("reset with the line default", reset(&tried), FABRIC_TAKEN);
+    tried.board.default_line = 0;
+    check("nothing else is another", same_lent(&tried, &fresh));
+}
+
+/* A refused clock and a refused run of clocks: all lent is as it was, and lines, responses, mask and clocks are 0. */
 static void refuses_clock(const char *name, uint32_t due)
 {
     uint32_t most[3] = {0, 1, 5};
 
-    memset(&tried.lines, 0xa5, sizeof tried.lines);
-    tried.mask = 0xa5;
+    spoil_answer(&tried);
     other = tried;
     check_number(name, clock_once(&tried), due);
-    check(name, same_lent(&tried, &other) && all_zero(&tried.lines, sizeof tried.lines) && tried.mask == 0);
+    check(name, same_lent(&tried, &other) && answers_none(&tried));
     for (size_t i = 0; i < 3; i++) {
         tried = other;
         tried.clocks = 0xa5;
         check_number(name, run(&tried, most[i]), due);
-        check(name, same_lent(&tried, &other) && all_zero(&tried.lines, sizeof tried.lines) && tried.mask == 0);
+        check(name, same_lent(&tried, &other) && answers_none(&tried));
         check(name, tried.clocks == 0);
     }
     tried = other;
+}
+
+/* A refused take: all lent is as it was, and the entry is 0. */
+static void refuses_take(const char *name, uint32_t due)
+{
+    memset(&tried.entry, 0xa5, sizeof tried.entry);
+    other = tried;
+    check_number(name, take(&tried), due);
+    check(name, same_lent(&tried, &other) && all_zero(&tried.entry, sizeof tried.entry));
 }
 
 static void refuses_post(const char *name, uint32_t due, uint32_t master, uint32_t write, uint32_t address, uint32_t lanes,
@@ -420,6 +593,7 @@ static void refuses_board(const char *name, uint32_t *number, uint32_t value, ui
     check(name, same_lent(&tried, &other));
     refuses_post(name, due, 0, 0, 4096, 15, 1, 0);
     refuses_clock(name, due);
+    refuses_take(name, due);
     *number = before;
 }
 
@@ -560,7 +734,7 @@ static void unshared_counts(void)
         refuses_board("one of 8 masters without shares", &tried.board.shares[m][m < 2 ? 0 : m % 2], 0, FABRIC_NO_SHARE);
 }
 
-/* One number of the state is another: neither a post nor a clock takes the state. */
+/* One number of the state is another: no post, no clock and no take takes the state. */
 static void refuses_state(const char *name, uint32_t *number, uint32_t value)
 {
     uint32_t before = *number;
@@ -568,6 +742,7 @@ static void refuses_state(const char *name, uint32_t *number, uint32_t value)
     *number = value;
     refuses_post(name, FABRIC_BAD_STATE, 1, 0, 4096, 3, 1, 0);
     refuses_clock(name, FABRIC_BAD_STATE);
+    refuses_take(name, FABRIC_BAD_STATE);
     *number = before;
 }
 
@@ -672,7 +847,7 @@ static void posts(void)
     refuses_post("a transfer held, marked 2", FABRIC_HELD, 0, 0, 4096, 15, 1, 0);
 }
 
-/* Clocks of lent blocks of these lengths are refused: all lent is as it was, and lines, mask and clocks are 0. */
+/* Clocks of lent blocks of these lengths are refused: all lent is as it was, and lines, responses, mask and clocks are 0. */
 static void refuses_lengths(const char *name, uint32_t due, size_t memory, size_t buffer)
 {
     uint64_t most[2] = {ONE_CLOCK, 9};
@@ -680,10 +855,10 @@ static void refuses_lengths(const char *name, uint32_t due, size_t memory, size_
     other = tried;
     for (size_t i = 0; i < 2; i++) {
         tried = other;
-        memset(&tried.lines, 0xa5, sizeof tried.lines);
-        tried.mask = tried.clocks = 0xa5;
+        spoil_answer(&tried);
+        tried.clocks = 0xa5;
         check_number(name, clock_lent(&tried, memory, buffer, most[i]), due);
-        check(name, same_lent(&tried, &other) && all_zero(&tried.lines, sizeof tried.lines) && tried.mask == 0);
+        check(name, same_lent(&tried, &other) && answers_none(&tried));
         check(name, most[i] == ONE_CLOCK || tried.clocks == 0);
     }
     tried = other;
@@ -937,7 +1112,607 @@ static void late_together(void)
     check("no count is left", all_zero(tried.state.late, sizeof tried.state.late));
 }
 
-/* Both of two that are the same post a master's transfer number i; lengths, kinds and addresses go by turns. */
+/* The marks that are yes, whatever their number (rules 1.10 and 2.4). */
+static const uint32_t yes[] = {1, 2, 256, UINT32_C(0x80000000), UINT32_MAX};
+#define YES_COUNT (sizeof yes / sizeof yes[0])
+
+/* An address between the slaves; slave 0 ends in front of it. */
+#define HOLE 8192
+
+/* Without the mark an unmapped post is refused with 16; with it, whichever number it is, the post is taken and answered. */
+static void default_marks(void)
+{
+    tried = fresh;
+    refuses_post("an address of no slave without the mark", FABRIC_NOT_CONNECTED, 0, 0, HOLE, 15, 1, 0);
+    for (size_t i = 0; i < YES_COUNT; i++) {
+        tried = fresh;
+        tried.board.default_line = yes[i];
+        memset(&tried.state, 0xa5, sizeof tried.state);
+        check_number("reset with the mark", reset(&tried), FABRIC_TAKEN);
+        check("the state is as without it", memcmp(&tried.state, &fresh.state, sizeof tried.state) == 0);
+        check_number("a post to no slave with the mark", post(&tried, 0, 0, HOLE, 15, 1, 0), FABRIC_TAKEN);
+        check_number("a post to a slave that is not connected", post(&tried, 1, yes[i], 0, 3, 1, 2), FABRIC_TAKEN);
+        check_number("the clock that answers them", clock_once(&tried), FABRIC_TAKEN);
+        check("both are finished", tried.mask == 3 && tried.state.log.count == 2);
+        check("the log has a read and a write", tried.state.log.entry[0].write == 0 && tried.state.log.entry[1].write != 0);
+        check_number("a take with the mark", take(&tried), FABRIC_TAKEN);
+    }
+}
+
+/* The mark is judged by no refusal of a board, and moves none. */
+static void default_boards(void)
+{
+    tried = fresh;
+    tried.board.default_line = UINT32_MAX;
+    refuses_board("no slave, with the line default", &tried.board.slave_count, 0, FABRIC_BAD_ORDER);
+    refuses_board("no master, with the line default", &tried.board.master_count, 0, FABRIC_BAD_ORDER);
+    refuses_board("a read wait of 256, with the line default", &tried.board.slave[0].read_wait, 256, FABRIC_BAD_VALUE);
+    refuses_board("a base of 32, with the line default", &tried.board.slave[1].base, 32, FABRIC_BAD_BASE);
+    refuses_board("a base in another slave, with the line default", &tried.board.slave[1].base, 4160, FABRIC_OVERLAP);
+    refuses_board("shares of no slave, with the line default", &tried.board.shares[0][2], 1, FABRIC_BAD_SHARE);
+    refuses_board("no shares of master 1, with the line default", &tried.board.shares[1][0], 0, FABRIC_NO_SHARE);
+    tried.board.slave[1].native = 1;
+    refuses_board("a narrower master, with the line default", &tried.board.shares[1][1], 1, FABRIC_TOO_NARROW);
+}
+
+/* An unmapped post is judged for 11 to 15 and 18, in that order, and for no 16 and 17; a mapped one as ever (rule 3.7). */
+static void unmapped_posts(void)
+{
+    tried = fresh;
+    tried.board.default_line = 1;
+    refuses_post("master 2, unmapped", FABRIC_NO_MASTER, 2, 0, HOLE, 15, 1, 0);
+    refuses_post("no beats, unmapped", FABRIC_BAD_BEATS, 0, 0, HOLE, 15, 0, 0);
+    refuses_post("9 beats, unmapped", FABRIC_BAD_BEATS, 0, 0, HOLE, 15, 9, 0);
+    refuses_post("257 beats, unmapped", FABRIC_BAD_BEATS, 0, 0, HOLE, 15, 257, 0);
+    refuses_post("no beats before the address, unmapped", FABRIC_BAD_BEATS, 0, 1, HOLE + 2, 0, 0, 1);
+    refuses_post("an address of no whole word, unmapped", FABRIC_BAD_ADDRESS, 0, 0, HOLE + 2, 15, 1, 0);
+    refuses_post("the highest address", FABRIC_BAD_ADDRESS, 0, 0, UINT32_MAX, 15, 1, 0);
+    refuses_post("the address before lanes, unmapped", FABRIC_BAD_ADDRESS, 0, 1, HOLE + 2, 0, 1, 1);
+    refuses_post("lanes of 0, unmapped", FABRIC_BAD_LANES, 0, 0, HOLE, 0, 1, 0);
+    refuses_post("lanes of 6, unmapped", FABRIC_BAD_LANES, 0, 0, HOLE, 6, 1, 0);
+    refuses_post("lanes of 256, unmapped", FABRIC_BAD_LANES, 0, 0, HOLE, 256, 1, 0);
+    refuses_post("lanes of 271, unmapped", FABRIC_BAD_LANES, 0, 0, HOLE, 271, 1, 0);
+    refuses_post("a burst with lanes of 3, unmapped", FABRIC_BAD_LANES, 0, 0, HOLE, 3, 2, 0);
+    refuses_post("lanes before words, unmapped", FABRIC_BAD_LANES, 0, 1, HOLE, 6, 1, 1);
+    refuses_post("a write without words, unmapped", FABRIC_BAD_WORDS, 0, 1, HOLE, 15, 1, 0);
+    refuses_post("a write with a byte less, unmapped", FABRIC_BAD_WORDS, 0, 1, HOLE, 15, 2, 7);
+    refuses_post("a write with a byte more, unmapped", FABRIC_BAD_WORDS, 0, 1, HOLE, 15, 1, 5);
+    refuses_post("a read with words, unmapped", FABRIC_BAD_WORDS, 0, 0, HOLE, 15, 1, 4);
+    refuses_post("words of a burst that reaches a slave", FABRIC_BAD_WORDS, 0, 1, 4092, 15, 8, 31);
+    refuses_post("a burst past a slave's end, with the mark", FABRIC_PAST_END, 0, 0, 8188, 15, 2, 0);
+    refuses_post("the end before words, with the mark", FABRIC_PAST_END, 0, 1, 8188, 15, 2, 0);
+    check_number("a post with no buffer, unmapped", post_lent(&tried, 0, 0, 1, HOLE, 15, 1, 4), FABRIC_BAD_LENGTH);
+    check_number("an unmapped read", post(&tried, 0, 0, HOLE, 15, 8, 0), FABRIC_TAKEN);
+    refuses_post("a second transfer, unmapped", FABRIC_HELD, 0, 0, HOLE, 15, 1, 0);
+    refuses_post("a second transfer", FABRIC_HELD, 0, 0, 4096, 15, 1, 0);
+}
+
+/* An entry that no transfer here makes, with numbers that fewer bits do not hold; i tells it from others. */
+static struct fabric_entry odd_entry(uint32_t i)
+{
+    struct fabric_entry e = {UINT32_C(0x1000100) * (i + 1), UINT32_MAX - i, i % 3 == 0 ? 0 : yes[i % YES_COUNT]};
+
+    return e;
+}
+
+/* Puts so many entries into the log of `tried`; the places behind them have numbers too, which do not count. */
+static void fill_log(uint32_t count, uint32_t lost)
+{
+    tried.state.log.count = count;
+    tried.state.log.lost = lost;
+    for (uint32_t i = 0; i < FABRIC_LOG_ENTRIES; i++)
+        tried.state.log.entry[i] = odd_entry(i);
+}
+
+/* Enters a transfer into the log of `expected` (rule 4.18). */
+static void enter_expected(uint32_t m, uint32_t address, uint32_t write)
+{
+    struct fabric_log *log = &expected.state.log;
+    struct fabric_entry e = {m, address, one_if(write)};
+
+    if (log->count == FABRIC_LOG_ENTRIES)
+        log->lost = 1;
+    else
+        log->entry[log->count++] = e;
+}
+
+/*
+ * Master m posts an unmapped transfer: it is held, and a write's words are in the buffer. The clock behind finishes it: of a read
+ * the bytes of its words become 0, the log has it, no slave shows it, and nothing else is changed (rules 4.17 and 4.18).
+ */
+static void answers(const char *name, uint32_t m, uint32_t write, uint32_t address, uint32_t lanes, uint32_t beats)
+{
+    uint32_t length = beats * tried.board.master[m].width;
+    struct fabric_transfer t = {1, one_if(write), address, lanes, beats};
+    struct fabric_transfer none = {0, 0, 0, 0, 0};
+
+    expected = tried;
+    expected.state.transfer[m] = t;
+    if (write != 0)
+        memcpy(expected.buffer + FABRIC_PART_BYTES * m, words, length);
+    check_number(name, post(&tried, m, write, address, lanes, beats, write != 0 ? length : 0), FABRIC_TAKEN);
+    check(name, same_marked(&tried, &expected));
+    expected.state.transfer[m] = none;
+    enter_expected(m, address, write);
+    if (write == 0)
+        memset(expected.buffer + FABRIC_PART_BYTES * m, 0, length);
+    spoil_answer(&tried);
+    check_number(name, clock_once(&tried), FABRIC_TAKEN);
+    check(name, same_marked(&tried, &expected));
+    check_number(name, tried.mask, 1u << m);
+    check(name, all_zero(&tried.lines, sizeof tried.lines));
+}
+
+/* The fresh board with the mark, a buffer without a 0, and entries in the log. */
+static void set_unmapped(uint32_t entries)
+{
+    tried = fresh;
+    tried.board.default_line = yes[entries % YES_COUNT];
+    memset(tried.buffer, 0xa5, sizeof tried.buffer);
+    fill_log(entries, entries % 2);
+}
+
+/* Addresses in front of the slaves and behind them, and in a slave that is not connected, with the log at every count. */
+static void unmapped_transfers(void)
+{
+    static const uint32_t addresses[] = {64, 2048, HOLE, 65536, UINT32_C(0x80000000), UINT32_C(0x80001000), UINT32_C(0xfffffff8)};
+
+    for (uint32_t entries = 0; entries <= FABRIC_LOG_ENTRIES; entries++) {
+        for (size_t i = 0; i < sizeof addresses / sizeof addresses[0]; i++) {
+            set_unmapped(entries);
+            answers("an unmapped read of a word", 0, 0, addresses[i], 15, 1);
+            answers("an unmapped write of a word", 0, 1, addresses[i], 15, 1);
+            answers("an unmapped read of 8 words", 0, 0, addresses[i], 15, 8);
+            answers("an unmapped write of 8 words", 0, yes[i % YES_COUNT], addresses[i], 15, 8);
+            answers("an unmapped read of master 1", 1, 0, addresses[i], 3, 1);
+            answers("an unmapped write of master 1", 1, 1, addresses[i], 3, 1);
+        }
+        set_unmapped(entries);
+        answers("a read of a slave that is not connected", 1, 0, 0, 3, 1);
+        answers("a write to a slave that is not connected", 1, 1, 62, 3, 1);
+    }
+}
+
+/* Bursts that begin at no slave and reach into one, slave 1 from the top of all addresses on: how far is not asked (rule 3.7). */
+static void unmapped_reaching(void)
+{
+    for (uint32_t beats = 1; beats <= 8; beats++) {
+        for (uint32_t word = 1; word <= 8; word++) {
+            set_unmapped(beats);
+            answers("a read that reaches into slave 0", 0, 0, 4096 - 4 * word, 15, beats);
+            answers("a write that reaches into slave 0", 0, 1, 4096 - 4 * word, 15, beats);
+            answers("a read that passes the highest address", 0, 0, 0u - 4 * word, 15, beats);
+            answers("a write that passes the highest address", 0, 1, 0u - 4 * word, 15, beats);
+        }
+    }
+}
+
+/* A read brings all lanes, whichever it names (rule 3.5): all bytes of its word become 0. */
+static void unmapped_lanes(void)
+{
+    static const uint32_t lanes[] = {1, 2, 4, 8, 3, 12, 15};
+
+    for (size_t i = 0; i < sizeof lanes / sizeof lanes[0]; i++) {
+        set_unmapped((uint32_t)i);
+        answers("an unmapped read with some of the lanes", 0, 0, HOLE, lanes[i], 1);
+        answers("an unmapped write with some of the lanes", 0, 1, HOLE, lanes[i], 1);
+    }
+}
+
+/* An unmapped transfer that is held (rule 7.9): 13 to 15 are judged, it has no latency clocks, and the board has the mark. */
+static void unmapped_state(uint32_t write)
+{
+    static const uint32_t counts[] = {1, 2, 63, 64, 256, UINT32_MAX};
+    struct fabric_transfer *t = &tried.state.transfer[0];
+
+    tried = fresh;
+    tried.board.default_line = 1;
+    tried.board.slave[0].latency = tried.board.slave[1].latency = 63;
+    check_number("an unmapped transfer to be held", post(&tried, 0, write, HOLE, 15, 1, write != 0 ? 4 : 0), FABRIC_TAKEN);
+    fill_log(3, 0);
+    for (size_t i = 0; i < sizeof counts / sizeof counts[0]; i++)
+        refuses_state("latency clocks of an unmapped transfer", &tried.state.late[0], counts[i]);
+    refuses_state("an unmapped transfer of 0 beats", &t->beats, 0);
+    refuses_state("an unmapped transfer of 9 beats", &t->beats, 9);
+    refuses_state("an unmapped transfer of no whole word", &t->address, HOLE + 2);
+    refuses_state("an unmapped transfer with lanes of 6", &t->lanes, 6);
+    refuses_state("an unmapped transfer with lanes of 256", &t->lanes, 256);
+    tried.state.slot[0].owner = 0;
+    refuses_state("a slave that serves an unmapped transfer", &tried.state.slot[0].serving, 1);
+    refuses_state("an unmapped transfer without the mark", &tried.board.default_line, 0);
+    tried.state.transfer[2] = *t;
+    tried.state.transfer[2].held = 0;
+    refuses_state("an unmapped transfer of no master", &tried.state.transfer[2].held, 1);
+    for (size_t i = 0; i < YES_COUNT; i++) {
+        expected = tried;
+        tried.board.default_line = t->held = yes[i];
+        t->write = write != 0 ? yes[i] : 0;
+        check_number("an unmapped transfer with the mark", clock_once(&tried), FABRIC_TAKEN);
+        check("it is finished, and in the log", tried.mask == 1 && tried.state.log.count == 4);
+        check("with its direction", one_if(tried.state.log.entry[3].write) == one_if(write));
+        tried = expected;
+    }
+}
+
+static void unmapped_states(void)
+{
+    unmapped_state(0);
+    unmapped_state(1);
+}
+
+/* A clock in which master 0 is answered and slave 0 carries out a write of master 1: neither is part of the other. */
+static void unmapped_beside(void)
+{
+    set_unmapped(0);
+    check_number("a write beside it", post(&tried, 1, 1, 4098, 3, 1, 2), FABRIC_TAKEN);
+    check_number("an unmapped read beside a write", post(&tried, 0, 0, 4092, 15, 3, 0), FABRIC_TAKEN);
+    expected = tried;
+    memcpy(expected.memory + 2, words, 2);
+    memset(expected.buffer, 0, 12);
+    memset(expected.state.transfer, 0, sizeof expected.state.transfer);
+    expected.state.slot[0].remaining = 2;
+    enter_expected(0, 4092, 0);
+    check_number("the clock of both", clock_once(&tried), FABRIC_TAKEN);
+    check("both are done in it", same_marked(&tried, &expected));
+    check_number("both are finished", tried.mask, 3);
+    check_number("with a response of 3 for one", tried.responses[0], FABRIC_DECODE_ERROR);
+    check_number("and of 0 for the other", tried.responses[1], FABRIC_OKAY);
+    check("the slave shows the write", tried.lines.line[0].phase == FABRIC_ACCESS && tried.lines.line[0].owner == 1);
+}
+
+/* A master that is answered requests no slave: a grant that remains to it is lost, as where it holds nothing (rule 4.3). */
+static void unmapped_grants(void)
+{
+    set_unmapped(0);
+    check_number("a write that leaves a grant", post(&tried, 0, 1, 4096, 3, 1, 4), FABRIC_TAKEN);
+    check_number("its clock", clock_once(&tried), FABRIC_TAKEN);
+    check("a grant remains", tried.mask == 1 && tried.state.slot[0].owner == 0 && tried.state.slot[0].remaining == 1);
+    check_number("an unmapped write behind it", post(&tried, 0, 1, HOLE, 15, 1, 4), FABRIC_TAKEN);
+    check_number("the clock that answers it", clock_once(&tried), FABRIC_TAKEN);
+    check("with it the grant is lost", tried.state.slot[0].owner == 0 && tried.state.slot[0].remaining == 0);
+}
+
+/* Latency clocks of master 1 pass beside unmapped transfers of master 0; with the last of them both are finished. */
+static void unmapped_late(void)
+{
+    set_unmapped(0);
+    tried.board.slave[0].latency = 3;
+    check_number("a read with latency", post(&tried, 1, 0, 4098, 3, 1, 0), FABRIC_TAKEN);
+    check_number("its two clocks", run(&tried, 2), FABRIC_TAKEN);
+    check_number("its latency clocks", tried.state.late[1], 3);
+    for (uint32_t left = 3; left > 0; left--) {
+        check_number("an unmapped transfer meanwhile", post(&tried, 0, left % 2, HOLE, 15, 1, left % 2 == 0 ? 0 : 4), FABRIC_TAKEN);
+        check_number("its clock", clock_once(&tried), FABRIC_TAKEN);
+        check_number("a latency clock has passed", tried.state.late[1], left - 1);
+        check_number("who is finished", tried.mask, left == 1 ? 3 : 1);
+    }
+    check("the read has its bytes", memcmp(tried.buffer + FABRIC_PART_BYTES, fresh.memory + 2, 2) == 0);
+    check_number("three entries", tried.state.log.count, 3);
+}
+
+/* A run of clocks stops where an unmapped transfer is finished, however long another one takes; no clock answers nothing. */
+static void unmapped_runs(void)
+{
+    static const uint32_t most[] = {1, 2, 1000, UINT32_MAX};
+
+    for (size_t i = 0; i < sizeof most / sizeof most[0]; i++) {
+        set_unmapped(8);
+        check_number("a long read", post(&tried, 0, 0, 4096, 15, 8, 0), FABRIC_TAKEN);
+        check_number("its first clocks", run(&tried, 5), FABRIC_TAKEN);
+        check_number("an unmapped read beside it", post(&tried, 1, 0, HOLE, 3, 1, 0), FABRIC_TAKEN);
+        spoil_answer(&tried);
+        check_number("a run of no clock", run(&tried, 0), FABRIC_TAKEN);
+        check_number("a run that ends with the response", run(&tried, most[i]), FABRIC_TAKEN);
+        check("it is one clock", tried.clocks == 1 && tried.mask == 2 && tried.responses[1] == FABRIC_DECODE_ERROR);
+        check("the transfer is dropped, and the log marked lost", tried.state.log.count == 8 && tried.state.log.lost != 0);
+        check_number("the run behind it", run(&tried, 1000), FABRIC_TAKEN);
+        check("it is the rest of the read", tried.clocks == 26 && tried.mask == 1);
+    }
+}
+
+/* Counts of the log (rule 7.9): nine and more are refused, by every call that is lent a state but a reset. */
+static void log_counts(void)
+{
+    static const uint32_t over[] = {9, 10, 255, 256, 264, 65536, UINT32_C(0x80000000), UINT32_MAX};
+
+    for (uint32_t mark = 0; mark < 2; mark++) {
+        for (size_t i = 0; i < sizeof over / sizeof over[0]; i++) {
+            tried = fresh;
+            tried.board.default_line = mark;
+            refuses_state("a log of more than eight entries", &tried.state.log.count, over[i]);
+            fill_log(over[i], 1);
+            refuses_lengths("the memory's length before the log", FABRIC_BAD_LENGTH, 0, sizeof tried.buffer);
+            refuses_post("the log before no such master", FABRIC_BAD_STATE, 2, 0, 4096, 15, 1, 0);
+            check_number("a reset with such a log", reset(&tried), FABRIC_TAKEN);
+            check("it leaves none", memcmp(&tried.state, &fresh.state, sizeof tried.state) == 0);
+        }
+        for (uint32_t count = 0; count <= FABRIC_LOG_ENTRIES; count++) {
+            tried = fresh;
+            tried.board.default_line = mark;
+            fill_log(count, yes[count % YES_COUNT]);
+            expected = tried;
+            check_number("a run of no clock with a log", run(&tried, 0), FABRIC_TAKEN);
+            check_number("a clock with a log", clock_once(&tried), FABRIC_TAKEN);
+            check("it leaves the log", same_marked(&tried, &expected));
+            check_number("a post with a log", post(&tried, 0, 0, 4096, 15, 1, 0), FABRIC_TAKEN);
+            expected.state.transfer[0] = tried.state.transfer[0];
+            check("it leaves the log too", same_marked(&tried, &expected));
+            check_number("a take, by the count", take(&tried), count == 0 ? FABRIC_EMPTY_LOG : FABRIC_TAKEN);
+        }
+    }
+}
+
+/* A board of 8 masters, all at slave 0, with the mark. */
+static void set_eight(void)
+{
+    tried = fresh;
+    tried.board.default_line = 1;
+    tried.board.master_count = FABRIC_MASTERS;
+    for (uint32_t m = 2; m < FABRIC_MASTERS; m++) {
+        tried.board.master[m] = tried.board.master[0];
+        tried.board.shares[m][0] = m;
+    }
+    check_number("reset of 8 masters", reset(&tried), FABRIC_TAKEN);
+    memset(tried.buffer, 0xa5, sizeof tried.buffer);
+}
+
+/* The masters of a set hold an unmapped transfer each, read or write by turns; `expected` is what a clock leaves of it all. */
+static void hold_unmapped(uint32_t set)
+{
+    expected = tried;
+    for (uint32_t m = 0; m < FABRIC_MASTERS; m++) {
+        uint32_t width = tried.board.master[m].width;
+        struct fabric_transfer t = {1, (m + set) % 2, HOLE + 64 * m, (1u << width) - 1, 1};
+
+        if ((set >> m & 1) == 0)
+            continue;
+        tried.state.transfer[m] = t;
+        enter_expected(m, t.address, t.write);
+        if (t.write == 0)
+            memset(expected.buffer + FABRIC_PART_BYTES * m, 0, width);
+    }
+}
+
+/*
+ * Every set of masters that are answered in one clock, with the log at every count: entered by master number behind the entries
+ * that stand, and dropped from the ninth on. The places behind stay, number for number (rules 2.4 and 4.18).
+ */
+static void log_entries(void)
+{
+    static struct lent eight;
+
+    set_eight();
+    eight = tried;
+    for (uint32_t i = 0; i < 256 * (FABRIC_LOG_ENTRIES + 1); i++) {
+        uint32_t set = i % 256, count = i / 256, behind;
+
+        tried = eight;
+        fill_log(count, set % 3 == 0 ? yes[set % YES_COUNT] : 0);
+        hold_unmapped(set);
+        check_number("a clock of several unmapped transfers", clock_once(&tried), FABRIC_TAKEN);
+        check_number("all are finished", tried.mask, set);
+        check_number("the count of the log", tried.state.log.count, expected.state.log.count);
+        check("the lost mark", (tried.state.log.lost != 0) == (expected.state.log.lost != 0));
+        check("the log and all else", same_marked(&tried, &expected));
+        behind = expected.state.log.count;
+        check("the places behind the count are left",
+              memcmp(&tried.state.log.entry[behind], &expected.state.log.entry[behind],
+                     (FABRIC_LOG_ENTRIES - behind) * sizeof tried.entry)
+                  == 0);
+    }
+}
+
+/* A lost mark stays through clocks and takes, and goes with a reset; a take makes space for one transfer. */
+static void log_restarts(void)
+{
+    set_eight();
+    hold_unmapped(255);
+    check_number("a clock that fills the log", clock_once(&tried), FABRIC_TAKEN);
+    check("it is full, and nothing is lost", tried.state.log.count == 8 && tried.state.log.lost == 0);
+    hold_unmapped(1);
+    check_number("a clock with a full log", clock_once(&tried), FABRIC_TAKEN);
+    check("it is marked lost", same_marked(&tried, &expected) && tried.state.log.lost != 0);
+    for (uint32_t i = 0; i < FABRIC_LOG_ENTRIES; i++) {
+        check_number("a take from it", take(&tried), FABRIC_TAKEN);
+        check("by master number", tried.entry.master == i && tried.entry.address == HOLE + 64 * i);
+        check_number("the direction", tried.entry.write, (i + 255) % 2);
+        check("the lost mark stays", tried.state.log.lost != 0);
+        hold_unmapped(4);
+        check_number("a clock with space for one", clock_once(&tried), FABRIC_TAKEN);
+        check("it is entered", same_marked(&tried, &expected) && tried.state.log.count == 8);
+    }
+    for (uint32_t i = 0; i < FABRIC_LOG_ENTRIES; i++)
+        check_number("a take without a clock behind it", take(&tried), FABRIC_TAKEN);
+    refuses_take("a take from a log that is empty again", FABRIC_EMPTY_LOG);
+    check("the lost mark stays with an empty log", tried.state.log.lost != 0);
+    check_number("a reset", reset(&tried), FABRIC_TAKEN);
+    check("it takes the lost mark off", all_zero(&tried.state.log, sizeof tried.state.log));
+}
+
+/* What a take leaves, in `expected` (rule 4.19): every place moves down, also those behind the count, and all else stays. */
+static void take_expected(void)
+{
+    struct fabric_log *log = &expected.state.log;
+    struct fabric_entry none = {0, 0, 0};
+
+    expected = tried;
+    expected.entry = log->entry[0];
+    expected.entry.write = one_if(expected.entry.write);
+    for (uint32_t i = 0; i + 1 < FABRIC_LOG_ENTRIES; i++)
+        log->entry[i] = log->entry[i + 1];
+    log->entry[FABRIC_LOG_ENTRIES - 1] = none;
+    log->count--;
+}
+
+/*
+ * A state in which much is going on, with marks of any number: slave 0 serves master 0, master 1 holds an unmapped transfer, or
+ * without the mark of the board a read for slave 0.
+ */
+static void set_busy(uint32_t default_line, uint32_t number)
+{
+    set_unmapped(0);
+    tried.board.default_line = default_line;
+    check_number("a read to be served", post(&tried, 0, 0, 4096, 15, 1, 0), FABRIC_TAKEN);
+    check_number("its first clock", clock_once(&tried), FABRIC_TAKEN);
+    check_number("a transfer beside it", post(&tried, 1, 1, default_line != 0 ? HOLE : 4096, 3, 1, 2), FABRIC_TAKEN);
+    tried.state.transfer[0].held = tried.state.transfer[1].held = tried.state.transfer[1].write = number;
+    tried.state.slot[0].serving = number;
+    tried.state.transfer[5].address = number;
+    tried.state.slot[9].owner = number;
+}
+
+/* Takes from every count to the empty log, with lost marks and other marks of every number, on boards with the mark and without. */
+static void takes(void)
+{
+    for (uint32_t i = 0; i < 2 * YES_COUNT * (FABRIC_LOG_ENTRIES + 1); i++) {
+        uint32_t number = yes[i % YES_COUNT], left = i / 2 / YES_COUNT;
+
+        set_busy(i / YES_COUNT % 2 == 0 ? 0 : number, number);
+        fill_log(left, i % 3 == 0 ? 0 : number);
+        for (; left > 0; left--) {
+            take_expected();
+            memset(&tried.entry, 0xa5, sizeof tried.entry);
+            check_number("a take", take(&tried), FABRIC_TAKEN);
+            check_number("the master of the entry", tried.entry.master, expected.entry.master);
+            check_number("the address of the entry", tried.entry.address, expected.entry.address);
+            check_number("the direction of the entry, 0 or 1", tried.entry.write, expected.entry.write);
+            check("a take moves the log, and leaves all else", same_marked(&tried, &expected));
+            check("a take leaves every number of a mark", same_lent(&tried, &expected));
+        }
+        refuses_take("a take from an empty log", FABRIC_EMPTY_LOG);
+        check_number("a clock behind the takes", clock_once(&tried), FABRIC_TAKEN);
+    }
+}
+
+/* A take judges the board, then the state, then whether there is an entry (rule 8.4). */
+static void takes_first(void)
+{
+    set_unmapped(0);
+    refuses_take("an empty log", FABRIC_EMPTY_LOG);
+    refuses_board("a wait of 256 before an empty log", &tried.board.slave[0].read_wait, 256, FABRIC_BAD_VALUE);
+    refuses_board("no shares before an empty log", &tried.board.shares[1][0], 0, FABRIC_NO_SHARE);
+    refuses_state("an owner of 2 before an empty log", &tried.state.slot[0].owner, 2);
+    refuses_state("a latency clock before an empty log", &tried.state.late[0], 1);
+    check_number("an unmapped transfer", post(&tried, 0, 0, HOLE, 15, 1, 0), FABRIC_TAKEN);
+    refuses_take("an empty log, with an unmapped transfer held", FABRIC_EMPTY_LOG);
+    refuses_state("no mark before an empty log", &tried.board.default_line, 0);
+    tried.state.slot[0].owner = 2;
+    refuses_board("a wait of 256 before the state", &tried.board.slave[0].read_wait, 256, FABRIC_BAD_VALUE);
+    fill_log(9, 0);
+    refuses_board("no shares before the log", &tried.board.shares[1][0], 0, FABRIC_NO_SHARE);
+    tried.state.slot[0].owner = 1;
+    refuses_take("a log of 9 entries", FABRIC_BAD_STATE);
+    tried.state.log.count = 8;
+    check_number("a log of 8 entries", take(&tried), FABRIC_TAKEN);
+}
+
+/* What is lent, with numbers between that are not. */
+#define GAP 16
+struct spaced {
+    uint32_t gap_0[GAP];
+    struct fabric_state state;
+    uint32_t gap_1[GAP];
+    uint8_t memory[MEMORY_BYTES];
+    uint32_t gap_2[GAP];
+    uint8_t buffer[FABRIC_BUFFER_BYTES];
+    uint32_t gap_3[GAP];
+    struct fabric_lines lines;
+    uint32_t gap_4[GAP];
+    uint32_t responses[FABRIC_MASTERS];
+    uint32_t gap_5[GAP];
+    uint32_t mask;
+    uint32_t gap_6[GAP];
+    uint32_t clocks;
+    uint32_t gap_7[GAP];
+    struct fabric_entry entry;
+    uint32_t gap_8[GAP];
+};
+
+static int gap_kept(const uint32_t *gap)
+{
+    uint32_t i = 0;
+
+    while (i < GAP && gap[i] == UINT32_C(0xa5a5a5a5))
+        i++;
+    return i == GAP;
+}
+
+static int gaps_kept(const struct spaced *s)
+{
+    return gap_kept(s->gap_0) && gap_kept(s->gap_1) && gap_kept(s->gap_2) && gap_kept(s->gap_3) && gap_kept(s->gap_4)
+           && gap_kept(s->gap_5) && gap_kept(s->gap_6) && gap_kept(s->gap_7) && gap_kept(s->gap_8);
+}
+
+/* Calls on what stands in one block, the state that of `tried`: what stands between is as it was. */
+static void spaced_calls(uint32_t number)
+{
+    static struct spaced s;
+    const struct fabric_board *b = &tried.board;
+    uint32_t from_log = number != FABRIC_TAKEN || tried.state.log.count > 0 ? number : FABRIC_EMPTY_LOG;
+
+    memset(&s, 0xa5, sizeof s);
+    s.state = tried.state;
+    check_number("a take with neighbours", fabric_take(b, &s.state, &s.entry), from_log);
+    check("a take leaves its neighbours", gaps_kept(&s));
+    check_number("a clock with neighbours",
+                 fabric_clock(b, &s.state, s.memory, sizeof s.memory, s.buffer, sizeof s.buffer, &s.lines,
+                              s.responses, &s.mask),
+                 number);
+    check("a clock leaves its neighbours", gaps_kept(&s));
+    s.state = tried.state;
+    check_number("a run with neighbours",
+                 fabric_run(b, &s.state, s.memory, sizeof s.memory, s.buffer, sizeof s.buffer, &s.lines, s.responses, 9, &s.clocks,
+                            &s.mask),
+                 number);
+    check("a run leaves its neighbours", gaps_kept(&s));
+    s.state = tried.state;
+    memset(s.state.transfer, 0, sizeof s.state.transfer);
+    check_number("a post with neighbours",
+                 fabric_post(b, &s.state, s.buffer, sizeof s.buffer, b->master_count - 1, 1, HOLE, 15, 8, words, 32), number);
+    check("a post leaves its neighbours", gaps_kept(&s));
+}
+
+/* The highest of 8 masters reads 8 words to no slave, the others one; with an empty log, a full one and one that is refused. */
+static void neighbours(void)
+{
+    static const uint32_t counts[] = {0, 1, 7, 8, 9};
+
+    for (size_t i = 0; i < sizeof counts / sizeof counts[0]; i++) {
+        set_eight();
+        hold_unmapped(0xaa);
+        tried.state.transfer[7].write = 0;
+        tried.state.transfer[7].beats = 8;
+        fill_log(counts[i], 0);
+        spaced_calls(counts[i] > FABRIC_LOG_ENTRIES ? FABRIC_BAD_STATE : FABRIC_TAKEN);
+    }
+}
+
+/* Boards with an answer for unmapped transfers, and the log. */
+static void answered(void)
+{
+    default_marks();
+    default_boards();
+    unmapped_posts();
+    unmapped_transfers();
+    unmapped_reaching();
+    unmapped_lanes();
+    unmapped_states();
+    unmapped_beside();
+    unmapped_grants();
+    unmapped_late();
+    unmapped_runs();
+    log_counts();
+    log_entries();
+    log_restarts();
+    takes();
+    takes_first();
+    neighbours();
+}
+
+/*
+ * Both of two that are the same post a master's transfer number i; lengths, kinds and addresses go by turns, on a board with the
+ * line `default` to no slave too.
+ */
 static void post_both(uint32_t m, uint32_t i)
 {
     uint32_t width = tried.board.master[m].width;
@@ -946,19 +1721,32 @@ static void post_both(uint32_t m, uint32_t i)
     uint32_t address = m == 0 && i % 4 == 1 ? 4 * (i % 9) : 4096 + width * (i % 40);
     size_t length = i % 2 == 0 ? beats * width : 0;
 
+    if (tried.board.default_line != 0 && i % 7 < 3)
+        address = 8192 + 4 * (i % 11);
     check_number("a post before a run of clocks", post(&tried, m, i % 2 == 0, address, lanes, beats, length), FABRIC_TAKEN);
     check_number("a post before clocks", post(&other, m, i % 2 == 0, address, lanes, beats, length), FABRIC_TAKEN);
 }
 
+/* Both take an entry, in front of a run of clocks; 1 where there was one. */
+static unsigned long take_both(void)
+{
+    uint32_t number = take(&other);
+
+    check_number("a take before a run of clocks", take(&tried), number);
+    check("both take the same", memcmp(&tried.entry, &other.entry, sizeof tried.entry) == 0);
+    return number == FABRIC_TAKEN;
+}
+
 /* Runs of clocks beside as many clocks: the same numbers and bytes, and no master finished before the last clock. */
-static void runs(uint32_t native, uint32_t latency)
+static void runs(uint32_t native, uint32_t latency, uint32_t default_line)
 {
     uint32_t posted[2] = {0, 0};
-    unsigned long finished = 0, cut = 0;
+    unsigned long finished = 0, cut = 0, taken = 0;
 
     tried = fresh;
     tried.board.slave[0].native = tried.board.slave[1].native = native;
     tried.board.slave[0].latency = latency;
+    tried.board.default_line = default_line;
     other = tried;
     for (uint32_t i = 0; i < 400; i++) {
         uint32_t most = i % 7 == 0 ? i % 5 : 1000;
@@ -967,10 +1755,13 @@ static void runs(uint32_t native, uint32_t latency)
             if (tried.state.transfer[m].held == 0 && (m == 0 || i % 6 < 4))
                 post_both(m, posted[m]++);
         }
+        if (i % 3 == 0)
+            taken += take_both();
         check_number("a run of clocks", run(&tried, most), FABRIC_TAKEN);
         check("a run of clocks is no longer than asked", tried.clocks <= most);
         check("a run of clocks ends where a master finishes", tried.clocks == most || tried.mask != 0);
         memset(&other.lines, 0, sizeof other.lines);
+        memset(other.responses, 0, sizeof other.responses);
         other.mask = 0;
         for (uint32_t c = 0; c < tried.clocks; c++) {
             check("a run of clocks goes on where no master finishes", other.mask == 0);
@@ -982,6 +1773,17 @@ static void runs(uint32_t native, uint32_t latency)
         cut += tried.mask == 0;
     }
     check("runs of clocks that end at a finish, and others", finished > 300 && cut > 20);
+    check("takes beside them, where there are unmapped transfers", (taken > 50) == (default_line != 0));
+}
+
+static void runs_of_boards(void)
+{
+    runs(0, 0, 0);
+    runs(1, 0, 0);
+    runs(0, 5, 0);
+    runs(1, 63, 0);
+    runs(0, 5, 1);
+    runs(1, 63, 256);
 }
 
 int main(void)
@@ -989,8 +1791,10 @@ int main(void)
     readings();
     unshared_texts();
     unordered_texts();
+    default_texts();
     shared_sets();
     board_read();
+    default_read();
     boards();
     native_boards();
     late_boards();
@@ -1013,10 +1817,8 @@ int main(void)
     late_grants(1);
     late_grants(63);
     late_together();
-    runs(0, 0);
-    runs(1, 0);
-    runs(0, 5);
-    runs(1, 63);
+    answered();
+    runs_of_boards();
     if (!failed)
         printf("calls: ok, %d checks\n", checks);
     return failed;

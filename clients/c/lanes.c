@@ -47,6 +47,7 @@ struct lent {
     uint8_t memory[MEMORY_BYTES];
     uint8_t buffer[FABRIC_BUFFER_BYTES];
     struct fabric_lines lines;
+    uint32_t responses[FABRIC_MASTERS];
     uint32_t mask;
     uint32_t clocks;
 };
@@ -115,17 +116,19 @@ static uint32_t clock_lent(struct lent *l, uint64_t most)
     uint8_t *memory = (uint8_t *)lend(l->memory, sizeof l->memory);
     uint8_t *buffer = (uint8_t *)lend(l->buffer, sizeof l->buffer);
     struct fabric_lines *lines = (struct fabric_lines *)lend(&l->lines, sizeof l->lines);
+    uint32_t *responses = (uint32_t *)lend(l->responses, sizeof l->responses);
     uint32_t number;
 
     if (most == ONE_CLOCK)
-        number = fabric_clock(&l->board, state, memory, sizeof l->memory, buffer, sizeof l->buffer, lines, &l->mask);
+        number = fabric_clock(&l->board, state, memory, sizeof l->memory, buffer, sizeof l->buffer, lines, responses, &l->mask);
     else
-        number = fabric_run(&l->board, state, memory, sizeof l->memory, buffer, sizeof l->buffer, lines, (uint32_t)most,
-                            &l->clocks, &l->mask);
+        number = fabric_run(&l->board, state, memory, sizeof l->memory, buffer, sizeof l->buffer, lines, responses,
+                            (uint32_t)most, &l->clocks, &l->mask);
     take_back(&l->state, state, sizeof l->state);
     take_back(l->memory, memory, sizeof l->memory);
     take_back(l->buffer, buffer, sizeof l->buffer);
     take_back(&l->lines, lines, sizeof l->lines);
+    take_back(l->responses, responses, sizeof l->responses);
     return number;
 }
 
@@ -171,6 +174,15 @@ static void check_line(uint32_t s)
     check_number("the line's place", got->place, wanted->place);
 }
 
+static int all_zero(const void *bytes, size_t length)
+{
+    const uint8_t *b = (const uint8_t *)bytes;
+
+    while (length > 0 && b[length - 1] == 0)
+        length--;
+    return length == 0;
+}
+
 /* All that a call has left and answered. */
 static void check_due(void)
 {
@@ -186,6 +198,8 @@ static void check_due(void)
                                                          (FABRIC_SLAVES - 2) * sizeof tried.lines.line[2])
                                                       == 0);
     check_number("the mask", tried.mask, due.mask);
+    check("no response but 0", all_zero(tried.responses, sizeof tried.responses));
+    check("the log", memcmp(&tried.state.log, &due.state.log, sizeof tried.state.log) == 0);
     check("the memory", memcmp(tried.memory, due.memory, sizeof tried.memory) == 0);
     check("the buffer", memcmp(tried.buffer, due.buffer, sizeof tried.buffer) == 0);
 }
@@ -391,15 +405,6 @@ static void next_is_granted(void)
     check("the other master is served then", tried.lines.line[1].phase != FABRIC_IDLE && tried.lines.line[1].owner == 0);
 }
 
-static int all_zero(const void *bytes, size_t length)
-{
-    const uint8_t *b = (const uint8_t *)bytes;
-
-    while (length > 0 && b[length - 1] == 0)
-        length--;
-    return length == 0;
-}
-
 /* What a refused call has to leave (rule 8.1), as it is in `due`. */
 static void check_left(const char *what)
 {
@@ -418,12 +423,14 @@ static void refuses_state(void)
     for (size_t i = 0; i < 4; i++) {
         tried = due;
         memset(&tried.lines, 0xa5, sizeof tried.lines);
+        memset(tried.responses, 0xa5, sizeof tried.responses);
         tried.mask = 0xa5;
         tried.clocks = most[i] == ONE_CLOCK ? 0 : 0xa5;
         check_number("a clock or a run, where all accesses are done", clock_lent(&tried, most[i]), FABRIC_BAD_STATE);
         check_left("a refused clock or run changes nothing");
-        check("a refused clock or run answers 0",
-              all_zero(&tried.lines, sizeof tried.lines) && tried.mask == 0 && tried.clocks == 0);
+        check("a refused clock or run answers 0", all_zero(&tried.lines, sizeof tried.lines)
+                                                      && all_zero(tried.responses, sizeof tried.responses) && tried.mask == 0
+                                                      && tried.clocks == 0);
     }
     tried = due;
     check_number("a post, where all accesses are done", post(&tried, 0, &read), FABRIC_BAD_STATE);
@@ -538,7 +545,10 @@ static void figures(const char *text)
     check_number("the longest transfer", (uint64_t)access_count * v, number_at(out + 8));
 }
 
-/* A board: masters of a width, slave 0, and slave 1 of a width, a burst, waits and an alignment. */
+/*
+ * A board: masters of a width, slave 0, and slave 1 of a width, a burst, waits and an alignment. Every third board has the line
+ * `default`, which changes nothing of a transfer for a slave.
+ */
 static void try_board(uint32_t width, uint32_t slave_width, uint32_t burst, uint32_t read_wait, uint32_t write_wait,
                       uint32_t native)
 {
@@ -548,9 +558,9 @@ static void try_board(uint32_t width, uint32_t slave_width, uint32_t burst, uint
     sprintf(text,
             "master,%" PRIu32 ",%d\nmaster,%" PRIu32 ",%d\nslave,0,%d,1,1,0,0,0,0\n"
             "slave,%d,%d,%" PRIu32 ",%" PRIu32 ",%" PRIu32 ",%" PRIu32 ",%" PRIu32 ",0\n"
-            "share,0,0,1\nshare,0,1,%d\nshare,1,1,%d\n",
+            "share,0,0,1\nshare,0,1,%d\nshare,1,1,%d\n%s",
             width, OTHER_BURST, width, BURST, FRONT, BASE, SPAN, slave_width, burst, read_wait, write_wait, native, OTHER_SHARES,
-            SHARES);
+            SHARES, boards % 3 == 2 ? "default\n" : "");
     sprintf(pair_name,
             "master width %" PRIu32 ", slave width %" PRIu32 " burst %" PRIu32 " waits %" PRIu32 " %" PRIu32 " native %" PRIu32,
             width, slave_width, burst, read_wait, write_wait, native);

@@ -1,7 +1,8 @@
 /*
- * The order of share lines (rule 1.4). Each text that is taken is byte for byte what the writer puts for its board (rule 1.9);
- * with its share lines in another order it is refused with 21, the first line out of order is charged, and nothing that is lent
- * changes (rules 7.21, 8.1 and 8.3). A board that is lent as numbers has no order: its shares may be set in any (rule 8.5).
+ * The order of share lines, and the place of the line `default` (rule 1.4). Each text that is taken is byte for byte what the
+ * writer puts for its board (rule 1.9); with its share lines in another order it is refused with 21, with `default` elsewhere or
+ * twice with 2, the first line out of order is charged, and nothing that is lent changes (rules 7.2, 7.21, 8.1 and 8.3). `default`
+ * changes no figure (rule 1.11). A board that is lent as numbers has no order: its shares may be set in any (rule 8.5).
  *
  *   order BOARD..
  *
@@ -15,22 +16,27 @@
 #include "fabric.h"
 #include "lent.h"
 
-/* The most lines, and room for any numbers in them, also for those of a board that should not have been answered. */
-#define LINES (FABRIC_MASTERS + FABRIC_SLAVES + FABRIC_MASTERS * FABRIC_SLAVES)
+/*
+ * The most lines, with two more than a board has, and room for any numbers in them, also for those of a board that should not have
+ * been answered.
+ */
+#define LINES (FABRIC_MASTERS + FABRIC_SLAVES + FABRIC_MASTERS * FABRIC_SLAVES + 3)
 #define LINE_ROOM 96
 #define TEXT_ROOM (LINES * LINE_ROOM)
 #define GENERATED 400
 
-/* A description: its lines, each with its line feed, and which of them is the first share line. */
+/* A description: its lines, each with its line feed, which of them is the first share line, and which stands behind the last. */
 struct text {
     size_t count;
     size_t first;
+    size_t end;
     char line[LINES][LINE_ROOM];
 };
 
 static uint64_t drawn = 1;
 static int checks, failed;
-static unsigned long arranged, taken; /* texts with share lines out of order, and texts in order */
+/* Texts with share lines out of order, with `default` in a wrong place or form, and in order. */
+static unsigned long arranged, misplaced, taken;
 
 static void check(const char *name, const char *what, int holds)
 {
@@ -100,6 +106,9 @@ static void put_lines(const struct fabric_board *b, struct text *t)
     t->first = t->count;
     for (uint32_t m = 0; m < b->master_count; m++)
         put_shares(b, m, t);
+    t->end = t->count;
+    if (b->default_line != 0)
+        strcpy(t->line[t->count++], "default\n");
 }
 
 /* All lines as one text: its length. */
@@ -142,10 +151,12 @@ static void try_read(const char *name, const uint8_t *bytes, size_t length, uint
     board = (struct fabric_board *)lend(&before, sizeof before);
     number = fabric_read(bytes, length, board);
     check_number(name, "fabric_read", number, due);
-    if (number == FABRIC_TAKEN)
+    if (number == FABRIC_TAKEN) {
         check(name, "the text is what the writer puts", has_text(board, bytes, length));
-    else
+        check(name, "the mark of the line default is 0 or 1", board->default_line <= 1);
+    } else {
         check(name, "the board is as it was", memcmp(board, &before, sizeof before) == 0);
+    }
     free(board);
 }
 
@@ -184,7 +195,8 @@ static void judges(const char *name, const struct text *t, uint32_t due, size_t 
     check(name, "the text is as it was", memcmp(bytes, joined, length) == 0);
     free(bytes);
     taken += due == FABRIC_TAKEN;
-    arranged += due != FABRIC_TAKEN;
+    arranged += due == FABRIC_SHARE_ORDER;
+    misplaced += due != FABRIC_TAKEN && due != FABRIC_SHARE_ORDER;
 }
 
 static void exchange(struct text *t, size_t i, size_t j)
@@ -210,7 +222,7 @@ static void judges_exchanged(const char *name, struct text *t, size_t i, size_t 
 /* The line, from 1, of the first pair that comes before the pair above; 0 where there is none. */
 static size_t first_before(const struct text *t)
 {
-    for (size_t i = t->first + 1; i < t->count; i++) {
+    for (size_t i = t->first + 1; i < t->end; i++) {
         uint32_t m = 0, s = 0, above = 0, slave_above = 0;
 
         pair_of(t->line[i - 1], &above, &slave_above);
@@ -226,10 +238,84 @@ static void judges_shuffled(const char *name, struct text *t)
 {
     size_t line;
 
-    for (size_t i = t->first; i < t->count; i++)
-        exchange(t, i, i + below((uint32_t)(t->count - i)));
+    for (size_t i = t->first; i < t->end; i++)
+        exchange(t, i, i + below((uint32_t)(t->end - i)));
     line = first_before(t);
     judges(name, t, line == 0 ? FABRIC_TAKEN : FABRIC_SHARE_ORDER, line);
+}
+
+/* A text with one line more, which then has the index i. */
+static void judges_inserted(const char *name, const struct text *t, size_t i, const char *line, uint32_t due, size_t line_due)
+{
+    static struct text longer;
+
+    longer = *t;
+    memmove(longer.line[i + 1], longer.line[i], (t->count - i) * LINE_ROOM);
+    strcpy(longer.line[i], line);
+    longer.count++;
+    longer.first += i <= t->first;
+    longer.end += i < t->end;
+    judges(name, &longer, due, line_due);
+}
+
+/*
+ * `default` in front of a line of a text that is taken: in front of the first slave line, which has the index of the count of
+ * masters, it is charged itself, elsewhere the line behind it. Lines count from 1.
+ */
+static void judges_default_at(const char *name, const struct fabric_board *b, const struct text *t, size_t i)
+{
+    judges_inserted(name, t, i, "default\n", FABRIC_BAD_ORDER, i <= b->master_count ? i + 1 : i + 2);
+}
+
+/* The pairs of the share lines, which two texts have in common, have the same figures by both. */
+static void same_figures(const char *name, const struct text *with, const struct text *without)
+{
+    static char first[TEXT_ROOM], second[TEXT_ROOM];
+    size_t first_length = join(with, first), second_length = join(without, second);
+
+    for (size_t i = with->first; i < with->end; i++) {
+        uint8_t ours[FABRIC_WAIT_BYTES] = {0}, theirs[FABRIC_WAIT_BYTES] = {1};
+        uint32_t m = 0, s = 0;
+
+        pair_of(with->line[i], &m, &s);
+        check_number(name, "fabric_wait with the line default",
+                     fabric_wait((uint8_t *)first, first_length, m, s, ours, sizeof ours), FABRIC_TAKEN);
+        check_number(name, "fabric_wait without the line default",
+                     fabric_wait((uint8_t *)second, second_length, m, s, theirs, sizeof theirs), FABRIC_TAKEN);
+        check(name, "the line default changes no figure", memcmp(ours, theirs, sizeof ours) == 0);
+    }
+}
+
+/*
+ * The line `default` in a board's text: once at its end, twice, elsewhere, with lines behind it, and in other forms, of which each
+ * board gets some.
+ */
+static void judges_default(const char *name, const struct fabric_board *b)
+{
+    static const char *const behind[] = {"default\n", "master,1,1\n", "slave,0,8,1,1,0,0,0,0\n", "slave,1,1,9,9,999,0,0,0\n",
+                                         "share,0,0,1\n", "share,9,99,0\n"};
+    static const char *const forms[] = {"default,1\n", "default,0\n", "default,\n", "default", "defaul\n", "Default\n"};
+    static struct text with, without;
+    struct fabric_board other = *b;
+
+    other.default_line = 1;
+    put_lines(&other, &with);
+    other.default_line = 0;
+    put_lines(&other, &without);
+    judges(name, &with, FABRIC_TAKEN, 0);
+    judges(name, &without, FABRIC_TAKEN, 0);
+    same_figures(name, &with, &without);
+    judges_default_at(name, b, &without, 0);
+    judges_default_at(name, b, &without, b->master_count);
+    judges_default_at(name, b, &without, b->master_count + 1);
+    judges_default_at(name, b, &without, below((uint32_t)without.count));
+    judges_default_at(name, b, &without, without.count - 1);
+    for (size_t i = below(3); i < sizeof behind / sizeof behind[0]; i += 3)
+        judges_inserted(name, &with, with.count, behind[i], FABRIC_BAD_ORDER, with.count + 1);
+    for (size_t i = below(3); i < sizeof forms / sizeof forms[0]; i += 3) {
+        judges_inserted(name, &without, without.count, forms[i], FABRIC_BAD_TEXT, without.count + 1);
+        judges_inserted(name, &with, with.count, forms[i], FABRIC_BAD_TEXT, with.count + 1);
+    }
 }
 
 /* A value of a list that begins with 1 and doubles. */
@@ -280,6 +366,7 @@ static void draw_board(struct fabric_board *b)
     memset(b, 0, sizeof *b);
     b->master_count = 1 + below(FABRIC_MASTERS);
     b->slave_count = 1 + below(FABRIC_SLAVES);
+    b->default_line = below(2);
     draw_slaves(b);
     for (uint32_t m = 0; m < b->master_count; m++) {
         b->master[m].width = doubled(4);
@@ -292,9 +379,10 @@ static void draw_board(struct fabric_board *b)
 static void calls_lent(const char *name, const struct fabric_board *b, uint32_t m, uint32_t s)
 {
     static uint8_t memory[FABRIC_MEMORY_BYTES], buffer[FABRIC_BUFFER_BYTES];
-    uint32_t lanes = (1u << b->master[m].width) - 1, mask, clocks;
+    uint32_t lanes = (1u << b->master[m].width) - 1, mask, clocks, responses[FABRIC_MASTERS];
     struct fabric_state state;
     struct fabric_lines lines;
+    struct fabric_entry entry;
     size_t length = 0;
 
     for (uint32_t i = 0; i < b->slave_count; i++)
@@ -302,10 +390,14 @@ static void calls_lent(const char *name, const struct fabric_board *b, uint32_t 
     check_number(name, "fabric_reset", fabric_reset(b, &state), FABRIC_TAKEN);
     check_number(name, "fabric_post",
                  fabric_post(b, &state, buffer, sizeof buffer, m, 0, b->slave[s].base, lanes, 1, memory, 0), FABRIC_TAKEN);
-    check_number(name, "fabric_clock", fabric_clock(b, &state, memory, length, buffer, sizeof buffer, &lines, &mask),
+    check_number(name, "fabric_clock",
+                 fabric_clock(b, &state, memory, length, buffer, sizeof buffer, &lines, responses, &mask), FABRIC_TAKEN);
+    check(name, "no response of a clock", all_are(responses, sizeof responses, 0));
+    check_number(name, "fabric_run",
+                 fabric_run(b, &state, memory, length, buffer, sizeof buffer, &lines, responses, 5000, &clocks, &mask),
                  FABRIC_TAKEN);
-    check_number(name, "fabric_run", fabric_run(b, &state, memory, length, buffer, sizeof buffer, &lines, 5000, &clocks, &mask),
-                 FABRIC_TAKEN);
+    check(name, "no response of a run", all_are(responses, sizeof responses, 0));
+    check_number(name, "fabric_take", fabric_take(b, &state, &entry), FABRIC_EMPTY_LOG);
 }
 
 /* A board of numbers gets the shares of a text's lines in the order in which these stand: until all are set, 20 or nothing. */
@@ -316,7 +408,7 @@ static void fills(const char *name, const struct fabric_board *b, const struct t
     uint32_t m = 0, s = 0, connected = 0;
 
     memset(filled.shares, 0, sizeof filled.shares);
-    for (size_t i = t->first; i < t->count; i++) {
+    for (size_t i = t->first; i < t->end; i++) {
         pair_of(t->line[i], &m, &s);
         filled.shares[m][s] = b->shares[m][s];
         connected |= 1u << m;
@@ -337,16 +429,17 @@ static void generated(uint32_t number)
     sprintf(name, "text %" PRIu32, number);
     draw_board(&board);
     put_lines(&board, &t);
-    shares = t.count - t.first;
+    shares = t.end - t.first;
     judges(name, &t, FABRIC_TAKEN, 0);
     fills(name, &board, &t);
     if (shares > 1) {
         i = t.first + below((uint32_t)shares - 1);
-        j = i + 1 + below((uint32_t)(t.count - i - 1));
+        j = i + 1 + below((uint32_t)(t.end - i - 1));
         judges_exchanged(name, &t, i, i + 1);
         judges_exchanged(name, &t, i, j);
-        judges_exchanged(name, &t, t.first, t.count - 1);
+        judges_exchanged(name, &t, t.first, t.end - 1);
     }
+    judges_default(name, &board);
     judges_shuffled(name, &t);
     fills(name, &board, &t);
 }
@@ -371,8 +464,11 @@ static void from_file(const char *name)
         return;
     put_lines(&board, &t);
     judges(name, &t, FABRIC_TAKEN, 0);
-    for (size_t i = t.first; i + 1 < t.count; i++)
+    for (size_t i = t.first; i + 1 < t.end; i++)
         judges_exchanged(name, &t, i, i + 1);
+    judges_default(name, &board);
+    for (size_t i = 0; i < t.end; i++)
+        judges_default_at(name, &board, &t, i);
     judges_shuffled(name, &t);
     fills(name, &board, &t);
 }
@@ -385,6 +481,7 @@ int main(int count, char **words)
         generated(i);
     check("generated texts", "most have several share lines", taken >= GENERATED && arranged > 3 * GENERATED);
     if (!failed)
-        printf("order: ok, %lu texts in order, %lu out of order, %d checks\n", taken, arranged, checks);
+        printf("order: ok, %lu texts in order, %lu out of order, %lu with default out of place, %d checks\n", taken, arranged,
+               misplaced, checks);
     return failed;
 }

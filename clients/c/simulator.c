@@ -12,6 +12,8 @@
 #define MOST_ACCESSES 512
 /* The place of a byte that the slave does not have. */
 #define NOWHERE UINT32_MAX
+/* The slave of an unmapped transfer: none that a board has. */
+#define NO_SLAVE FABRIC_SLAVES
 
 struct access {
     struct fabric_line shown; /* as of an access */
@@ -23,11 +25,13 @@ struct access {
 struct request {
     int standing;
     int write;
-    uint32_t slave;
+    uint32_t address;
+    uint32_t slave; /* NO_SLAVE where it is unmapped: it then has no accesses */
     uint32_t first; /* its address, from the slave's base: whole words of the master */
     uint32_t lanes;
     uint32_t beats;
-    uint32_t count; /* of its accesses */
+    uint32_t clocks; /* for a mistake: those that an unmapped one has stood */
+    uint32_t count;  /* of its accesses */
     uint32_t next;
     struct access access[MOST_ACCESSES];
 };
@@ -43,27 +47,55 @@ struct card {
 uint8_t simulator_memory[FABRIC_MEMORY_BYTES];
 uint8_t simulator_buffer[FABRIC_BUFFER_BYTES];
 uint32_t simulator_late[FABRIC_MASTERS];
+uint32_t simulator_responses[FABRIC_MASTERS];
+struct fabric_log simulator_log;
 
 const char *const simulator_mistakes[] = {
-    "from-zero",     /* rule 4.5: the lowest requester is granted, whoever was the last owner */
-    "silent-keeps",  /* rule 4.3: grants remain where nobody requests */
-    "burst-keeps",   /* rule 4.6: grants remain behind a burst */
-    "share-more",    /* rule 4.5: one grant more than the shares */
-    "between-runs",  /* rules 4.8 and 4.9: another master is granted inside a burst, where a run ends */
-    "wait-per-beat", /* rule 4.8: a beat waits once, not before each of its accesses */
-    "last-run",      /* rule 4.12: the last run is shown as long as the others */
-    "read-lanes",    /* rule 4.14: a narrower master's read shows its own lanes only */
-    "every-lane",    /* rule 4.11: a write changes bytes of lanes that are not enabled */
-    "no-lane",       /* rule 4.10: a write carries out the accesses that have no lane too */
-    "read-words",    /* rule 4.10: a read carries out only the accesses of the lanes that it names */
-    "runs-of-all",   /* rule 4.12: runs count the accesses that a write leaves out */
-    "waits-of-all",  /* rule 4.8: a write takes the clocks of the accesses that it leaves out before its first one */
-    "late-none",     /* rule 4.16: a read is finished with its last access */
-    "late-more",     /* rule 4.16: a read is finished a clock after its latency */
-    "late-requests", /* rule 4.16: a master requests while it passes a latency */
-    "late-serves",   /* rule 4.16: the slave grants nobody while its last owner passes the latency */
-    "late-writes",   /* rule 4.16: a write passes the latency too */
-    "late-keeps",    /* rules 4.3 and 4.16: where nobody requests, grants remain while the last owner passes the latency */
+    "from-zero",        /* rule 4.5: the lowest requester is granted, whoever was the last owner */
+    "silent-keeps",     /* rule 4.3: grants remain where nobody requests */
+    "burst-keeps",      /* rule 4.6: grants remain behind a burst */
+    "share-more",       /* rule 4.5: one grant more than the shares */
+    "between-runs",     /* rules 4.8 and 4.9: another master is granted inside a burst, where a run ends */
+    "wait-per-beat",    /* rule 4.8: a beat waits once, not before each of its accesses */
+    "last-run",         /* rule 4.12: the last run is shown as long as the others */
+    "read-lanes",       /* rule 4.14: a narrower master's read shows its own lanes only */
+    "every-lane",       /* rule 4.11: a write changes bytes of lanes that are not enabled */
+    "no-lane",          /* rule 4.10: a write carries out the accesses that have no lane too */
+    "read-words",       /* rule 4.10: a read carries out only the accesses of the lanes that it names */
+    "runs-of-all",      /* rule 4.12: runs count the accesses that a write leaves out */
+    "waits-of-all",     /* rule 4.8: a write takes the clocks of the accesses that it leaves out before its first one */
+    "late-none",        /* rule 4.16: a read is finished with its last access */
+    "late-more",        /* rule 4.16: a read is finished a clock after its latency */
+    "late-requests",    /* rule 4.16: a master requests while it passes a latency */
+    "late-serves",      /* rule 4.16: the slave grants nobody while its last owner passes the latency */
+    "late-writes",      /* rule 4.16: a write passes the latency too */
+    "late-keeps",       /* rules 4.3 and 4.16: where nobody requests, grants remain while the last owner passes the latency */
+    "unmapped-late",    /* rule 4.17: an unmapped transfer is finished a clock later */
+    "unmapped-beats",   /* rule 4.17: one is finished after as many clocks as it has beats */
+    "unmapped-one",     /* rule 4.17: a clock finishes one alone, that of the lowest master */
+    "unmapped-okay",    /* rule 4.17: one is finished with response 0 */
+    "unmapped-again",   /* rule 4.13: a response of 3 stays until the master is finished again */
+    "unmapped-writes",  /* rule 4.17: a write changes the bytes that a card not connected to its master has at its addresses */
+    "unmapped-reaches", /* rule 4.17: a write changes the bytes of a card that is connected, and that its later beats reach */
+    "unmapped-reads",   /* rule 4.17: a read leaves its master's part as it was */
+    "unmapped-short",   /* rule 4.17: the last byte of a read is left as it was */
+    "unmapped-lanes",   /* rule 3.5: of a read the bytes alone become 0 whose lanes it names */
+    "unmapped-part",    /* rule 4.17: a read makes the whole part of its master 0 */
+    "unmapped-clears",  /* rule 4.17: a write makes its words in the buffer 0 */
+    "log-descending",   /* rule 4.18: a clock enters its transfers from the highest master down */
+    "log-direction",    /* rule 4.18: every entry says that it was a read */
+    "log-address",      /* rule 4.18: an entry has the address of the last beat */
+    "log-seven",        /* rule 4.18: the log has space for seven entries */
+    "log-oldest",       /* rule 4.18: where the log is full the oldest entry is dropped, and not the new one */
+    "log-unmarked",     /* rule 4.18: the lost mark is never set */
+    "log-full",         /* rule 4.18: the lost mark is set with the eighth entry, before one is dropped */
+    "log-reset",        /* rule 4.2: a reset leaves the log */
+    "log-cleared",      /* rule 4.19: a take clears the lost mark */
+    "log-emptied",      /* rule 4.19: the take of the last entry clears the lost mark */
+    "log-place",        /* rule 4.19: a take leaves the last place as it was */
+    "log-stays",        /* rule 4.19: a take moves no entry */
+    "log-newest",       /* rule 4.19: a take takes the newest entry */
+    "log-empty",        /* rule 7.22: a take from an empty log is not refused, and takes an entry of 0 */
     NULL,
 };
 
@@ -86,6 +118,9 @@ void simulator_reset(const struct fabric_board *started, const char *on_purpose)
     memset(request, 0, sizeof request);
     memset(card, 0, sizeof card);
     memset(simulator_late, 0, sizeof simulator_late);
+    memset(simulator_responses, 0, sizeof simulator_responses);
+    if (!mistake("log-reset"))
+        memset(&simulator_log, 0, sizeof simulator_log);
     for (uint32_t s = 0; s < board.slave_count; s++) {
         card[s].owner = board.master_count - 1;
         card[s].bytes = bytes;
@@ -93,14 +128,22 @@ void simulator_reset(const struct fabric_board *started, const char *on_purpose)
     }
 }
 
-/* The slave whose bytes have this address (rule 3.6): of a legal transfer it is connected. */
+/* The slave whose bytes have this address, connected or not; NO_SLAVE where none has it. */
 static uint32_t slave_at(uint32_t address)
 {
     uint32_t s = 0;
 
-    while (address < board.slave[s].base || address - board.slave[s].base >= board.slave[s].span)
+    while (s < board.slave_count && (address < board.slave[s].base || address - board.slave[s].base >= board.slave[s].span))
         s++;
-    return s;
+    return s < board.slave_count ? s : NO_SLAVE;
+}
+
+/* The slave that an address selects for a master (rule 3.6); NO_SLAVE where the transfer is unmapped (rule 3.7). */
+static uint32_t selected(uint32_t m, uint32_t address)
+{
+    uint32_t s = slave_at(address);
+
+    return s != NO_SLAVE && board.shares[m][s] > 0 ? s : NO_SLAVE;
 }
 
 /*
@@ -217,12 +260,16 @@ void simulator_post(uint32_t m, uint32_t write, uint32_t address, uint32_t lanes
 
     r->standing = 1;
     r->write = write != 0;
-    r->slave = slave_at(address);
-    r->first = address - board.slave[r->slave].base;
+    r->address = address;
+    r->slave = selected(m, address);
     r->lanes = lanes;
     r->beats = beats;
+    r->clocks = 0;
     if (r->write)
         memcpy(simulator_buffer + FABRIC_PART_BYTES * m, words, beats * board.master[m].width);
+    if (r->slave == NO_SLAVE)
+        return;
+    r->first = address - board.slave[r->slave].base;
     list_accesses(r, m);
 }
 
@@ -352,6 +399,114 @@ static uint32_t finish(void)
     return mask;
 }
 
+/* For mistakes: the bytes of an unmapped write go to a card that has their addresses, be its master connected to it or not. */
+static void store(uint32_t m)
+{
+    const struct request *r = &request[m];
+    uint32_t width = board.master[m].width;
+
+    for (uint32_t i = 0; i < r->beats * width; i++) {
+        uint32_t s = slave_at(r->address + i);
+
+        if (s == NO_SLAVE || (r->lanes >> i % width & 1) == 0)
+            continue;
+        if (board.shares[m][s] > 0 ? mistake("unmapped-reaches") : mistake("unmapped-writes"))
+            card[s].bytes[r->address + i - board.slave[s].base] = simulator_buffer[FABRIC_PART_BYTES * m + i];
+    }
+}
+
+/* What an unmapped transfer does to its master's words (rule 4.17): those of a read are 0, in all lanes. */
+static void clear_words(uint32_t m)
+{
+    const struct request *r = &request[m];
+    uint32_t width = board.master[m].width;
+    uint32_t count = r->beats * width - (mistake("unmapped-short") ? 1 : 0);
+
+    if (r->write ? !mistake("unmapped-clears") : mistake("unmapped-reads"))
+        return;
+    if (mistake("unmapped-part"))
+        count = FABRIC_PART_BYTES;
+    for (uint32_t i = 0; i < count; i++) {
+        if ((r->lanes >> i % width & 1) != 0 || !mistake("unmapped-lanes"))
+            simulator_buffer[FABRIC_PART_BYTES * m + i] = 0;
+    }
+}
+
+/* Takes the oldest entry out (rule 4.19). */
+static void move_down(void)
+{
+    struct fabric_log *log = &simulator_log;
+    struct fabric_entry none = {0, 0, 0};
+
+    for (uint32_t i = 0; i + 1 < FABRIC_LOG_ENTRIES && !mistake("log-stays"); i++)
+        log->entry[i] = log->entry[i + 1];
+    if (!mistake("log-place"))
+        log->entry[FABRIC_LOG_ENTRIES - 1] = none;
+    log->count--;
+}
+
+/* Enters the transfer of a master, or drops it where the log is full (rule 4.18). */
+static void enter(uint32_t m)
+{
+    struct fabric_log *log = &simulator_log;
+    const struct request *r = &request[m];
+    uint32_t most = mistake("log-seven") ? FABRIC_LOG_ENTRIES - 1 : FABRIC_LOG_ENTRIES;
+    uint32_t beyond = mistake("log-address") ? (r->beats - 1) * board.master[m].width : 0;
+    struct fabric_entry entered = {m, r->address + beyond, r->write && !mistake("log-direction") ? 1u : 0u};
+
+    if (log->count == most) {
+        log->lost = mistake("log-unmarked") ? 0 : 1;
+        if (!mistake("log-oldest"))
+            return;
+        move_down();
+    }
+    log->entry[log->count] = entered;
+    log->count++;
+    if (mistake("log-full") && log->count == most)
+        log->lost = 1;
+}
+
+/* Whether a clock finishes the transfer of a master as an unmapped one (rule 4.17): the first one behind its post does. */
+static int answers(uint32_t m, uint32_t answered)
+{
+    struct request *r = &request[m];
+
+    if (!r->standing || r->slave != NO_SLAVE)
+        return 0;
+    r->clocks++;
+    if (mistake("unmapped-late"))
+        return r->clocks == 2;
+    if (mistake("unmapped-beats"))
+        return r->clocks == r->beats;
+    return answered == 0 || !mistake("unmapped-one");
+}
+
+/* The unmapped transfers (rules 4.17 and 4.18): the mask of the masters that are finished, from `mask`, that of the others. */
+static uint32_t answer_unmapped(uint32_t mask)
+{
+    uint32_t answered = 0;
+
+    for (uint32_t m = 0; m < board.master_count; m++) {
+        if (!mistake("unmapped-again") || (mask >> m & 1) != 0)
+            simulator_responses[m] = FABRIC_OKAY;
+        if (!answers(m, answered))
+            continue;
+        answered |= 1u << m;
+        request[m].standing = 0;
+        simulator_responses[m] = mistake("unmapped-okay") ? FABRIC_OKAY : FABRIC_DECODE_ERROR;
+        if (request[m].write)
+            store(m);
+        clear_words(m);
+    }
+    for (uint32_t i = 0; i < board.master_count; i++) {
+        uint32_t m = mistake("log-descending") ? board.master_count - 1 - i : i;
+
+        if ((answered >> m & 1) != 0)
+            enter(m);
+    }
+    return mask | answered;
+}
+
 uint32_t simulator_clock(struct fabric_lines *lines)
 {
     memset(lines, 0, sizeof *lines);
@@ -361,5 +516,25 @@ uint32_t simulator_clock(struct fabric_lines *lines)
         if (card[s].serving)
             serve(&card[s], &lines->line[s]);
     }
-    return finish();
+    return answer_unmapped(finish());
+}
+
+uint32_t simulator_take(struct fabric_entry *entry)
+{
+    struct fabric_log *log = &simulator_log;
+
+    memset(entry, 0, sizeof *entry);
+    if (log->count == 0)
+        return mistake("log-empty") ? FABRIC_TAKEN : FABRIC_EMPTY_LOG;
+    if (mistake("log-newest")) {
+        log->count--;
+        *entry = log->entry[log->count];
+        memset(&log->entry[log->count], 0, sizeof *entry);
+    } else {
+        *entry = log->entry[0];
+        move_down();
+    }
+    if (mistake("log-cleared") || (mistake("log-emptied") && log->count == 0))
+        log->lost = 0;
+    return FABRIC_TAKEN;
 }

@@ -29,6 +29,15 @@ static const char late_board[] =
     "share,0,0,2\n"
     "share,1,0,3\n";
 
+/* The first with an answer for unmapped transfers: no figure changes (rule 1.11). */
+static const char default_board[] =
+    "master,4,8\n"
+    "master,2,1\n"
+    "slave,4096,4096,2,8,1,0,0,0\n"
+    "share,0,0,2\n"
+    "share,1,0,3\n"
+    "default\n";
+
 /* Two slaves, and each of two masters connected to one of them. */
 static const char two_slaves[] =
     "master,4,8\n"
@@ -106,6 +115,21 @@ static void unordered(void)
            19, NULL, 0);
 }
 
+/* The line `default`: behind all others, and once (rules 1.4 and 7.2); its refusals come before what is asked for. */
+static void default_lines(const uint8_t *first, const uint8_t *second)
+{
+    expect("the line default", default_board, 0, 0, 16, 0, first, 16);
+    expect("the line default, long output", default_board, 1, 0, ROOM, 0, second, 16);
+    expect("the line default, short output", default_board, 0, 0, 15, 10, NULL, 0);
+    expect("the line default, no such master", default_board, 2, 0, 16, 11, NULL, 0);
+    expect("the line default, no such slave", default_board, 0, 1, 16, 16, NULL, 0);
+    expect("default twice", "master,4,8\nslave,0,8,4,1,0,0,0,0\nshare,0,0,1\ndefault\ndefault\n", 0, 0, 16, 2, NULL, 0);
+    expect("default before a slave line", "master,4,8\ndefault\nslave,0,8,4,1,0,0,0,0\nshare,0,0,1\n", 0, 0, 16, 2, NULL, 0);
+    expect("default before a share line", "master,4,8\nslave,0,8,4,1,0,0,0,0\ndefault\nshare,0,0,1\n", 0, 0, 0, 2, NULL, 0);
+    expect("default with a number", "master,4,8\nslave,0,8,4,1,0,0,0,0\nshare,0,0,1\ndefault,1\n", 0, 0, 16, 1, NULL, 0);
+    expect("default and no share line", "master,4,8\nslave,0,8,4,1,0,0,0,0\ndefault\n", 0, 0, 16, 20, NULL, 0);
+}
+
 int main(void)
 {
     static const uint8_t first[16] = {6, 0, 0, 0, 0, 0, 0, 0, 32};
@@ -136,6 +160,7 @@ int main(void)
     expect("empty text", "", 0, 0, 16, 2, NULL, 0);
     unshared();
     unordered();
+    default_lines(first, second);
     if (!failed)
         printf("slices: ok\n");
     return failed;

@@ -1,8 +1,8 @@
 #!/bin/sh
 # Builds the C clients against target/staticlib/libfabric_c.a (rt staticlib fabric_c) and tries them: the planning tool, also
-# against the model; what the calls do to what they are lent; texts with share lines in order and out of order; the accesses of
-# every pair of widths; the clock beside a simulator of its own, and mistakes of that simulator, each against a rule of
-# docs/RULES.md. What is lent is watched by valgrind where the machine has it.
+# against the model; what the calls do to what they are lent; texts with share lines in order and out of order, and with the line
+# default; the accesses of every pair of widths; the clock and the log beside a simulator of its own, and mistakes of that
+# simulator, each against a rule of docs/RULES.md. What is lent is watched by valgrind where the machine has it.
 set -eu
 here=$(cd "$(dirname "$0")" && pwd)
 root=$(cd "$here/../.." && pwd)
@@ -111,6 +111,22 @@ sed '4{h;d;};5G' "$board" >"$work/unordered"
 expect 1 "refused,21" "$work/unordered" 0 0
 expect 1 "refused,21" "$work/unordered" 1 0
 expect 1 "refused,21" "$work/unordered" 2 0
+# an answer for unmapped addresses changes no figure; its line stands once, behind all others, and has no number
+{ cat "$board"; echo default; } >"$work/few"
+expect 0 "wait,6
+serve,32" "$work/few" 0 0
+expect 0 "wait,36
+serve,2" "$work/few" 1 0
+expect 1 "refused,11" "$work/few" 2 0
+expect 1 "refused,16" "$work/few" 0 1
+{ cat "$work/few"; echo default; } >"$work/twice"
+expect 1 "refused,2" "$work/twice" 0 0
+sed '2a default' "$board" >"$work/early"
+expect 1 "refused,2" "$work/early" 0 0
+{ cat "$work/few"; echo share,1,0,3; } >"$work/behind"
+expect 1 "refused,2" "$work/behind" 0 0
+{ cat "$board"; echo default,1; } >"$work/numbered"
+expect 1 "refused,1" "$work/numbered" 0 0
 : >"$work/empty"
 expect 1 "refused,2" "$work/empty" 0 0
 head -c 8193 /dev/zero >"$work/long"
@@ -208,7 +224,52 @@ share,3,4,2
 share,3,5,1
 END
 
-# every pair of the larger boards and of generated ones, against the model's table
+# an answer for unmapped addresses: as many masters as the log has entries, of every width; holes between the cards, pairs that are
+# not connected, cards side by side, one that begins with address 0 and one that ends with the highest; native cards and latency too
+cat >"$work/answered" <<'END'
+master,8,4
+master,4,8
+master,2,64
+master,1,2
+master,4,1
+master,8,64
+master,1,16
+master,2,2
+slave,0,256,4,8,0,1,0,0
+slave,512,256,2,4,1,0,0,2
+slave,1024,512,1,2,0,0,1,0
+slave,1536,64,4,1,1,2,1,5
+slave,65536,8,2,8,0,0,0,0
+slave,4294967040,256,8,1,2,1,0,0
+share,0,0,2
+share,0,3,1
+share,0,5,3
+share,1,1,1
+share,1,3,2
+share,2,0,1
+share,2,2,2
+share,3,2,1
+share,3,4,2
+share,4,0,1
+share,4,3,1
+share,5,1,2
+share,5,2,1
+share,5,5,1
+share,6,0,1
+share,6,2,3
+share,7,1,1
+share,7,4,1
+default
+END
+
+# with_default FILE: the text of a board with the line default, which it may have already
+with_default() {
+    sed '/^default$/d' "$1"
+    echo default
+}
+with_default "$root/boards/crane.txt" >"$work/holes"
+
+# every pair of the larger boards and of generated ones, against the model's table, with the line default and without it
 model="$root/target/model/release/model"
 cargo build --release --offline --quiet --manifest-path "$root/model/Cargo.toml" --target-dir "$root/target/model"
 mkdir "$work/boards"
@@ -217,12 +278,20 @@ cp "$root/boards/crane.txt" "$root/boards/encoder.txt" "$root/boards/largest.txt
 cp "$work/native" "$work/boards/native.txt"
 cp "$work/widths" "$work/boards/widths.txt"
 cp "$work/latency" "$work/boards/latency.txt"
+cp "$work/answered" "$work/boards/answered.txt"
+mkdir "$work/with" "$work/without"
 pairs=0
 for described in "$work"/boards/*.txt; do
-    "$model" table <"$described" | grep '^[0-9]' >"$work/lines" || true
+    with="$work/with/${described##*/}"
+    without="$work/without/${described##*/}"
+    with_default "$described" >"$with"
+    sed '/^default$/d' "$described" >"$without"
+    "$model" table <"$without" | grep '^[0-9]' >"$work/lines" || true
     while IFS=, read -r master slave wait serve; do
-        expect 0 "wait,$wait
-serve,$serve" "$described" "$master" "$slave"
+        for text in "$without" "$with"; do
+            expect 0 "wait,$wait
+serve,$serve" "$text" "$master" "$slave"
+        done
         pairs=$((pairs + 1))
     done <"$work/lines"
 done
@@ -286,7 +355,7 @@ says "plan: $work: Is a directory"
 for suffix in '' $cpp; do
     "$work/slices$suffix" || failed=1
     "$work/calls$suffix" || failed=1
-    "$work/order$suffix" "$root"/boards/*.txt "$work/native" "$work/latency" || failed=1
+    "$work/order$suffix" "$root"/boards/*.txt "$work/native" "$work/latency" "$work/answered" || failed=1
     "$work/lanes$suffix" || failed=1
 done
 for client in slices calls order; do
@@ -318,11 +387,13 @@ for described in "$root"/boards/*.txt "$work"/boards/[0-9]*.txt; do
     for suffix in '' $cpp; do
         lockstep "$work/lockstep$suffix" 0 "$described" 5000 "$compared"
     done
+    with_default "$described" >"$work/same"
+    lockstep "$work/lockstep" 0 "$work/same" 5000 "$compared"
     compared=$((compared + 1))
 done
 [ "$compared" -gt 30 ] || { echo "only $compared boards were compared"; failed=1; }
 lockstep "$work/lockstep" 0 "$root/boards/largest.txt" 200000
-for described in "$root"/boards/*.txt "$work/native" "$work/widths" "$work/latency"; do
+for described in "$root"/boards/*.txt "$work/native" "$work/widths" "$work/latency" "$work/answered" "$work/few"; do
     lockstep "$watch $work/lockstep$watched" 0 "$described" 500
 done
 
@@ -354,11 +425,33 @@ for described in "$work/late" "$work/latency"; do
     [ "$kinds" = 4 ] || { echo "too little traffic at cards with latency:"; cat "$work/printed"; failed=1; }
 done
 
-# a difference is found: every mistake of the simulator, printed for both sides; those of latency need cards that have it
+# boards with the line default: of each of the seven kinds of events that lockstep counts there, enough to find a difference; the
+# same boards without it have none of them
+for described in "$work/answered" "$work/few" "$work/holes"; do
+    for suffix in '' $cpp; do
+        lockstep "$work/lockstep$suffix" 0 "$described" 50000
+    done
+    compared=$((compared + 1))
+    kinds=$(sed -n 's/.*; unmapped: //p' "$work/printed" | grep -o '[0-9]*' | awk '$1 > 100' | wc -l)
+    [ "$kinds" = 7 ] || { echo "too little traffic to no card:"; cat "$work/printed"; failed=1; }
+    sed '/^default$/d' "$described" >"$work/same"
+    lockstep "$work/lockstep" 0 "$work/same" 5000
+    if grep -q unmapped "$work/printed"; then
+        echo "unmapped transfers on a board without the line default:"
+        cat "$work/printed"
+        failed=1
+    fi
+done
+
+# a difference is found: every mistake of the simulator, printed for both sides; those of latency need cards that have it, those of
+# unmapped transfers and of the log boards with the line default
 mistakes=0
 for mistake in $("$work/lockstep" --mistakes); do
     boards="$root/boards/crane.txt"
-    case $mistake in late-*) boards="$work/late $work/latency" ;; esac
+    case $mistake in
+    late-*) boards="$work/late $work/latency" ;;
+    unmapped-* | log-*) boards="$work/answered $work/holes" ;;
+    esac
     for described in $boards; do
         for suffix in '' $cpp; do
             lockstep "$work/lockstep$suffix" 1 --mistake "$mistake" "$described" 50000
@@ -372,7 +465,7 @@ simulator: clock " ]; then
     done
     mistakes=$((mistakes + 1))
 done
-[ "$mistakes" -gt 18 ] || { echo "only $mistakes mistakes were tried"; failed=1; }
+[ "$mistakes" -gt 44 ] || { echo "only $mistakes mistakes were tried"; failed=1; }
 lockstep "$work/lockstep" 1 --mistake wait-per-beat "$board" 100
 printf '%s\n' 'library:   clock 3 slave 0 phase 1 owner 0 offset 3598 lanes 3 run 8 place 1' \
     'simulator: clock 3 slave 0 phase 2 owner 0 offset 3598 lanes 3 run 8 place 1' >"$work/difference"
@@ -386,9 +479,26 @@ printf '%s\n' 'library:   clock 24 master 0 latency clocks 3' \
     'simulator: clock 24 master 0 latency clocks 4' >"$work/difference"
 cmp "$work/difference" "$work/printed" || failed=1
 
+lockstep "$work/lockstep" 1 --mistake unmapped-okay "$work/answered" 100
+printf '%s\n' 'library:   clock 2 master 5 response 3' \
+    'simulator: clock 2 master 5 response 0' >"$work/difference"
+cmp "$work/difference" "$work/printed" || failed=1
+lockstep "$work/lockstep" 1 --mistake log-cleared "$work/few" 100
+printf '%s\n' 'library:   clock 77 log count 7 lost 1' \
+    'simulator: clock 77 log count 7 lost 0' >"$work/difference"
+cmp "$work/difference" "$work/printed" || failed=1
+lockstep "$work/lockstep" 1 --mistake log-stays "$work/few" 100
+printf '%s\n' 'library:   clock 14 log entry 0 master 1 address 3657719860 write 1' \
+    'simulator: clock 14 log entry 0 master 1 address 4094 write 0' >"$work/difference"
+cmp "$work/difference" "$work/printed" || failed=1
+lockstep "$work/lockstep" 1 --mistake log-newest "$work/few" 100
+printf '%s\n' 'library:   clock 14 take 0 master 1 address 4094 write 0' \
+    'simulator: clock 14 take 0 master 1 address 3657719860 write 1' >"$work/difference"
+cmp "$work/difference" "$work/printed" || failed=1
+
 # words that say nothing, boards that are none, output that is lost
 for words in '' "$board" "$board x" "$board 1 x" "$board 1 1 1" "--mistake none $board 1" "--mistake" "$work/absent 1" \
-    "$work/empty 1" "$work/narrow 1" "$work/unordered 1" "$work 1"; do
+    "$work/empty 1" "$work/narrow 1" "$work/unordered 1" "$work/twice 1" "$work/numbered 1" "$work 1"; do
     lockstep "$work/lockstep" 2 $words
 done
 lockstep "$work/lockstep" 2 "$work/fourth" 1
@@ -400,6 +510,18 @@ fi
 lockstep "$work/lockstep" 2 "$work/unordered" 1
 if [ "$(cat "$work/errors")" != "lockstep: $work/unordered: line 5: refusal 21" ]; then
     echo "lockstep does not name the line out of order but says:"
+    cat "$work/errors"
+    failed=1
+fi
+lockstep "$work/lockstep" 2 "$work/early" 1
+if [ "$(cat "$work/errors")" != "lockstep: $work/early: line 3: refusal 2" ]; then
+    echo "lockstep does not name the line default but says:"
+    cat "$work/errors"
+    failed=1
+fi
+lockstep "$work/lockstep" 2 "$work/behind" 1
+if [ "$(cat "$work/errors")" != "lockstep: $work/behind: line 7: refusal 2" ]; then
+    echo "lockstep does not name the line behind default but says:"
     cat "$work/errors"
     failed=1
 fi
