@@ -6,7 +6,6 @@ use common_numbers::LINES_NUMBERS;
 use common_numbers::MASTERS;
 use common_numbers::STATE_NUMBERS;
 ghost use mathlib.Core.Path.{_≡_};
-ghost use mathlib.Core.Bool.{cond};
 ghost use Prim.Native.Nat.{_≤_};
 ghost use lib.ListN.{getD, length};
 ghost use Rattle.description_layout.specs.Layout.{boardIn, marked};
@@ -152,13 +151,6 @@ pub extern "C" fn fabric_run(
     a.number
 }
 
-// The number of a mark (rule 2.4), as fabric_layout puts it.
-fn mark_of(b: bool) -> u32
-    ensures { λ r. ⌜ r ≡ cond b 1 0 ⌝ }
-{
-    if b { 1 } else { 0 }
-}
-
 // A take (rule 4.19): master, address and direction of the entry, the direction as a mark of 0 or 1.
 #[no_mangle]
 pub extern "C" fn fabric_take(
@@ -173,6 +165,6 @@ pub extern "C" fn fabric_take(
     let a = fabric::take(board, state);
     entry[0] = a.master;
     entry[1] = a.address;
-    entry[2] = mark_of(a.write);
+    entry[2] = fabric_layout::mark_of(a.write);
     a.number
 }

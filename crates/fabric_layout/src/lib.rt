@@ -35,7 +35,7 @@ ghost use Rattle.fabric_layout.specs.Layout.{stateIn, linesIn};
 ghost use Rattle.fabric_layout.specs.Code.Puts.{withSlot, withLate, withEntry, responsesFor, firstLines, resetSlot};
 
 // The number of a mark (rule 2.4).
-fn mark_of(b: bool) -> u32
+pub fn mark_of(b: bool) -> u32
     ensures { λ r. ⌜ r ≡ cond b 1 0 ⌝ }
 {
     if b { 1 } else { 0 }
