@@ -1,8 +1,3 @@
-pub mod ResetLaws
-pub mod PostLaws
-pub mod ClockLaws
 pub mod ResponseLaws
-pub mod RunOfClocks
-pub mod TakeLaws
+pub mod ClockTaken
 pub mod PassingLaws
-pub mod LanesShown

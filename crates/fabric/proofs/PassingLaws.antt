@@ -9,7 +9,7 @@ use borrow.Author.Tests.{ne-eqb}
 use Rattle.common_laws.specs.Lists.{table}
 use Rattle.description_board.specs.declared.Board.{Board}
 use Rattle.description_board.specs.Records.{memoryLength}
-use Rattle.fabric_bytes.specs.Bytes.{Store, bufferLength}
+use Rattle.fabric_transfer.specs.Bytes.{Store, bufferLength}
 use Rattle.fabric_state.specs.declared.State.{State}
 use Rattle.fabric_state.specs.declared.Line.{Line}
 use Rattle.fabric_state.specs.Records.{noLine}
@@ -20,13 +20,13 @@ use Rattle.fabric_layout.proofs.StatePutLaws.{transfers-length, slots-length, l
 use Rattle.fabric_check.specs.Code.Targets.{targetsIn, requestMask, unmappedMask}
 use Rattle.fabric_cycle.specs.Code.Cycles.{Passes, Clocks as Cycled}
 use Rattle.fabric_cycle.proofs.AgainLaws.{same-requests, same-unmapped}
-use Rattle.fabric.specs.Calls.{clockRefusal}
-use Rattle.fabric.specs.Running.{Run, standing, clockOn, run}
-use Rattle.fabric.specs.Lent.{Runs}
-use Rattle.fabric.proofs.ClockLaws.{exact-lengths}
+use Rattle.fabric_calls.specs.Calls.{clockRefusal}
+use Rattle.fabric_calls.specs.Running.{Run, standing, clockOn, run}
+use Rattle.fabric_calls.specs.Lent.{Runs}
+use Rattle.fabric_calls.proofs.ClockLaws.{exact-lengths}
 use Rattle.fabric.proofs.ResponseLaws.{responses-are, responses-zero}
-use Rattle.fabric.proofs.RunOfClocks.{Sized, reached, accepted-board, keeps-rules}
-use Rattle.fabric.proofs.RunOfClocks.{refusal-again, on-next, on-spent, on-finished}
+use Rattle.fabric_calls.proofs.RunOfClocks.{Sized, reached, accepted-board, keeps-rules}
+use Rattle.fabric_calls.proofs.RunOfClocks.{refusal-again, on-next, on-spent, on-finished}
 
 pub sized : (l : List ℕ) → Sized (stateIn l)
 sized l = record { transfers = transfers-length l; slots = slots-length l; lates = lates-length l }
@@ -34,7 +34,7 @@ sized l = record { transfers = transfers-length l; slots = slots-length l; lates
 -- a run of clocks that is refused
 pub run-refused : (b : Board) (most : ℕ) (before responses lines : List ℕ) (d : Store) {n : ℕ}
     → n ≡ clockRefusal b (stateIn before) d → (n ≡ 0 → ⊥) → responses ≡ replicate 8 0 → linesIn lines ≡ replicate 16 noLine
-    → Runs b most before before responses lines d d (record { number = n; clocks = 0; mask = 0 })
+    → Runs b most before before responses lines d d n 0 0
 unfolding run
 run-refused b most before responses lines d {n} e h r q =
     let no = ne-eqb (clockRefusal b (stateIn before) d) 0 (λ z. h (e ∙ z)) in
@@ -72,7 +72,7 @@ module _ (b : Board) (most : ℕ) (before : List ℕ) (d : Store) (ok : clockRef
   ran : {after responses lines : List ℕ} {e : Store} (n mask : ℕ)
       → clockOn b most (standing 0 (record { state = stateIn before; store = d }))
       ≡ reached n mask responses (linesIn lines) (stateIn after) e
-      → Runs b most before after responses lines d e (record { number = 0; clocks = n; mask = mask })
+      → Runs b most before after responses lines d e 0 n mask
   unfolding run
   ran n mask f = record { answer = sym f ∙ sym (rw ok); kept = λ h. absurd (h refl) }
 
@@ -88,7 +88,7 @@ module _ (b : Board) (most : ℕ) (before : List ℕ) (d : Store) (ok : clockRef
     passing-lengths = exact-lengths b (stateIn now) e (p .free)
 
     pub passing-spent : left ≡ 0 → {responses : List ℕ} → responses ≡ replicate 8 0
-        → Runs b most before now responses lines d e (record { number = 0; clocks = most; mask = 0 })
+        → Runs b most before now responses lines d e 0 most 0
     passing-spent z r =
         let all : most - left ≡ most = omega arith in
         ran most 0
@@ -123,7 +123,7 @@ module _ (b : Board) (most : ℕ) (before : List ℕ) (d : Store) (ok : clockRef
       }
 
       pub passing-finished : (mask ≡ 0 → ⊥) → {responses : List ℕ} → responses ≡ responsesFor unmapped
-          → Runs b most before then responses shown d f (record { number = 0; clocks = most - (left - 1); mask = mask })
+          → Runs b most before then responses shown d f 0 (most - (left - 1)) mask
       passing-finished h r =
           let are = responses-are b (stateIn now) (p .held) r in
           ran (most - (left - 1)) mask (once ∙ on-finished b (left - 1) _ h ∙ rw are)

@@ -13,10 +13,9 @@ use common_numbers::SLAVES;
 use common_numbers::STATE_NUMBERS;
 use common_numbers::TAKEN;
 use description_board::Master;
-use fabric_accesses::Transfer;
 use fabric_state::Entry;
 use fabric_state::NO_ENTRY;
-use fabric_state::State;
+use fabric_transfer::Transfer;
 ghost use mathlib.Core.Path.{_≡_};
 ghost use mathlib.Core.Bool.{cond};
 ghost use Prim.Native.Nat.{_*_, _<_};
@@ -25,20 +24,9 @@ ghost use Rattle.description_board.specs.Items.{boardRefusal};
 ghost use Rattle.description_board.specs.Records.{memoryLength};
 ghost use Rattle.description_layout.specs.Layout.{boardIn};
 ghost use Rattle.fabric_layout.specs.Layout.{stateIn};
-ghost use Rattle.fabric.specs.Calls.{requestRefusal, postRefusalBy, takeRefusal, takenOf};
-ghost use Rattle.fabric.specs.Code.Requests.{request, clockRefusalBy};
-ghost use Rattle.fabric.specs.Lent.{Resets, Posts, Clocks, Runs, Takes};
-
-// What the definitions of reset and post answer. The calls are lent the state, and answer the number alone (rules 3.3, 4.2).
-pub struct Started {
-    pub number: u32,
-    pub state: State,
-}
-
-pub struct Posted {
-    pub number: u32,
-    pub state: State,
-}
+ghost use Rattle.fabric_calls.specs.Calls.{requestRefusal, postRefusalBy, takeRefusal, takenOf};
+ghost use Rattle.fabric_calls.specs.Code.Requests.{request, clockRefusalBy};
+ghost use Rattle.fabric_calls.specs.Lent.{Resets, Posts, Clocks, Runs, Takes};
 
 // The answer of clock beside its responses and lines (rules 4.13, 8.1): a refusal's number and 0, or 0 and the mask of masters finished.
 pub struct Answer {
@@ -205,7 +193,8 @@ pub fn clock(
     ensures { λ r. ⌜ Clocks (boardIn (now (board .entry))) (now (state .entry)) (now (state .exit)) (now (responses .exit))
         (now (lines .exit))
         (record { memory = now (memory .entry); buffer = now (buffer .entry) })
-        (record { memory = now (memory .exit); buffer = now (buffer .exit) }) r ⌝ }
+        (record { memory = now (memory .exit); buffer = now (buffer .exit) })
+        (r .number) (r .mask) ⌝ }
 {
     let mut targets = [0u32; MASTERS];
     let checked = fabric_check::ready(board, state, &mut targets);
@@ -261,7 +250,8 @@ pub fn run(
     ensures { λ r. ⌜ Runs (boardIn (now (board .entry))) most (now (state .entry)) (now (state .exit)) (now (responses .exit))
         (now (lines .exit))
         (record { memory = now (memory .entry); buffer = now (buffer .entry) })
-        (record { memory = now (memory .exit); buffer = now (buffer .exit) }) r ⌝ }
+        (record { memory = now (memory .exit); buffer = now (buffer .exit) })
+        (r .number) (r .clocks) (r .mask) ⌝ }
 {
     let mut targets = [0u32; MASTERS];
     let checked = fabric_check::ready(board, state, &mut targets);
@@ -312,7 +302,7 @@ fn take_refusal(board: &[u32; BOARD_NUMBERS], state: &[u32; STATE_NUMBERS]) -> u
 
 // The answer of take (rule 4.19).
 fn take_answer(n: u32, e: Entry) -> Taken
-    ensures { λ r. ⌜ r ≡ takenOf n e ⌝ }
+    ensures { λ r. ⌜ record { number = r .number; master = r .master; address = r .address; write = r .write } ≡ takenOf n e ⌝ }
 {
     Taken {
         number: n,
@@ -324,7 +314,8 @@ fn take_answer(n: u32, e: Entry) -> Taken
 
 // Take (rule 4.19): the oldest entry of the log is answered and taken out of it. What is refused leaves the state (rule 8.1).
 pub fn take(board: &[u32; BOARD_NUMBERS], state: &mut [u32; STATE_NUMBERS]) -> Taken
-    ensures { λ r. ⌜ Takes (boardIn (now (board .entry))) (now (state .entry)) (now (state .exit)) r ⌝ }
+    ensures { λ r. ⌜ Takes (boardIn (now (board .entry))) (now (state .entry)) (now (state .exit))
+        (record { number = r .number; master = r .master; address = r .address; write = r .write }) ⌝ }
 {
     let number = take_refusal(board, state);
     if number != 0 {

@@ -2,39 +2,21 @@
 // Widths, bursts and spans are powers of two (rule 1.6), so that shifts and masks do what divisions would.
 use description_board::Master;
 use description_board::Slave;
+use fabric_transfer::Transfer;
 ghost use mathlib.Core.Path.{_≡_};
 ghost use mathlib.Core.Bool.{true};
 ghost use Prim.Native.Nat.{_*_, _-_, _/_, _%_, _≤_, _<_};
 ghost use Rattle.common_laws.specs.Lists.{member};
 ghost use Rattle.description_board.specs.Rules.{widths, bursts};
-ghost use Rattle.fabric_accesses.specs.Decoding.{agrees};
-ghost use Rattle.fabric_accesses.specs.Code.Pairs.{Span};
+ghost use Rattle.fabric_transfer.specs.Decoding.{agrees};
+ghost use Rattle.fabric_transfer.specs.Code.Pairs.{Span};
 ghost use Rattle.description_board.specs.Records.{isNative};
-ghost use Rattle.fabric_accesses.specs.Alignment.{ratio, leavesOut, laneBytes, accessBytes};
-ghost use Rattle.fabric_accesses.specs.Accesses.{firstByte, accessOffset, wordOffset, writeLanes, slaveLanes};
-ghost use Rattle.fabric_accesses.specs.Accesses.{accesses, accessNumber, waitOf, latencyOf, ownLength};
-ghost use Rattle.fabric_accesses.specs.Runs.{runLimit, placeOf, runOf};
-ghost use Rattle.fabric_accesses.specs.Code.Pairs.{Widths, InWord};
-ghost use Rattle.fabric_accesses.specs.Code.Numbers.{Posted, firstAccess, beatAccesses};
-
-// What a master posted (rule 3.1). Where `held` is false the master holds nothing and the other fields say nothing; a reset and a
-// finish leave the zero record (rules 4.2, 4.9).
-pub struct Transfer {
-    pub held: bool,
-    pub write: bool,
-    pub address: u32,
-    pub lanes: u32,
-    pub beats: u32,
-}
-
-// The zero record.
-pub const NO_TRANSFER: Transfer = Transfer {
-    held: false,
-    write: false,
-    address: 0,
-    lanes: 0,
-    beats: 0,
-};
+ghost use Rattle.fabric_transfer.specs.Alignment.{ratio, leavesOut, laneBytes, accessBytes};
+ghost use Rattle.fabric_transfer.specs.Accesses.{firstByte, accessOffset, wordOffset, writeLanes, slaveLanes};
+ghost use Rattle.fabric_transfer.specs.Accesses.{accesses, accessNumber, waitOf, latencyOf, ownLength};
+ghost use Rattle.fabric_transfer.specs.Runs.{runLimit, placeOf, runOf};
+ghost use Rattle.fabric_transfer.specs.Code.Pairs.{Widths, InWord};
+ghost use Rattle.fabric_transfer.specs.Code.Numbers.{Posted, firstAccess, beatAccesses};
 
 // The words of this width in so many bytes (rules 4.10, 5.3).
 pub fn quotient(bytes: u32, width: u32) -> u32

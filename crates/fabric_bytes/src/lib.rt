@@ -3,14 +3,14 @@
 use common_numbers::PART_BYTES;
 use description_board::Master;
 use description_board::Slave;
-use fabric_accesses::Transfer;
+use fabric_transfer::Transfer;
 ghost use mathlib.Core.Path.{_≡_};
 ghost use Prim.Native.Nat.{_+_, _≤_, _<_};
 ghost use lib.ListN.{length, getD};
 ghost use Rattle.common_laws.specs.Bits.{bit};
-ghost use Rattle.fabric_bytes.specs.Moving.{all, bytesFrom, indexFrom, move};
-ghost use Rattle.fabric_bytes.specs.Bytes.{bufferLength, partOf, postedWords, clearedWords, carriedAccess};
-ghost use Rattle.fabric_bytes.specs.Code.Reaching.{Reached};
+ghost use Rattle.fabric_transfer.specs.Moving.{all, bytesFrom, indexFrom, move};
+ghost use Rattle.fabric_transfer.specs.Bytes.{bufferLength, partOf, postedWords, clearedWords, carriedAccess};
+ghost use Rattle.fabric_transfer.specs.Code.Reaching.{Reached};
 
 // So many bytes of the source from index `from` on go to index `at` of the part and behind it (rule 3.2): the words of a post, or
 // those bytes of a read access that the slave has lanes for.

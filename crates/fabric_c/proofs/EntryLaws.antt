@@ -8,8 +8,7 @@ use native.Mathlib.Omega.{arith}
 use lib.ListN.{length, getD, set, length-set}
 use lib.Seq.{getD-set-same, getD-set-other}
 use Rattle.fabric_layout.proofs.RecordLaws.{mark-back}
-use Rattle.fabric.specs.declared.Taken.{Taken}
-use Rattle.fabric.specs.Code.Requests.{takenIn}
+use Rattle.fabric_calls.specs.Code.Requests.{takenIn}
 
 -- the number of a mark is 0 or 1
 mark-small : (w : Bool) {k : ℕ} → k ≡ cond w 1 0 → k ≤ 1
@@ -39,16 +38,10 @@ module _ (l : List ℕ) (three : length l ≡ 3) (m a k : ℕ) where
   put-write = getD-set-same (set (set l 0 m) 1 a) 2 k 0 (omega (arith, third))
 
 -- so they are the answer's
-module _ (l : List ℕ) (three : length l ≡ 3) (x : Taken) {k : ℕ} (e : k ≡ cond (x .write) 1 0) where
-  pub entry-taken : takenIn (x .number) (set (set (set l 0 (x .master)) 1 (x .address)) 2 k) ≡ x
+module _ (l : List ℕ) (three : length l ≡ 3) (n m a : ℕ) (w : Bool) {k : ℕ} (e : k ≡ cond w 1 0) where
+  pub entry-taken : takenIn n (set (set (set l 0 m) 1 a) 2 k) ≡ record { number = n; master = m; address = a; write = w }
   unfolding takenIn
-  entry-taken =
-      rw (
-        put-master l three (x .master) (x .address) k,
-        put-address l three (x .master) (x .address) k,
-        put-write l three (x .master) (x .address) k,
-        mark-back (x .write) e,
-      )
+  entry-taken = rw (put-master l three m a k, put-address l three m a k, put-write l three m a k, mark-back w e)
 
-  pub entry-small : getD (set (set (set l 0 (x .master)) 1 (x .address)) 2 k) 2 0 ≤ 1
-  entry-small = rw (put-write l three (x .master) (x .address) k) (mark-small (x .write) e)
+  pub entry-small : getD (set (set (set l 0 m) 1 a) 2 k) 2 0 ≤ 1
+  entry-small = rw (put-write l three m a k) (mark-small w e)

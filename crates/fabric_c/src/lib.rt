@@ -12,8 +12,8 @@ ghost use Rattle.description_layout.specs.Layout.{boardIn, marked};
 ghost use Rattle.description.specs.Lent.{Read};
 ghost use Rattle.description.specs.Blame.{refusedAt};
 ghost use Rattle.wait.specs.Answers.{waitRefusal, waitOutput};
-ghost use Rattle.fabric.specs.Code.Requests.{request, takenIn};
-ghost use Rattle.fabric.specs.Lent.{Resets, Posts, Clocks, Runs, Takes};
+ghost use Rattle.fabric_calls.specs.Code.Requests.{request, takenIn};
+ghost use Rattle.fabric_calls.specs.Lent.{Resets, Posts, Clocks, Runs, Takes};
 
 // Wait and serve of a pair, on a description's bytes (rule 5.8): wait::wait_call.
 #[no_mangle]
@@ -116,7 +116,7 @@ pub extern "C" fn fabric_clock(
         (now (lines .exit))
         (record { memory = now (memory .entry); buffer = now (buffer .entry) })
         (record { memory = now (memory .exit); buffer = now (buffer .exit) })
-        (record { number = r; mask = getD (now (mask .exit)) 0 0 }) ⌝ }
+        r (getD (now (mask .exit)) 0 0) ⌝ }
 {
     description_layout::count(mask);
     let a = fabric::clock(board, state, memory, buffer, lines, responses);
@@ -141,7 +141,7 @@ pub extern "C" fn fabric_run(
         (now (lines .exit))
         (record { memory = now (memory .entry); buffer = now (buffer .entry) })
         (record { memory = now (memory .exit); buffer = now (buffer .exit) })
-        (record { number = r; clocks = getD (now (clocks .exit)) 0 0; mask = getD (now (mask .exit)) 0 0 }) ⌝ }
+        r (getD (now (clocks .exit)) 0 0) (getD (now (mask .exit)) 0 0) ⌝ }
 {
     description_layout::count(clocks);
     description_layout::count(mask);

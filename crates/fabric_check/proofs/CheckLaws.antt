@@ -20,10 +20,10 @@ use Rattle.description_board.specs.Records.{masterAt, slaveAt, sharesAt}
 use Rattle.description_board.specs.Rules.{widths}
 use Rattle.description_board.specs.Items.{boardRefusal}
 use Rattle.description_board.proofs.Accepted.{accepted-legal}
-use Rattle.fabric_accesses.specs.declared.Transfer.{Transfer}
-use Rattle.fabric_accesses.specs.Accesses.{accesses, waitOf}
-use Rattle.fabric_accesses.specs.Decoding.{targetOf}
-use Rattle.fabric_accesses.specs.Code.Numbers.{Posted}
+use Rattle.fabric_transfer.specs.declared.Transfer.{Transfer}
+use Rattle.fabric_transfer.specs.Accesses.{accesses, waitOf}
+use Rattle.fabric_transfer.specs.Decoding.{targetOf}
+use Rattle.fabric_transfer.specs.Code.Numbers.{Posted}
 use Rattle.fabric_state.specs.declared.Slot.{Slot}
 use Rattle.fabric_state.specs.declared.State.{State}
 use Rattle.fabric_state.specs.Records.{transferAt, slotAt, lateAt}

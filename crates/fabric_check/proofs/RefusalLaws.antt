@@ -19,13 +19,13 @@ use Rattle.description_board.specs.Records.{noSlave, masterAt, slaveAt}
 use Rattle.description_board.specs.Rules.{widths}
 use Rattle.description_board.specs.Items.{boardRefusal}
 use Rattle.description_board.proofs.Accepted.{accepted-legal}
-use Rattle.fabric_accesses.specs.declared.Transfer.{Transfer}
-use Rattle.fabric_accesses.specs.Accesses.{latencyOf}
-use Rattle.fabric_accesses.specs.Decoding.{targetOf}
+use Rattle.fabric_transfer.specs.declared.Transfer.{Transfer}
+use Rattle.fabric_transfer.specs.Accesses.{latencyOf}
+use Rattle.fabric_transfer.specs.Decoding.{targetOf}
 use Rattle.fabric_state.specs.Posting.{unmapped, isUnmapped, transferRefusalBy, transferRefusal}
 use Rattle.fabric_state.specs.Soundness.{latencyAt}
 use Rattle.fabric_check.specs.Code.Checks.{latencyBy}
-use Rattle.fabric_accesses.proofs.SelectLaws.{target-first}
+use Rattle.fabric_transfer.proofs.SelectLaws.{target-first}
 
 pub width-some : (width : ℕ) → member width widths ≡ true → 0 < width
 width-some width e = member-each (λ w. 0 < w) width widths (omega arith) e

@@ -22,16 +22,16 @@ use Rattle.description_board.specs.declared.Board.{Board}
 use Rattle.description_board.specs.Records.{slaveAt, sharesAt, connected}
 use Rattle.description_board.specs.Items.{boardRefusal}
 use Rattle.description_board.proofs.Accepted.{accepted-legal}
-use Rattle.fabric_accesses.specs.declared.Transfer.{Transfer}
-use Rattle.fabric_accesses.specs.Accesses.{noTransfer}
-use Rattle.fabric_accesses.specs.Decoding.{agrees, selects, targetOf}
-use Rattle.fabric_accesses.proofs.DecodeLaws.{span-of}
+use Rattle.fabric_transfer.specs.declared.Transfer.{Transfer}
+use Rattle.fabric_transfer.specs.Accesses.{noTransfer}
+use Rattle.fabric_transfer.specs.Decoding.{agrees, selects, targetOf}
+use Rattle.fabric_transfer.proofs.DecodeLaws.{span-of}
 use Rattle.fabric_state.specs.declared.State.{State}
 use Rattle.fabric_state.specs.Records.{transferAt}
 use Rattle.fabric_state.specs.Soundness.{holdsFor}
 use Rattle.fabric_check.specs.Code.Targets.{heldTarget, targetIn, targetsIn, requestMask}
 use Rattle.fabric_check.specs.Code.Decoded.{Decodes}
-use Rattle.fabric_accesses.proofs.SelectLaws.{target-first, selects-target}
+use Rattle.fabric_transfer.proofs.SelectLaws.{target-first, selects-target}
 use Rattle.fabric_state.proofs.RequestLaws.{holds-not}
 
 -- a slave of the board is selected where its address agrees and the master has shares there; one of the two says that it is not

@@ -13,8 +13,8 @@ use Rattle.common_laws.specs.Lists.{sum, every}
 use Rattle.common_laws.proofs.TableLaws.{getD-table, every-at, mask, mask-lt}
 use Rattle.common_laws.proofs.FillLaws.{sum-same}
 use Rattle.description_board.specs.declared.Board.{Board}
-use Rattle.fabric_accesses.specs.declared.Transfer.{Transfer}
-use Rattle.fabric_accesses.specs.Decoding.{targetOf}
+use Rattle.fabric_transfer.specs.declared.Transfer.{Transfer}
+use Rattle.fabric_transfer.specs.Decoding.{targetOf}
 use Rattle.fabric_state.specs.declared.State.{State}
 use Rattle.fabric_state.specs.Records.{transferAt, lateAt}
 use Rattle.fabric_state.specs.Posting.{unmapped, isUnmapped}

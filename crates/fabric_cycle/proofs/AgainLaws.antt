@@ -11,8 +11,8 @@ use Rattle.common_laws.specs.Lists.{table}
 use Rattle.common_laws.proofs.BitLaws.{bit-above}
 use Rattle.common_laws.proofs.FillLaws.{table-is}
 use Rattle.description_board.specs.declared.Board.{Board}
-use Rattle.fabric_accesses.specs.Accesses.{noTransfer}
-use Rattle.fabric_bytes.specs.Bytes.{Store}
+use Rattle.fabric_transfer.specs.Accesses.{noTransfer}
+use Rattle.fabric_transfer.specs.Bytes.{Store}
 use Rattle.fabric_state.specs.declared.State.{State}
 use Rattle.fabric_state.specs.declared.Line.{Line}
 use Rattle.fabric_state.specs.Soundness.{unmappedAt}

@@ -16,8 +16,8 @@ use borrow.Author.Tests.{lt-ltb, le-ltb, eq-eqb, ne-eqb, eqb-true}
 use Rattle.common_laws.specs.Lists.{sum}
 use Rattle.common_laws.proofs.TableLaws.{getD-table, mask, mask-lt}
 use Rattle.common_laws.proofs.FillLaws.{sum-same, table-is, filled, filled-none, filled-next}
-use Rattle.fabric_accesses.specs.declared.Transfer.{Transfer}
-use Rattle.fabric_accesses.specs.Accesses.{noTransfer}
+use Rattle.fabric_transfer.specs.declared.Transfer.{Transfer}
+use Rattle.fabric_transfer.specs.Accesses.{noTransfer}
 use Rattle.fabric_state.specs.declared.State.{State}
 use Rattle.fabric_state.specs.Records.{transferAt, lateAt}
 use Rattle.fabric_state.specs.Posting.{withTransfer}

@@ -1,6 +1,3 @@
-pub mod SlotGrantLaws
-pub mod ServeLaws
-pub mod ReachLaws
 pub mod SlaveClockLaws
 pub mod LatencyLaws
 pub mod PassLaws

@@ -27,10 +27,10 @@ use Rattle.description_board.specs.Records.{masterAt, slaveAt, sharesAt, totalS
 use Rattle.description_board.specs.Legal.{Legal}
 use Rattle.description_board.proofs.Accepted.{accepted-legal}
 use Rattle.description_board.proofs.StartLaws.{end-inside}
-use Rattle.fabric_accesses.specs.declared.Transfer.{Transfer}
-use Rattle.fabric_accesses.specs.Accesses.{noTransfer}
+use Rattle.fabric_transfer.specs.declared.Transfer.{Transfer}
+use Rattle.fabric_transfer.specs.Accesses.{noTransfer}
 use Rattle.fabric_arbiter.proofs.OrderLaws.{granted-agree}
-use Rattle.fabric_bytes.specs.Bytes.{Store, bufferLength}
+use Rattle.fabric_transfer.specs.Bytes.{Store, bufferLength}
 use Rattle.fabric_state.specs.declared.Slot.{Slot}
 use Rattle.fabric_state.specs.declared.State.{State}
 use Rattle.fabric_state.specs.declared.Line.{Line}
@@ -50,9 +50,9 @@ use Rattle.fabric_layout.specs.Code.Puts.{withSlot, withLate, firstLines}
 use Rattle.fabric_layout.proofs.StatePutLaws.{first-put}
 use Rattle.fabric_check.specs.Code.Targets.{targetsIn, requestMask}
 use Rattle.fabric_check.proofs.TargetLaws.{mask-holds}
-use Rattle.fabric_cycle.specs.Code.Serving.{stepFrom, carriedFrom}
-use Rattle.fabric_cycle.proofs.ServeLaws.{from-resting, carried-resting, step-is, carried-is}
-use Rattle.fabric_cycle.proofs.ReachLaws.{start-next, grant-placed, grant-reached}
+use Rattle.fabric_slave.specs.Code.Serving.{stepFrom, carriedFrom}
+use Rattle.fabric_slave.proofs.ServeLaws.{from-resting, carried-resting, step-is, carried-is}
+use Rattle.fabric_slave.proofs.ReachLaws.{start-next, grant-placed, grant-reached}
 use Rattle.fabric_cycle.specs.declared.Latent.{Latent}
 use Rattle.fabric_cycle.specs.Code.Latency.{countedTransfer, Counted}
 use Rattle.fabric_cycle.specs.Code.Cycles.{Passes, stateActed, Acted}

@@ -14,8 +14,8 @@ use Rattle.description_board.specs.declared.Master.{Master}
 use Rattle.description_board.specs.declared.Slave.{Slave}
 use Rattle.description_board.specs.declared.Board.{Board}
 use Rattle.description_board.specs.Records.{masterAt, slaveAt, sharesAt}
-use Rattle.fabric_accesses.specs.declared.Transfer.{Transfer}
-use Rattle.fabric_accesses.specs.Accesses.{latencyOf}
+use Rattle.fabric_transfer.specs.declared.Transfer.{Transfer}
+use Rattle.fabric_transfer.specs.Accesses.{latencyOf}
 use Rattle.fabric_arbiter.specs.declared.Arbiter.{Arbiter}
 use Rattle.fabric_arbiter.specs.declared.Winner.{Winner}
 use Rattle.fabric_arbiter.specs.declared.Winner.the-variants.{Again, First, NoOne}
@@ -24,7 +24,7 @@ use Rattle.fabric_arbiter.specs.Granting.{granted}
 use Rattle.fabric_arbiter.specs.Code.Winning.{winnerOf, grantBy}
 use Rattle.fabric_arbiter.proofs.GrantLaws.{again-wins, first-wins, none-wins}
 use Rattle.fabric_arbiter.proofs.OrderLaws.{winner-again, winner-first}
-use Rattle.fabric_bytes.specs.Bytes.{Store}
+use Rattle.fabric_transfer.specs.Bytes.{Store}
 use Rattle.fabric_state.specs.declared.Slot.{Slot}
 use Rattle.fabric_state.specs.declared.State.{State}
 use Rattle.fabric_state.specs.declared.Line.{Line}
@@ -32,8 +32,8 @@ use Rattle.fabric_state.specs.declared.Step.{Step}
 use Rattle.fabric_state.specs.Records.{noLine, transferAt, slotAt, arbiterOf}
 use Rattle.fabric_state.specs.Control.{slotGranted}
 use Rattle.fabric_layout.specs.Code.Puts.{withSlot}
-use Rattle.fabric_cycle.specs.Code.Serving.{stepFrom, Serves, Served}
-use Rattle.fabric_cycle.proofs.ServeLaws.{from-resting, carried-resting}
+use Rattle.fabric_slave.specs.Code.Serving.{stepFrom, Serves, Served}
+use Rattle.fabric_slave.proofs.ServeLaws.{from-resting, carried-resting}
 use Rattle.fabric_cycle.specs.Code.SlaveClocks.{slotAsked, stepAt, carriedAt, latencyBehind}
 use Rattle.fabric_cycle.specs.Code.SlaveClocks.{endedTransfer, stateStepped, Serving, SlaveClocked}
 

@@ -20,10 +20,10 @@ use Rattle.description_board.specs.declared.Master.{Master}
 use Rattle.description_board.specs.declared.Board.{Board}
 use Rattle.description_board.specs.Records.{masterAt}
 use Rattle.description_board.specs.Legal.{Legal}
-use Rattle.fabric_accesses.specs.declared.Transfer.{Transfer}
-use Rattle.fabric_accesses.specs.Accesses.{noTransfer}
-use Rattle.fabric_bytes.specs.Bytes.{Store, bufferLength, clearedWords}
-use Rattle.fabric_bytes.proofs.StoreLaws.{length-cleared}
+use Rattle.fabric_transfer.specs.declared.Transfer.{Transfer}
+use Rattle.fabric_transfer.specs.Accesses.{noTransfer}
+use Rattle.fabric_transfer.specs.Bytes.{Store, bufferLength, clearedWords}
+use Rattle.fabric_transfer.proofs.StoreLaws.{length-cleared}
 use Rattle.fabric_state.specs.declared.Line.{Line}
 use Rattle.fabric_state.specs.declared.Log.{Log}
 use Rattle.fabric_state.specs.declared.State.{State}

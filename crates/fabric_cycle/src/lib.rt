@@ -1,25 +1,23 @@
 // One clock of an accepted board in a state that breaks no rule, slave by slave (rules 4.3 to 4.9, 4.11, 4.16), and then the masters
 // that hold unmapped transfers (rules 4.17, 4.18).
 // The state is changed where it stands.
-mod slave;
-
 use common_numbers::BOARD_NUMBERS;
 use common_numbers::LINES_NUMBERS;
 use common_numbers::SLAVES;
 use common_numbers::STATE_NUMBERS;
-use fabric_accesses::NO_TRANSFER;
-use fabric_accesses::Transfer;
 use fabric_arbiter::Winner;
 use fabric_state::Entry;
 use fabric_state::NO_LINE;
 use fabric_state::Slot;
+use fabric_transfer::NO_TRANSFER;
+use fabric_transfer::Transfer;
 ghost use mathlib.Core.Path.{_≡_};
 ghost use mathlib.Core.Bool.{false};
 ghost use Prim.Native.Nat.{_*_, _≤_, _<_};
 ghost use lib.ListN.{length};
 ghost use Rattle.common_laws.specs.Lists.{table, sum};
 ghost use Rattle.description_board.specs.Records.{masterAt, memoryLength};
-ghost use Rattle.fabric_bytes.specs.Bytes.{bufferLength};
+ghost use Rattle.fabric_transfer.specs.Bytes.{bufferLength};
 ghost use Rattle.fabric_state.specs.Records.{lateAt};
 ghost use Rattle.description_layout.specs.Layout.{boardIn};
 ghost use Rattle.fabric_layout.specs.Layout.{stateIn, linesIn};
@@ -38,22 +36,22 @@ fn slot_asked(board: &[u32; BOARD_NUMBERS], st: &[u32; STATE_NUMBERS], s: usize,
     if slot.serving {
         return slot;
     }
-    let last = slave::arbiter_of(slot);
+    let last = fabric_slave::arbiter_of(slot);
     let w = fabric_arbiter::winner_of(description_layout::master_count(board), mask, last);
     match w {
-        Winner::Again => slave::slot_granted(
+        Winner::Again => fabric_slave::slot_granted(
             slot,
             w,
             0,
             fabric_layout::beats_at(st, last.owner as usize),
         ),
-        Winner::First(m) => slave::slot_granted(
+        Winner::First(m) => fabric_slave::slot_granted(
             slot,
             w,
             description_layout::shares_at(board, m as usize, s),
             fabric_layout::beats_at(st, m as usize),
         ),
-        Winner::NoOne => slave::slot_granted(slot, w, 0, 0),
+        Winner::NoOne => fabric_slave::slot_granted(slot, w, 0, 0),
     }
 }
 
@@ -156,7 +154,7 @@ fn serve_at(
     let ma = description_layout::master_at(board, o);
     let sl = description_layout::slave_at(board, s);
     let t = fabric_layout::transfer_at(st, o);
-    let step = slave::serve(ma, sl, t, slot, start, memory, buffer);
+    let step = fabric_slave::serve(ma, sl, t, slot, start, memory, buffer);
     let next = step.slot;
     let line = step.line;
     fabric_layout::put_slot(st, s, next);

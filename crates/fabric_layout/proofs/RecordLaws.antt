@@ -16,8 +16,8 @@ use Rattle.common_laws.proofs.FillLaws.{table-put}
 use Rattle.common_laws.proofs.FrontLaws.{table-same}
 use Rattle.common_laws.proofs.SetsLaws.{five, five-sets, six-sets, sets-inside, Agree, five-same, sets-apart, records-apart}
 use Rattle.description_layout.specs.Layout.{marked}
-use Rattle.fabric_accesses.specs.declared.Transfer.{Transfer}
-use Rattle.fabric_accesses.specs.Accesses.{noTransfer}
+use Rattle.fabric_transfer.specs.declared.Transfer.{Transfer}
+use Rattle.fabric_transfer.specs.Accesses.{noTransfer}
 use Rattle.fabric_state.specs.declared.Slot.{Slot}
 use Rattle.fabric_state.specs.declared.Entry.{Entry}
 use Rattle.fabric_state.specs.declared.Line.{Line}

@@ -11,8 +11,8 @@ use Rattle.common_laws.specs.Lists.{table, gather}
 use Rattle.common_laws.proofs.TableLaws.{length-table, getD-table}
 use Rattle.common_laws.proofs.FillLaws.{table-is, filled, filled-none}
 use Rattle.common_laws.proofs.FrontLaws.{table-same}
-use Rattle.fabric_accesses.specs.declared.Transfer.{Transfer}
-use Rattle.fabric_accesses.specs.Accesses.{noTransfer}
+use Rattle.fabric_transfer.specs.declared.Transfer.{Transfer}
+use Rattle.fabric_transfer.specs.Accesses.{noTransfer}
 use Rattle.fabric_state.specs.declared.Slot.{Slot}
 use Rattle.fabric_state.specs.declared.Log.{Log}
 use Rattle.fabric_state.specs.declared.State.{State}

@@ -7,7 +7,7 @@ use Prim.Native.Nat.{ℕ, _+_, _*_}
 use lib.ListN.{getD}
 use Rattle.common_laws.specs.Lists.{table}
 use Rattle.description_layout.specs.Layout.{marked}
-use Rattle.fabric_accesses.specs.declared.Transfer.{Transfer}
+use Rattle.fabric_transfer.specs.declared.Transfer.{Transfer}
 use Rattle.fabric_state.specs.declared.Slot.{Slot}
 use Rattle.fabric_state.specs.declared.Entry.{Entry}
 use Rattle.fabric_state.specs.declared.Log.{Log}

@@ -11,9 +11,9 @@ use Rattle.common_laws.proofs.Tests.{both}
 use Rattle.description_board.specs.declared.Board.{Board}
 use Rattle.description_board.specs.Records.{masterAt}
 use Rattle.description_board.specs.Legal.{Legal}
-use Rattle.fabric_bytes.specs.Bytes.{Store, bufferLength, partOf, clearedWords}
-use Rattle.fabric_bytes.proofs.Ranges.{Agree, agree-refl, agree-trans, front, front-same}
-use Rattle.fabric_bytes.proofs.StoreLaws.{length-cleared, cleared-front, cleared-apart}
+use Rattle.fabric_transfer.specs.Bytes.{Store, bufferLength, partOf, clearedWords}
+use Rattle.fabric_transfer.proofs.Ranges.{Agree, agree-refl, agree-trans, front, front-same}
+use Rattle.fabric_transfer.proofs.StoreLaws.{length-cleared, cleared-front, cleared-apart}
 use Rattle.fabric_state.specs.declared.State.{State}
 use Rattle.fabric_state.specs.Records.{transferAt}
 use Rattle.fabric_state.specs.Soundness.{unmappedAt}

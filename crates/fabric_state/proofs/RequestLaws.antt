@@ -14,14 +14,14 @@ use Rattle.description_board.specs.declared.Board.{Board}
 use Rattle.description_board.specs.Records.{masterAt, slaveAt, sharesAt}
 use Rattle.description_board.specs.Rules.{widths, bursts}
 use Rattle.description_board.specs.Legal.{Legal}
-use Rattle.fabric_accesses.specs.declared.Transfer.{Transfer}
+use Rattle.fabric_transfer.specs.declared.Transfer.{Transfer}
 use Rattle.fabric_lanes.specs.Lanes.{postLanes}
-use Rattle.fabric_accesses.specs.Decoding.{selects, targetOf}
-use Rattle.fabric_accesses.specs.Accesses.{accesses, latencyOf}
-use Rattle.fabric_accesses.proofs.SelectLaws.{target-first, selects-facts, selects-one, selects-target}
-use Rattle.fabric_accesses.specs.Code.Numbers.{Posted}
-use Rattle.fabric_accesses.proofs.PowerLaws.{legal-widths}
-use Rattle.fabric_accesses.proofs.NumberLaws.{accesses-pos}
+use Rattle.fabric_transfer.specs.Decoding.{selects, targetOf}
+use Rattle.fabric_transfer.specs.Accesses.{accesses, latencyOf}
+use Rattle.fabric_transfer.proofs.SelectLaws.{target-first, selects-facts, selects-one, selects-target}
+use Rattle.fabric_transfer.specs.Code.Numbers.{Posted}
+use Rattle.fabric_transfer.proofs.PowerLaws.{legal-widths}
+use Rattle.fabric_transfer.proofs.NumberLaws.{accesses-pos}
 use Rattle.fabric_state.specs.declared.State.{State}
 use Rattle.fabric_state.specs.Records.{transferAt, lateAt}
 use Rattle.fabric_state.specs.Posting.{wrongBeats, unaligned, wrongLanes, unmapped, isUnmapped}

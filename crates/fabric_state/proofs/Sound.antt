@@ -7,7 +7,7 @@ use Prim.Native.Nat.{ℕ, _≤_, _<_}
 use lib.ListN.{length}
 use Rattle.description_board.specs.declared.Board.{Board}
 use Rattle.description_board.specs.Records.{masterAt, slaveAt, sharesAt}
-use Rattle.fabric_accesses.specs.Accesses.{accesses, waitOf}
+use Rattle.fabric_transfer.specs.Accesses.{accesses, waitOf}
 use Rattle.fabric_state.specs.declared.State.{State}
 use Rattle.fabric_state.specs.Records.{transferAt, slotAt, lateAt}
 use Rattle.fabric_state.specs.Posting.{transferRefusal}

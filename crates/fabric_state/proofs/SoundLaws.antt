@@ -15,8 +15,8 @@ use Rattle.common_laws.proofs.TableLaws.{length-table, every-at, every-all}
 use Rattle.description_board.specs.declared.Board.{Board}
 use Rattle.description_board.specs.Records.{masterAt, slaveAt, sharesAt}
 use Rattle.description_board.specs.Legal.{Legal}
-use Rattle.fabric_accesses.specs.declared.Transfer.{Transfer}
-use Rattle.fabric_accesses.specs.Accesses.{noTransfer, accesses, waitOf}
+use Rattle.fabric_transfer.specs.declared.Transfer.{Transfer}
+use Rattle.fabric_transfer.specs.Accesses.{noTransfer, accesses, waitOf}
 use Rattle.fabric_arbiter.specs.declared.Grant.{Grant}
 use Rattle.fabric_arbiter.specs.declared.Grant.the-variants.{Granted, Silent}
 use Rattle.fabric_arbiter.specs.Granting.{arbiterAfter}

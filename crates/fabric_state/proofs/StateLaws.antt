@@ -14,8 +14,8 @@ use Rattle.common_laws.proofs.TableLaws.{length-table, getD-table, getD-table-p
 use Rattle.common_laws.proofs.Tests.{both}
 use Rattle.common_laws.proofs.TableLaws.{some-at, some-here, bit-mask, bit-mask-past}
 use Rattle.description_board.specs.declared.Board.{Board}
-use Rattle.fabric_accesses.specs.declared.Transfer.{Transfer}
-use Rattle.fabric_accesses.specs.Accesses.{noTransfer}
+use Rattle.fabric_transfer.specs.declared.Transfer.{Transfer}
+use Rattle.fabric_transfer.specs.Accesses.{noTransfer}
 use Rattle.fabric_state.specs.declared.State.{State}
 use Rattle.fabric_state.specs.Records.{noLine, noSlot, noLog, transferAt, slotAt, lateAt}
 use Rattle.fabric_state.specs.Control.{stepOf, lineAfter, slotAfter, endsAt, ended, lateAfter, completed, finished, maskOf}

@@ -6,7 +6,7 @@ use lib.Dec.{ltb}
 use lib.ListN.{set}
 use Rattle.common_laws.specs.Lists.{table}
 use Rattle.description_board.specs.declared.Board.{Board}
-use Rattle.fabric_accesses.specs.declared.Transfer.{Transfer}
+use Rattle.fabric_transfer.specs.declared.Transfer.{Transfer}
 use Rattle.fabric_state.specs.declared.Entry.{Entry}
 use Rattle.fabric_state.specs.declared.Log.{Log}
 use Rattle.fabric_state.specs.declared.State.{State}

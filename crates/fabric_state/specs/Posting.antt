@@ -10,9 +10,9 @@ use Rattle.description_board.specs.declared.Master.{Master}
 use Rattle.description_board.specs.declared.Slave.{Slave}
 use Rattle.description_board.specs.declared.Board.{Board}
 use Rattle.description_board.specs.Records.{masterAt, slaveAt}
-use Rattle.fabric_accesses.specs.declared.Transfer.{Transfer}
+use Rattle.fabric_transfer.specs.declared.Transfer.{Transfer}
 use Rattle.fabric_lanes.specs.Lanes.{postLanes}
-use Rattle.fabric_accesses.specs.Decoding.{targetOf}
+use Rattle.fabric_transfer.specs.Decoding.{targetOf}
 use Rattle.fabric_state.specs.declared.State.{State}
 
 -- rule 3.1: a post: the master, its transfer and its words

@@ -3,8 +3,8 @@
 use mathlib.Core.Bool.{false}
 use Prim.Native.Nat.{ℕ}
 use lib.ListN.{getD, replicate}
-use Rattle.fabric_accesses.specs.declared.Transfer.{Transfer}
-use Rattle.fabric_accesses.specs.Accesses.{noTransfer}
+use Rattle.fabric_transfer.specs.declared.Transfer.{Transfer}
+use Rattle.fabric_transfer.specs.Accesses.{noTransfer}
 use Rattle.fabric_arbiter.specs.declared.Arbiter.{Arbiter}
 use Rattle.fabric_state.specs.declared.Slot.{Slot}
 use Rattle.fabric_state.specs.declared.Entry.{Entry}

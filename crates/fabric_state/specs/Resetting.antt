@@ -6,7 +6,7 @@ use lib.Dec.{ltb}
 use lib.ListN.{replicate}
 use Rattle.common_laws.specs.Lists.{table}
 use Rattle.description_board.specs.declared.Board.{Board}
-use Rattle.fabric_accesses.specs.Accesses.{noTransfer}
+use Rattle.fabric_transfer.specs.Accesses.{noTransfer}
 use Rattle.fabric_state.specs.declared.State.{State}
 use Rattle.fabric_state.specs.Records.{noSlot, noLog}
 

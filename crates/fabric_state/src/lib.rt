@@ -1,5 +1,5 @@
 // The state of a board's fabric, and what a clock shows of it (rules 4.1, 4.13, 4.18).
-use fabric_accesses::Transfer;
+use fabric_transfer::Transfer;
 
 // One slave (rule 4.1): last owner, grants that remain to it, whether it serves, accesses done, waits passed.
 pub struct Slot {

@@ -10,14 +10,14 @@ use lib.Dec.{eqb}
 use lib.ListN.{length, length-replicate}
 use borrow.Author.Tests.{eqb-true}
 use Rattle.description_board.specs.declared.Board.{Board}
-use Rattle.fabric.specs.Calls.{World, clockRefusal, afterClock}
-use Rattle.fabric.specs.Running.{Run, standing, clockMore, clockOn, run}
-use Rattle.fabric.proofs.RunOfClocks.{Sized, sized-after, clock-is, store-is, refusal-again}
+use Rattle.fabric_calls.specs.Calls.{World, clockRefusal, afterClock}
+use Rattle.fabric_calls.specs.Running.{Run, standing, clockMore, clockOn, run}
+use Rattle.fabric_calls.proofs.RunOfClocks.{Sized, sized-after, clock-is, store-is, refusal-again}
 use Rattle.fabric_state.specs.Posting.{Request, transferOf}
 use Rattle.fabric_state.specs.Resetting.{resetState, stateAtReset}
 use Rattle.fabric_state.specs.Logging.{withLog}
 use Rattle.fabric_state.proofs.StateLaws.{transfers-with, slots-with, lates-with}
-use Rattle.fabric_accesses.specs.Accesses.{noTransfer}
+use Rattle.fabric_transfer.specs.Accesses.{noTransfer}
 use Rattle.common_laws.proofs.TableLaws.{length-table}
 use Rattle.theorem_history.specs.Claim.{clocks, numberAnswered, Handed, leaves, next, after, History, answers, Call, Start}
 use Rattle.theorem_history.specs.ClockRuns.{clockCalls, Counts}

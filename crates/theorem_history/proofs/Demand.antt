@@ -10,7 +10,7 @@ use Rattle.description_board.specs.Legal.{Legal}
 use Rattle.description_board.proofs.Accepted.{accepted-legal}
 use Rattle.description.specs.Reader.{readText}
 use Rattle.description.proofs.Trip.{read-accepted}
-use Rattle.fabric.specs.Calls.{reset}
+use Rattle.fabric_calls.specs.Calls.{reset}
 use Rattle.theorem_history.specs.Claim.{Order, Demand3}
 use Rattle.theorem_history.proofs.Histories.Unrefused.{unrefused}
 use Rattle.theorem_history.proofs.Safe.WithinWait.{within, finished}

@@ -20,7 +20,7 @@ use Rattle.fabric_state.specs.Posting.{transferOf}
 use Rattle.fabric_state.specs.Soundness.{requests}
 use Rattle.fabric_state.specs.Logging.{withLog}
 use Rattle.fabric_state.specs.Control.{slotFinished, stepOf, ended, lateAfter, finished}
-use Rattle.fabric.specs.Calls.{World}
+use Rattle.fabric_calls.specs.Calls.{World}
 use Rattle.fabric_state.proofs.Sound.{Sound}
 use Rattle.fabric_state.proofs.StateLaws.{slot-after, mask-bit, late-after, late-with, late-ends, late-less, ended-here}
 use Rattle.fabric_state.proofs.StateLaws.{finished-now, finished-then, unfinished-late}

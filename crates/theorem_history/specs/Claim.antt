@@ -12,10 +12,10 @@ use Rattle.common_laws.specs.Bits.{bit}
 use Rattle.common_laws.specs.Lists.{some, table}
 use Rattle.description_board.specs.declared.Board.{Board}
 use Rattle.description_board.specs.Records.{masterAt, slaveAt, connected, startOf, memoryLength}
-use Rattle.fabric_accesses.specs.Accesses.{ownLength, latencyOf}
-use Rattle.fabric_accesses.specs.Decoding.{targetOf}
-use Rattle.fabric_bytes.specs.Moving.{move}
-use Rattle.fabric_bytes.specs.Bytes.{Store, bufferLength, partOf, memoryIndex, stores, byteRead}
+use Rattle.fabric_transfer.specs.Accesses.{ownLength, latencyOf}
+use Rattle.fabric_transfer.specs.Decoding.{targetOf}
+use Rattle.fabric_transfer.specs.Moving.{move}
+use Rattle.fabric_transfer.specs.Bytes.{Store, bufferLength, partOf, memoryIndex, stores, byteRead}
 use Rattle.fabric_state.specs.declared.Entry.{Entry}
 use Rattle.fabric_state.specs.declared.Log.{Log}
 use Rattle.fabric_state.specs.declared.State.{State}
@@ -23,9 +23,8 @@ use Rattle.fabric_state.specs.declared.Line.{Line}
 use Rattle.fabric_state.specs.declared.Clocked.{Clocked}
 use Rattle.fabric_state.specs.Records.{noLine, noEntry}
 use Rattle.fabric_state.specs.Posting.{Request, transferOf}
-use Rattle.fabric.specs.declared.Taken.{Taken}
-use Rattle.fabric.specs.Calls.{World, reset, post, bufferAfterPost, clock, storeAfterClock}
-use Rattle.fabric.specs.Calls.{takenOf, takeAnswer, stateAfterTake}
+use Rattle.fabric_calls.specs.Calls.{World, reset, post, bufferAfterPost, clock, storeAfterClock}
+use Rattle.fabric_calls.specs.Calls.{Take, takenOf, takeAnswer, stateAfterTake}
 use Rattle.wait_turns.specs.Waits.{quotedWait}
 use Rattle.description.specs.Writer.{writeText}
 use Rattle.wait.specs.declared.Quoted.{Quoted}
@@ -295,7 +294,7 @@ logOf k = record {
 }
 
 -- rule 6.13: what a take answers: the oldest entry, or 22 where there is none
-unfoldable pub oldestOf : List Entry → Taken
+unfoldable pub oldestOf : List Entry → Take
 oldestOf [] = takenOf 22 noEntry
 oldestOf (e ∷ es) = takenOf 0 e
 

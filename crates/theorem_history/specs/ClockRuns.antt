@@ -5,8 +5,8 @@ use mathlib.Core.List.{List, [], _∷_}
 use Prim.Native.Nat.{ℕ, zero, suc, _≤_}
 use lib.ListN.{length}
 use Rattle.description_board.specs.declared.Board.{Board}
-use Rattle.fabric.specs.Calls.{World, afterClock}
-use Rattle.fabric.specs.Running.{run}
+use Rattle.fabric_calls.specs.Calls.{World, afterClock}
+use Rattle.fabric_calls.specs.Running.{run}
 use Rattle.theorem_history.specs.Claim.{Call, clocks, after, History, answers}
 
 -- n clocks, each handed what the one before left

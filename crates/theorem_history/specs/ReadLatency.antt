@@ -8,10 +8,10 @@ use Prim.Native.Nat.{ℕ, _+_, _<_}
 use lib.ListN.{length, take}
 use Rattle.description_board.specs.declared.Board.{Board}
 use Rattle.description_board.specs.Records.{slaveAt}
-use Rattle.fabric_accesses.specs.Accesses.{latencyOf}
+use Rattle.fabric_transfer.specs.Accesses.{latencyOf}
 use Rattle.fabric_state.specs.Records.{transferAt, slotAt, lateAt}
 use Rattle.fabric_state.specs.Control.{stepOf}
-use Rattle.fabric.specs.Calls.{World}
+use Rattle.fabric_calls.specs.Calls.{World}
 use Rattle.theorem_history.specs.Claim.{Call, clocks, numberAnswered, next, answers, names, any}
 
 -- the clock where w stands

@@ -23,16 +23,16 @@ use Rattle.description_lines.specs.Reader.{itemsOf}
 use Rattle.description.specs.Reader.{mostBytes, reading, readText}
 use Rattle.description.specs.Blame.{firstRefused, chargedLine, masterNamedBy, namedMaster, refusedAt}
 use Rattle.fabric_lanes.specs.Lanes.{lowest, adjacent, legalLanes, postLanes}
-use Rattle.fabric_accesses.specs.Decoding.{agrees, selects, targetOf}
-use Rattle.fabric_accesses.specs.Alignment.{ratio, leavesOut, laneBytes, accessBytes, hasLane, byteOffset}
-use Rattle.fabric_accesses.specs.Accesses.{firstByte, accessOffset, wordOffset, writeLanes, slaveLanes}
-use Rattle.fabric_accesses.specs.Accesses.{accessed, accessNumbers, accesses, accessNumber, waitOf, latencyOf, ownLength}
-use Rattle.fabric_accesses.specs.Runs.{runLimit, placeOf, runOf}
+use Rattle.fabric_transfer.specs.Decoding.{agrees, selects, targetOf}
+use Rattle.fabric_transfer.specs.Alignment.{ratio, leavesOut, laneBytes, accessBytes, hasLane, byteOffset}
+use Rattle.fabric_transfer.specs.Accesses.{firstByte, accessOffset, wordOffset, writeLanes, slaveLanes}
+use Rattle.fabric_transfer.specs.Accesses.{accessed, accessNumbers, accesses, accessNumber, waitOf, latencyOf, ownLength}
+use Rattle.fabric_transfer.specs.Runs.{runLimit, placeOf, runOf}
 use Rattle.fabric_arbiter.specs.Choosing.{nextMaster, tried, firstRequester}
 use Rattle.fabric_arbiter.specs.Granting.{kept, grantTo, granted, arbiterAfter}
-use Rattle.fabric_bytes.specs.Moving.{move}
-use Rattle.fabric_bytes.specs.Bytes.{postedWords, clearedWords, memoryIndex, stores, byteRead, written, fetched, carriedBytes}
-use Rattle.fabric_bytes.specs.Bytes.{carriedAccess}
+use Rattle.fabric_transfer.specs.Moving.{move}
+use Rattle.fabric_transfer.specs.Bytes.{postedWords, clearedWords, memoryIndex, stores, byteRead, written, fetched, carriedBytes}
+use Rattle.fabric_transfer.specs.Bytes.{carriedAccess}
 use Rattle.fabric_state.specs.Records.{noLog, noState}
 use Rattle.fabric_state.specs.Posting.{wrongBeats, unaligned, wrongLanes, unmapped, isUnmapped, passesEnd, transferRefusalBy}
 use Rattle.fabric_state.specs.Posting.{transferRefusal, withTransfer}
@@ -44,9 +44,9 @@ use Rattle.fabric_state.specs.Control.{slotFinished, served, stepOf, lineAfter,
 use Rattle.fabric_state.specs.Control.{finished, maskOf, transferAfter, stateAfter, responseOf, responsesOf, linesOf}
 use Rattle.fabric_state.specs.Carrying.{carriesOut, carried, carriedBy, clears, clearedBy, storeAfter}
 use Rattle.fabric_state.specs.Resetting.{resetState, stateAtReset}
-use Rattle.fabric.specs.Calls.{reset, wrongWords, requestRefusal, postRefusalBy, postRefusal, post, bufferAfterPost, clockRefusal}
-use Rattle.fabric.specs.Calls.{clock, storeAfterClock, takeRefusal, takeAnswer, stateAfterTake, afterPost, afterClock}
-use Rattle.fabric.specs.Running.{clockMore, clockOn, run}
+use Rattle.fabric_calls.specs.Calls.{reset, wrongWords, requestRefusal, postRefusalBy, postRefusal, post, bufferAfterPost, clockRefusal}
+use Rattle.fabric_calls.specs.Calls.{clock, storeAfterClock, takeRefusal, takeAnswer, stateAfterTake, afterPost, afterClock}
+use Rattle.fabric_calls.specs.Running.{clockMore, clockOn, run}
 use Rattle.wait_turns.specs.Waits as quoted
 use Rattle.wait_turns.specs.Sums.{turnAt, turnsAt}
 use Rattle.wait.specs.Calls.{quoteRefusal, quoteOf}

@@ -12,7 +12,7 @@ use Rattle.description.specs.declared.Refusal.{Refusal}
 use Rattle.description.specs.Reader.{readText}
 use Rattle.description.specs.Blame.{refusedAt}
 use Rattle.description.specs.Writer.{writeRefusal}
-use Rattle.fabric.specs.Calls.{World, reset, post, clock}
+use Rattle.fabric_calls.specs.Calls.{World, reset, post, clock}
 use Rattle.wait.specs.Answers.{waitRefusal}
 use Rattle.wait.specs.Calls.{quoteOf}
 use Rattle.wait_table.specs.Tables.{printed, printRefusal}

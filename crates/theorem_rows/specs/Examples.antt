@@ -8,7 +8,7 @@ use lib.ListN.{replicate}
 use Rattle.common_laws.specs.Bytes.{bytesOf}
 use Rattle.description.specs.Reader.{readText}
 use Rattle.description.specs.Writer.{writeText}
-use Rattle.fabric.specs.Calls.{post}
+use Rattle.fabric_calls.specs.Calls.{post}
 use Rattle.wait.specs.Answers.{waitRefusal, waitOutput}
 use Rattle.wait_table.specs.Tables.{printed}
 use Rattle.wait.specs.Calls.{quoteOf}

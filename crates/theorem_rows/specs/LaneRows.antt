@@ -10,13 +10,13 @@ use Rattle.common_laws.specs.Lists.{table}
 use Rattle.description_board.specs.declared.Slave.{Slave}
 use Rattle.description_board.specs.declared.Board.{Board}
 use Rattle.description.specs.Reader.{readText}
-use Rattle.fabric_accesses.specs.declared.Transfer.{Transfer}
-use Rattle.fabric_accesses.specs.Accesses.{accessNumbers, ownLength}
-use Rattle.fabric_bytes.specs.Bytes.{bufferLength}
+use Rattle.fabric_transfer.specs.declared.Transfer.{Transfer}
+use Rattle.fabric_transfer.specs.Accesses.{accessNumbers, ownLength}
+use Rattle.fabric_transfer.specs.Bytes.{bufferLength}
 use Rattle.fabric_state.specs.declared.Slot.{Slot}
 use Rattle.fabric_state.specs.Records.{noLine}
 use Rattle.fabric_state.specs.Posting.{Request}
-use Rattle.fabric.specs.Calls.{World, reset, clock, afterPost}
+use Rattle.fabric_calls.specs.Calls.{World, reset, clock, afterPost}
 use Rattle.wait_table.specs.Tables.{printed}
 use Rattle.theorem_rows.specs.RowCalls.{runs, phases, clockedFrom, shownFrom, waiting, access}
 use Rattle.theorem_rows.specs.Rows.{masterWith, slaveWith}

@@ -10,14 +10,14 @@ use Rattle.common_laws.specs.Lists.{table}
 use Rattle.description_board.specs.declared.Board.{Board}
 use Rattle.description_board.specs.Records.{slaveAt}
 use Rattle.description.specs.Reader.{readText}
-use Rattle.fabric_accesses.specs.Accesses.{noTransfer}
-use Rattle.fabric_bytes.specs.Bytes.{bufferLength}
+use Rattle.fabric_transfer.specs.Accesses.{noTransfer}
+use Rattle.fabric_transfer.specs.Bytes.{bufferLength}
 use Rattle.fabric_state.specs.declared.Slot.{Slot}
 use Rattle.fabric_state.specs.declared.Line.{Line}
 use Rattle.fabric_state.specs.declared.State.{State}
 use Rattle.fabric_state.specs.Records.{noLine, transferAt}
 use Rattle.fabric_state.specs.Posting.{Request, transferOf}
-use Rattle.fabric.specs.Calls.{World, reset, post, clock, afterPost}
+use Rattle.fabric_calls.specs.Calls.{World, reset, post, clock, afterPost}
 use Rattle.wait_turns.specs.Waits.{longestAccess, singleAccess}
 use Rattle.wait_turns.specs.Sums.{turnAt}
 use Rattle.wait_table.specs.Tables.{printed}

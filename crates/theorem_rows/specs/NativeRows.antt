@@ -11,11 +11,11 @@ use Rattle.description_board.specs.declared.Board.{Board}
 use Rattle.description_board.specs.Records.{noMaster, noSlave}
 use Rattle.description_board.specs.Items.{boardRefusal}
 use Rattle.description.specs.Reader.{readText}
-use Rattle.fabric_bytes.specs.Bytes.{bufferLength}
+use Rattle.fabric_transfer.specs.Bytes.{bufferLength}
 use Rattle.fabric_state.specs.declared.Line.{Line}
 use Rattle.fabric_state.specs.Records.{noLine}
 use Rattle.fabric_state.specs.Posting.{Request}
-use Rattle.fabric.specs.Calls.{World, reset, post, afterPost}
+use Rattle.fabric_calls.specs.Calls.{World, reset, post, afterPost}
 use Rattle.wait_table.specs.Tables.{printed}
 use Rattle.theorem_rows.specs.RowCalls.{clockedFrom, shownFrom, access}
 

@@ -10,14 +10,14 @@ use Rattle.description_board.specs.declared.Master.{Master}
 use Rattle.description_board.specs.declared.Slave.{Slave}
 use Rattle.description_board.specs.declared.Board.{Board}
 use Rattle.description_board.specs.Records.{memoryLength}
-use Rattle.fabric_accesses.specs.declared.Transfer.{Transfer}
-use Rattle.fabric_accesses.specs.Accesses.{accesses}
-use Rattle.fabric_accesses.specs.Runs.{placeOf, runOf}
-use Rattle.fabric_bytes.specs.Bytes.{bufferLength}
+use Rattle.fabric_transfer.specs.declared.Transfer.{Transfer}
+use Rattle.fabric_transfer.specs.Accesses.{accesses}
+use Rattle.fabric_transfer.specs.Runs.{placeOf, runOf}
+use Rattle.fabric_transfer.specs.Bytes.{bufferLength}
 use Rattle.fabric_state.specs.declared.Line.{Line}
 use Rattle.fabric_state.specs.Records.{noLine, slotAt}
 use Rattle.fabric_state.specs.Posting.{Request}
-use Rattle.fabric.specs.Calls.{World, reset, clock, afterPost, afterClock}
+use Rattle.fabric_calls.specs.Calls.{World, reset, clock, afterPost, afterClock}
 
 -- the lengths of a transfer's runs, each taken at its first access
 unfoldable pub runs : Master → Slave → Transfer → List ℕ

@@ -8,12 +8,12 @@ use lib.ListN.{replicate}
 use Rattle.common_laws.specs.Bytes.{bytesOf}
 use Rattle.description_board.specs.declared.Master.{Master}
 use Rattle.description_board.specs.declared.Slave.{Slave}
-use Rattle.fabric_accesses.specs.declared.Transfer.{Transfer}
+use Rattle.fabric_transfer.specs.declared.Transfer.{Transfer}
 use Rattle.fabric_lanes.specs.Lanes.{legalLanes}
 use Rattle.description.specs.Reader.{readText}
 use Rattle.wait_table.specs.Tables.{printed}
 use Rattle.fabric_state.specs.Posting.{Request}
-use Rattle.fabric.specs.Calls.{afterPost}
+use Rattle.fabric_calls.specs.Calls.{afterPost}
 use Rattle.theorem_rows.specs.RowCalls.{runs, started, phases, grants}
 
 -- the board of the examples, in rules section 9

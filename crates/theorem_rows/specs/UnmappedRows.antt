@@ -11,8 +11,8 @@ use Rattle.description_board.specs.declared.Board.{Board}
 use Rattle.description.specs.Reader.{readText}
 use Rattle.description.specs.Blame.{refusedAt}
 use Rattle.description.specs.Writer.{writeText}
-use Rattle.fabric_accesses.specs.Accesses.{noTransfer}
-use Rattle.fabric_bytes.specs.Bytes.{Store, bufferLength}
+use Rattle.fabric_transfer.specs.Accesses.{noTransfer}
+use Rattle.fabric_transfer.specs.Bytes.{Store, bufferLength}
 use Rattle.fabric_state.specs.declared.Entry.{Entry}
 use Rattle.fabric_state.specs.declared.Log.{Log}
 use Rattle.fabric_state.specs.declared.State.{State}
@@ -21,8 +21,8 @@ use Rattle.fabric_state.specs.declared.Clocked.{Clocked}
 use Rattle.fabric_state.specs.Records.{noLine, noEntry, transferAt}
 use Rattle.fabric_state.specs.Posting.{Request}
 use Rattle.fabric_state.specs.Logging.{withLog}
-use Rattle.fabric.specs.Calls.{World, reset, post, clock, takeAnswer, stateAfterTake, afterPost, afterClock}
-use Rattle.fabric.specs.Running.{Run, run}
+use Rattle.fabric_calls.specs.Calls.{World, reset, post, clock, takeAnswer, stateAfterTake, afterPost, afterClock}
+use Rattle.fabric_calls.specs.Running.{Run, run}
 use Rattle.wait.specs.Calls.{quoteOf}
 use Rattle.wait_table.specs.Tables.{printed}
 use Rattle.theorem_rows.specs.RowCalls.{clockedFrom}

@@ -12,7 +12,7 @@ use Rattle.description_board.specs.Rules.{withMaster, withSlave, withShare, wit
 use Rattle.description_board.specs.Rules.{refused, start, taken, step, stepAll, hasShare, withoutShare, endRefusal, finish}
 use Rattle.description_board.specs.Rules.{described}
 use Rattle.description_board.specs.Items.{masterItem, slaveItem, shareItem, defaultItem, items, boardRefusal}
-use Rattle.fabric_accesses.specs.Alignment.{ratio}
+use Rattle.fabric_transfer.specs.Alignment.{ratio}
 use Rattle.wait_turns.specs.Waits.{longestAccess, singleAccess, mostBeats, single, serve, turn}
 use Rattle.wait_turns.specs.Waits.{otherTurn, turnsOf, quotedWait, serveOf}
 use Rattle.wait_turns.specs.Largest.{mostServe, mostWait}

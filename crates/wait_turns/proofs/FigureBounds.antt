@@ -15,8 +15,8 @@ use Rattle.description_board.specs.declared.Board.{Board}
 use Rattle.description_board.specs.Records.{masterAt, slaveAt, sharesAt, connected}
 use Rattle.description_board.specs.Legal.{LegalMaster, Legal}
 use Rattle.description_board.proofs.RuleLaws.{width-bound, burst-bound}
-use Rattle.fabric_accesses.specs.Alignment.{ratio}
-use Rattle.fabric_accesses.proofs.AlignmentLaws.{ratio-le}
+use Rattle.fabric_transfer.specs.Alignment.{ratio}
+use Rattle.fabric_transfer.proofs.AlignmentLaws.{ratio-le}
 use Rattle.wait_turns.specs.Waits.{longestAccess, singleAccess, mostBeats, single, serve, turn, quotedWait, serveOf}
 use Rattle.wait_turns.specs.Sums.{turnAt, turnsAt, Once}
 use Rattle.wait_turns.proofs.SumLaws.{sum-le}

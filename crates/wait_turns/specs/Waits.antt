@@ -8,7 +8,7 @@ use Rattle.description_board.specs.declared.Master.{Master}
 use Rattle.description_board.specs.declared.Slave.{Slave}
 use Rattle.description_board.specs.declared.Board.{Board}
 use Rattle.description_board.specs.Records.{masterAt, slaveAt, sharesAt, connected}
-use Rattle.fabric_accesses.specs.Alignment.{ratio}
+use Rattle.fabric_transfer.specs.Alignment.{ratio}
 
 -- rule 5.1: v, the clocks of one access at its longest
 unfoldable pub longestAccess : Slave → ℕ

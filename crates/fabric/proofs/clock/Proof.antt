@@ -7,15 +7,16 @@ use borrow.Author.Needs.{needs}
 use Rattle.common_laws.specs.Lists.{table}
 use Rattle.description_board.specs.declared.Board.{Board}
 use Rattle.description_layout.specs.Layout.{boardIn}
-use Rattle.fabric_bytes.specs.Bytes.{Store}
+use Rattle.fabric_transfer.specs.Bytes.{Store}
 use Rattle.fabric_layout.specs.Layout.{stateIn}
 use Rattle.fabric_layout.proofs.StatePutLaws.{first-none}
 use Rattle.fabric_layout.proofs.LogPutLaws.{responses-none}
 use Rattle.fabric_check.specs.Code.Targets.{requestMask}
-use Rattle.fabric.specs.Calls.{clockRefusal}
-use Rattle.fabric.proofs.ClockLaws.{refusal-found, exact-lengths, clock-refused, clock-taken}
+use Rattle.fabric_calls.specs.Calls.{clockRefusal}
+use Rattle.fabric_calls.proofs.ClockLaws.{refusal-found, exact-lengths, clock-refused}
+use Rattle.fabric.proofs.ClockTaken.{clock-taken}
 use Rattle.fabric.proofs.ResponseLaws.{decoded-of, responses-are}
-use Rattle.fabric.proofs.RunOfClocks.{accepted-board, keeps-rules}
+use Rattle.fabric_calls.proofs.RunOfClocks.{accepted-board, keeps-rules}
 use Rattle.fabric.proofs.clock.Statement.{statement}
 use Rattle.fabric.proofs.clock.Tie as tie
 

@@ -2,7 +2,7 @@
 -- Assumes nothing.
 use mathlib.Core.Path.{sym, _∙_}
 use borrow.Author.Needs.{needs}
-use Rattle.fabric.proofs.ClockLaws.{by-board, by-memory, by-buffer, by-state}
+use Rattle.fabric_calls.proofs.ClockLaws.{by-board, by-memory, by-buffer, by-state}
 use Rattle.fabric.proofs.clock_refusal_by.Statement.{statement}
 use Rattle.fabric.proofs.clock_refusal_by.Tie as tie
 

@@ -6,10 +6,10 @@ use lib.ListN.{length}
 use borrow.Author.Needs.{needs}
 use Rattle.description_board.specs.Items.{boardRefusal}
 use Rattle.description_layout.specs.Layout.{boardIn}
-use Rattle.fabric_bytes.specs.Bytes.{bufferLength}
+use Rattle.fabric_transfer.specs.Bytes.{bufferLength}
 use Rattle.fabric_layout.specs.Layout.{stateIn}
-use Rattle.fabric.specs.Calls.{postRefusal}
-use Rattle.fabric.proofs.PostLaws.{Taken, taken, some-part, words-fit, post-refused, post-taken}
+use Rattle.fabric_calls.specs.Calls.{postRefusal}
+use Rattle.fabric_calls.proofs.PostLaws.{Taken, taken, some-part, words-fit, post-refused, post-taken}
 use Rattle.fabric.proofs.post.Statement.{statement}
 use Rattle.fabric.proofs.post.Tie as tie
 

@@ -10,12 +10,12 @@ use borrow.Author.Needs.{needs}
 use Rattle.description_board.specs.Items.{boardRefusal}
 use Rattle.description_board.proofs.Accepted.{accepted-legal}
 use Rattle.description_layout.specs.Layout.{boardIn}
-use Rattle.fabric_accesses.specs.declared.Transfer.{Transfer}
+use Rattle.fabric_transfer.specs.declared.Transfer.{Transfer}
 use Rattle.fabric_state.specs.Records.{transferAt}
 use Rattle.fabric_state.specs.Soundness.{sound}
 use Rattle.fabric_layout.specs.Layout.{stateIn}
-use Rattle.fabric.specs.Calls.{requestRefusal, postRefusalBy}
-use Rattle.fabric.proofs.PostLaws.{refusal-asked}
+use Rattle.fabric_calls.specs.Calls.{requestRefusal, postRefusalBy}
+use Rattle.fabric_calls.proofs.PostLaws.{refusal-asked}
 use Rattle.fabric.proofs.post_refusal_by.Statement.{statement}
 use Rattle.fabric.proofs.post_refusal_by.Tie as tie
 

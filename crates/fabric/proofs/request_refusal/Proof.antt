@@ -7,8 +7,8 @@ use borrow.Author.Needs.{needs}
 use Rattle.description_board.proofs.Accepted.{accepted-legal}
 use Rattle.description_layout.specs.Layout.{boardIn}
 use Rattle.fabric_state.specs.Posting.{transferRefusal}
-use Rattle.fabric.specs.Calls.{requestRefusal}
-use Rattle.fabric.proofs.PostLaws.{words-wrong, words-right}
+use Rattle.fabric_calls.specs.Calls.{requestRefusal}
+use Rattle.fabric_calls.proofs.PostLaws.{words-wrong, words-right}
 use Rattle.fabric.proofs.request_refusal.Statement.{statement}
 use Rattle.fabric.proofs.request_refusal.Tie as tie
 

@@ -6,7 +6,7 @@ use borrow.Author.Needs.{needs}
 use Rattle.description_board.specs.Items.{boardRefusal}
 use Rattle.description_board.proofs.Accepted.{accepted-legal}
 use Rattle.description_layout.specs.Layout.{boardIn}
-use Rattle.fabric.proofs.ResetLaws.{reset-taken, reset-refused}
+use Rattle.fabric_calls.proofs.ResetLaws.{reset-taken, reset-refused}
 use Rattle.fabric.proofs.reset.Statement.{statement}
 use Rattle.fabric.proofs.reset.Tie as tie
 

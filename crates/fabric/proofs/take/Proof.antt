@@ -3,8 +3,8 @@
 use mathlib.Core.Path.{_≡_, refl, sym, ap, _∙_}
 use borrow.Author.Needs.{needs}
 use Rattle.fabric_state.specs.declared.Entry.{Entry}
-use Rattle.fabric.specs.Calls.{takenOf}
-use Rattle.fabric.proofs.TakeLaws.{take-some, takes-refused, takes-taken}
+use Rattle.fabric_calls.specs.Calls.{takenOf}
+use Rattle.fabric_calls.proofs.TakeLaws.{take-some, takes-refused, takes-taken}
 use Rattle.fabric.proofs.take.Statement.{statement}
 use Rattle.fabric.proofs.take.Tie as tie
 

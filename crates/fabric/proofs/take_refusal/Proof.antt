@@ -3,7 +3,7 @@
 use mathlib.Core.Path.{_≡_, sym, _∙_}
 use borrow.Author.Tests.{not-true, not-false}
 use borrow.Author.Needs.{needs}
-use Rattle.fabric.proofs.TakeLaws.{take-board, take-state, take-empty, take-free}
+use Rattle.fabric_calls.proofs.TakeLaws.{take-board, take-state, take-empty, take-free}
 use Rattle.fabric.proofs.take_refusal.Statement.{statement}
 use Rattle.fabric.proofs.take_refusal.Tie as tie
 

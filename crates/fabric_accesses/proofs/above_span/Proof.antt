@@ -2,7 +2,7 @@
 -- Assumes nothing.
 use native.Mathlib.Nat.{div-add-mod'}
 use native.Mathlib.Omega.{arith}
-use Rattle.fabric_accesses.proofs.DecodeLaws.{span-pos, over-span}
+use Rattle.fabric_transfer.proofs.DecodeLaws.{span-pos, over-span}
 use Rattle.fabric_accesses.proofs.above_span.Statement.{statement}
 use Rattle.fabric_accesses.proofs.above_span.Tie as tie
 

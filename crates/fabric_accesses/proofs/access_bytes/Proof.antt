@@ -1,7 +1,7 @@
 -- `fabric_accesses::access_bytes` meets its contract.
 -- Assumes nothing.
 use mathlib.Core.Path.{sym, _∙_}
-use Rattle.fabric_accesses.proofs.AlignmentLaws.{native-bytes, sized-bytes}
+use Rattle.fabric_transfer.proofs.AlignmentLaws.{native-bytes, sized-bytes}
 use Rattle.fabric_accesses.proofs.access_bytes.Statement.{statement}
 use Rattle.fabric_accesses.proofs.access_bytes.Tie as tie
 

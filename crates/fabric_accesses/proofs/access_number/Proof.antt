@@ -1,7 +1,7 @@
 -- `fabric_accesses::access_number` meets its contract: the accesses that are carried out stand side by side.
 -- Assumes nothing.
 use native.Mathlib.Omega.{arith}
-use Rattle.fabric_accesses.proofs.NumberLaws.{first-few, number-is}
+use Rattle.fabric_transfer.proofs.NumberLaws.{first-few, number-is}
 use Rattle.fabric_accesses.proofs.access_number.Statement.{statement}
 use Rattle.fabric_accesses.proofs.access_number.Tie as tie
 

@@ -5,10 +5,10 @@ use Prim.Native.Nat.{ℕ, _+_, _-_, _*_, _/_, _≤_}
 use native.Mathlib.Omega.{arith}
 use borrow.Author.Needs.{needs}
 use Rattle.common_laws.proofs.Arithmetic.{product-le}
-use Rattle.fabric_accesses.specs.Alignment.{accessBytes}
-use Rattle.fabric_accesses.specs.Accesses.{firstByte}
-use Rattle.fabric_accesses.proofs.AlignmentLaws.{access-master, native-offset, sized-offset}
-use Rattle.fabric_accesses.proofs.AccessLaws.{width-le}
+use Rattle.fabric_transfer.specs.Alignment.{accessBytes}
+use Rattle.fabric_transfer.specs.Accesses.{firstByte}
+use Rattle.fabric_transfer.proofs.AlignmentLaws.{access-master, native-offset, sized-offset}
+use Rattle.fabric_transfer.proofs.AccessLaws.{width-le}
 use Rattle.fabric_accesses.proofs.access_offset.Statement.{statement}
 use Rattle.fabric_accesses.proofs.access_offset.Tie as tie
 

@@ -5,7 +5,7 @@ use Prim.Native.Nat.{ℕ, _*_}
 use native.Mathlib.Omega.{arith}
 use borrow.Author.Needs.{needs}
 use Rattle.common_laws.proofs.Arithmetic.{product-le}
-use Rattle.fabric_accesses.proofs.NumberLaws.{accesses-are}
+use Rattle.fabric_transfer.proofs.NumberLaws.{accesses-are}
 use Rattle.fabric_accesses.proofs.accesses.Statement.{statement}
 use Rattle.fabric_accesses.proofs.accesses.Tie as tie
 

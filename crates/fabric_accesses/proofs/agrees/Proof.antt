@@ -1,8 +1,8 @@
 -- `fabric_accesses::agrees` meets its contract.
 -- Assumes nothing.
 use borrow.Author.Needs.{needs}
-use Rattle.fabric_accesses.specs.Decoding.{agrees}
-use Rattle.fabric_accesses.proofs.DecodeLaws.{span-pos, multiples-agree}
+use Rattle.fabric_transfer.specs.Decoding.{agrees}
+use Rattle.fabric_transfer.proofs.DecodeLaws.{span-pos, multiples-agree}
 use Rattle.fabric_accesses.proofs.agrees.Statement.{statement}
 use Rattle.fabric_accesses.proofs.agrees.Tie as tie
 

@@ -7,8 +7,8 @@ use native.Mathlib.Omega.{arith}
 use Rattle.common_laws.specs.Lists.{member}
 use Rattle.description_board.specs.Rules.{widths}
 use Rattle.description_board.proofs.RuleLaws.{width-bound}
-use Rattle.fabric_accesses.proofs.AlignmentLaws.{access-legal}
-use Rattle.fabric_accesses.proofs.NumberLaws.{lanes-few, beat-found, beat-whole}
+use Rattle.fabric_transfer.proofs.AlignmentLaws.{access-legal}
+use Rattle.fabric_transfer.proofs.NumberLaws.{lanes-few, beat-found, beat-whole}
 use Rattle.fabric_accesses.proofs.beat_accesses.Statement.{statement}
 use Rattle.fabric_accesses.proofs.beat_accesses.Tie as tie
 

@@ -5,8 +5,8 @@ use mathlib.Core.Bool.{true}
 use Prim.Native.Nat.{ℕ}
 use Rattle.common_laws.specs.Lists.{member}
 use Rattle.description_board.specs.Rules.{widths}
-use Rattle.fabric_accesses.proofs.AlignmentLaws.{access-legal}
-use Rattle.fabric_accesses.proofs.NumberLaws.{first-found, first-none}
+use Rattle.fabric_transfer.proofs.AlignmentLaws.{access-legal}
+use Rattle.fabric_transfer.proofs.NumberLaws.{first-found, first-none}
 use Rattle.fabric_accesses.proofs.first_access.Statement.{statement}
 use Rattle.fabric_accesses.proofs.first_access.Tie as tie
 

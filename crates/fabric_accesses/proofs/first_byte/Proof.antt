@@ -5,7 +5,7 @@ use Prim.Native.Nat.{ℕ, _*_}
 use native.Mathlib.Omega.{arith}
 use borrow.Author.Needs.{needs}
 use Rattle.common_laws.proofs.Arithmetic.{product-le}
-use Rattle.fabric_accesses.specs.Accesses.{firstByte}
+use Rattle.fabric_transfer.specs.Accesses.{firstByte}
 use Rattle.fabric_accesses.proofs.first_byte.Statement.{statement}
 use Rattle.fabric_accesses.proofs.first_byte.Tie as tie
 

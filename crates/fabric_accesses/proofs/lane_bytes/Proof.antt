@@ -1,7 +1,7 @@
 -- `fabric_accesses::lane_bytes` meets its contract.
 -- Assumes nothing.
 use native.Mathlib.Omega.{arith}
-use Rattle.fabric_accesses.specs.Alignment.{laneBytes}
+use Rattle.fabric_transfer.specs.Alignment.{laneBytes}
 use Rattle.fabric_accesses.proofs.lane_bytes.Statement.{statement}
 use Rattle.fabric_accesses.proofs.lane_bytes.Tie as tie
 

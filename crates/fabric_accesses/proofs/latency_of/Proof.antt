@@ -1,6 +1,6 @@
 -- `fabric_accesses::latency_of` meets its contract.
 -- Assumes nothing.
-use Rattle.fabric_accesses.specs.Accesses.{latencyOf}
+use Rattle.fabric_transfer.specs.Accesses.{latencyOf}
 use Rattle.fabric_accesses.proofs.latency_of.Statement.{statement}
 use Rattle.fabric_accesses.proofs.latency_of.Tie as tie
 

@@ -2,7 +2,7 @@
 -- Assumes nothing.
 use mathlib.Core.Path.{ap}
 use mathlib.Core.Bool.{Bool, not, _&&_}
-use Rattle.fabric_accesses.specs.Alignment.{leavesOut}
+use Rattle.fabric_transfer.specs.Alignment.{leavesOut}
 use Rattle.fabric_accesses.proofs.leaves_out.Statement.{statement}
 use Rattle.fabric_accesses.proofs.leaves_out.Tie as tie
 

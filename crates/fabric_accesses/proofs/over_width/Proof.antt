@@ -1,8 +1,8 @@
 -- `fabric_accesses::over_width` meets its contract.
 -- Assumes nothing.
 use borrow.Author.Needs.{needs}
-use Rattle.fabric_accesses.proofs.PowerLaws.{over-width}
-use Rattle.fabric_accesses.proofs.AccessLaws.{width-pos}
+use Rattle.fabric_transfer.proofs.PowerLaws.{over-width}
+use Rattle.fabric_transfer.proofs.AccessLaws.{width-pos}
 use Rattle.fabric_accesses.proofs.over_width.Statement.{statement}
 use Rattle.fabric_accesses.proofs.over_width.Tie as tie
 

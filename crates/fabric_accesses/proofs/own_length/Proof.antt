@@ -5,10 +5,10 @@ use Prim.Native.Nat.{ℕ, _+_, _*_, _≤_}
 use native.Mathlib.Omega.{arith}
 use borrow.Author.Needs.{needs}
 use Rattle.common_laws.proofs.Arithmetic.{product-le}
-use Rattle.fabric_accesses.specs.Alignment.{ratio}
-use Rattle.fabric_accesses.specs.Accesses.{ownLength}
-use Rattle.fabric_accesses.proofs.AlignmentLaws.{ratio-le}
-use Rattle.fabric_accesses.proofs.AccessLaws.{width-le, accesses-le}
+use Rattle.fabric_transfer.specs.Alignment.{ratio}
+use Rattle.fabric_transfer.specs.Accesses.{ownLength}
+use Rattle.fabric_transfer.proofs.AlignmentLaws.{ratio-le}
+use Rattle.fabric_transfer.proofs.AccessLaws.{width-le, accesses-le}
 use Rattle.fabric_accesses.proofs.own_length.Statement.{statement}
 use Rattle.fabric_accesses.proofs.own_length.Tie as tie
 

@@ -1,6 +1,6 @@
 -- `fabric_accesses::place_of` meets its contract.
 -- Assumes nothing.
-use Rattle.fabric_accesses.proofs.RunLaws.{limit-pos, place-masked}
+use Rattle.fabric_transfer.proofs.RunLaws.{limit-pos, place-masked}
 use Rattle.fabric_accesses.proofs.place_of.Statement.{statement}
 use Rattle.fabric_accesses.proofs.place_of.Tie as tie
 

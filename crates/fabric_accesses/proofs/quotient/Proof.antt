@@ -1,7 +1,7 @@
 -- `fabric_accesses::quotient` meets its contract.
 -- Assumes nothing.
 use native.Mathlib.Omega.{arith}
-use Rattle.fabric_accesses.proofs.PowerLaws.{width-zeros, by-width}
+use Rattle.fabric_transfer.proofs.PowerLaws.{width-zeros, by-width}
 use Rattle.fabric_accesses.proofs.quotient.Statement.{statement}
 use Rattle.fabric_accesses.proofs.quotient.Tie as tie
 

@@ -5,7 +5,7 @@ use mathlib.Core.Bool.{true}
 use Prim.Native.Nat.{ℕ, _/_}
 use Rattle.common_laws.specs.Lists.{member}
 use Rattle.description_board.specs.Rules.{widths}
-use Rattle.fabric_accesses.proofs.AlignmentLaws.{access-legal, ratio-quotient}
+use Rattle.fabric_transfer.proofs.AlignmentLaws.{access-legal, ratio-quotient}
 use Rattle.fabric_accesses.proofs.ratio.Statement.{statement}
 use Rattle.fabric_accesses.proofs.ratio.Tie as tie
 

@@ -1,7 +1,7 @@
 -- `fabric_accesses::run_limit` meets its contract.
 -- Assumes nothing.
 use borrow.Author.Tests.{lt-ltb, le-ltb}
-use Rattle.fabric_accesses.specs.Runs.{runLimit}
+use Rattle.fabric_transfer.specs.Runs.{runLimit}
 use Rattle.fabric_accesses.proofs.run_limit.Statement.{statement}
 use Rattle.fabric_accesses.proofs.run_limit.Tie as tie
 

@@ -4,8 +4,8 @@ use mathlib.Core.Path.{_≡_}
 use Prim.Native.Nat.{min}
 use native.Mathlib.Omega.{arith}
 use borrow.Author.Needs.{needs}
-use Rattle.fabric_accesses.specs.Runs.{runOf}
-use Rattle.fabric_accesses.proofs.RunLaws.{place-le, run-from}
+use Rattle.fabric_transfer.specs.Runs.{runOf}
+use Rattle.fabric_transfer.proofs.RunLaws.{place-le, run-from}
 use Rattle.fabric_accesses.proofs.run_of.Statement.{statement}
 use Rattle.fabric_accesses.proofs.run_of.Tie as tie
 

@@ -1,7 +1,7 @@
 -- `fabric_accesses::slave_lanes` meets its contract.
 -- Assumes nothing.
 use mathlib.Core.Path.{sym, _∙_}
-use Rattle.fabric_accesses.proofs.AccessLaws.{width-le, write-slave-lanes, read-slave-lanes}
+use Rattle.fabric_transfer.proofs.AccessLaws.{width-le, write-slave-lanes, read-slave-lanes}
 use Rattle.fabric_accesses.proofs.slave_lanes.Statement.{statement}
 use Rattle.fabric_accesses.proofs.slave_lanes.Tie as tie
 

@@ -1,6 +1,6 @@
 -- `fabric_accesses::wait_of` meets its contract.
 -- Assumes nothing.
-use Rattle.fabric_accesses.specs.Accesses.{waitOf}
+use Rattle.fabric_transfer.specs.Accesses.{waitOf}
 use Rattle.fabric_accesses.proofs.wait_of.Statement.{statement}
 use Rattle.fabric_accesses.proofs.wait_of.Tie as tie
 

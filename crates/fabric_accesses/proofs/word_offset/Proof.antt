@@ -5,7 +5,7 @@ use Prim.Native.Nat.{ℕ, _-_, _*_, _/_}
 use native.Mathlib.Nat.{mod-le}
 use native.Mathlib.Omega.{arith}
 use Rattle.common_laws.proofs.Arithmetic.{less-remainder}
-use Rattle.fabric_accesses.specs.Accesses.{wordOffset}
+use Rattle.fabric_transfer.specs.Accesses.{wordOffset}
 use Rattle.fabric_accesses.proofs.word_offset.Statement.{statement}
 use Rattle.fabric_accesses.proofs.word_offset.Tie as tie
 

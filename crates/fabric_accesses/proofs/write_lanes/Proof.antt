@@ -8,11 +8,11 @@ use lib.Bits.{bitAnd}
 use Rattle.common_laws.proofs.Arithmetic.{field-of}
 use Rattle.description_board.specs.declared.Master.{Master}
 use Rattle.description_board.specs.declared.Slave.{Slave}
-use Rattle.fabric_accesses.specs.declared.Transfer.{Transfer}
-use Rattle.fabric_accesses.specs.Alignment.{laneBytes}
-use Rattle.fabric_accesses.specs.Accesses.{firstByte, accessOffset, writeLanes}
-use Rattle.fabric_accesses.specs.Code.Pairs.{InWord}
-use Rattle.fabric_accesses.proofs.AccessLaws.{width-pos, width-le}
+use Rattle.fabric_transfer.specs.declared.Transfer.{Transfer}
+use Rattle.fabric_transfer.specs.Alignment.{laneBytes}
+use Rattle.fabric_transfer.specs.Accesses.{firstByte, accessOffset, writeLanes}
+use Rattle.fabric_transfer.specs.Code.Pairs.{InWord}
+use Rattle.fabric_transfer.proofs.AccessLaws.{width-pos, width-le}
 use Rattle.fabric_accesses.proofs.write_lanes.Statement.{statement}
 use Rattle.fabric_accesses.proofs.write_lanes.Tie as tie
 

@@ -3,7 +3,7 @@
 -- Assumes nothing.
 use native.Mathlib.Omega.{arith}
 use borrow.Author.Needs.{needs}
-use Rattle.fabric_bytes.proofs.CarriedLaws.{lanes-fit, reads, clears, writes, read-done, write-done}
+use Rattle.fabric_transfer.proofs.CarriedLaws.{lanes-fit, reads, clears, writes, read-done, write-done}
 use Rattle.fabric_bytes.proofs.carry_access.Statement.{statement}
 use Rattle.fabric_bytes.proofs.carry_access.Tie as tie
 

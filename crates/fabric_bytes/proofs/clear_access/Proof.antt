@@ -2,8 +2,8 @@
 -- Assumes nothing.
 use borrow.Author.Needs.{needs}
 use native.Mathlib.Omega.{arith}
-use Rattle.fabric_bytes.specs.Moving.{all}
-use Rattle.fabric_bytes.proofs.PartLaws.{into-part}
+use Rattle.fabric_transfer.specs.Moving.{all}
+use Rattle.fabric_transfer.proofs.PartLaws.{into-part}
 use Rattle.fabric_bytes.proofs.clear_access.Statement.{statement}
 use Rattle.fabric_bytes.proofs.clear_access.Tie as tie
 

@@ -5,10 +5,10 @@ use denote.Ref.{now}
 use borrow.Author.Needs.{needs}
 use Prim.Native.Nat.{_+_, _*_}
 use native.Mathlib.Omega.{arith}
-use Rattle.fabric_bytes.specs.Moving.{all}
-use Rattle.fabric_bytes.specs.Bytes.{clearedWords}
-use Rattle.fabric_bytes.proofs.PartLaws.{into-part}
-use Rattle.fabric_bytes.proofs.CarriedLaws.{front-cleared}
+use Rattle.fabric_transfer.specs.Moving.{all}
+use Rattle.fabric_transfer.specs.Bytes.{clearedWords}
+use Rattle.fabric_transfer.proofs.PartLaws.{into-part}
+use Rattle.fabric_transfer.proofs.CarriedLaws.{front-cleared}
 use Rattle.fabric_bytes.proofs.clear_front.Statement.{statement}
 use Rattle.fabric_bytes.proofs.clear_front.Tie as tie
 

@@ -5,8 +5,8 @@ use denote.Ref.{now}
 use Prim.Native.Nat.{ℕ, _≤_, _-_}
 use native.Mathlib.Omega.{arith}
 use lib.ListN.{length, length-set}
-use Rattle.fabric_bytes.specs.Moving.{all, indexFrom, move}
-use Rattle.fabric_bytes.proofs.MoveLaws.{move-none, move-put}
+use Rattle.fabric_transfer.specs.Moving.{all, indexFrom, move}
+use Rattle.fabric_transfer.proofs.MoveLaws.{move-none, move-put}
 use Rattle.fabric_bytes.proofs.clear_words.Statement.{statement}
 use Rattle.fabric_bytes.proofs.clear_words.Tie as tie
 

@@ -6,10 +6,10 @@ use borrow.Author.Needs.{needs}
 use Prim.Native.Nat.{_+_, _*_}
 use lib.ListN.{length}
 use native.Mathlib.Omega.{arith}
-use Rattle.fabric_bytes.specs.Moving.{all, bytesFrom}
-use Rattle.fabric_bytes.specs.Bytes.{postedWords}
-use Rattle.fabric_bytes.proofs.PartLaws.{into-part}
-use Rattle.fabric_bytes.proofs.CarriedLaws.{words-posted}
+use Rattle.fabric_transfer.specs.Moving.{all, bytesFrom}
+use Rattle.fabric_transfer.specs.Bytes.{postedWords}
+use Rattle.fabric_transfer.proofs.PartLaws.{into-part}
+use Rattle.fabric_transfer.proofs.CarriedLaws.{words-posted}
 use Rattle.fabric_bytes.proofs.post_words.Statement.{statement}
 use Rattle.fabric_bytes.proofs.post_words.Tie as tie
 

@@ -4,8 +4,8 @@ use denote.Ref.{now}
 use borrow.Author.Needs.{needs}
 use Prim.Native.Nat.{_+_, _*_}
 use native.Mathlib.Omega.{arith}
-use Rattle.fabric_bytes.specs.Moving.{all, bytesFrom}
-use Rattle.fabric_bytes.proofs.PartLaws.{into-part}
+use Rattle.fabric_transfer.specs.Moving.{all, bytesFrom}
+use Rattle.fabric_transfer.proofs.PartLaws.{into-part}
 use Rattle.fabric_bytes.proofs.read_access.Statement.{statement}
 use Rattle.fabric_bytes.proofs.read_access.Tie as tie
 

@@ -3,7 +3,7 @@
 use borrow.Author.Needs.{needs}
 use Prim.Native.Nat.{_+_, _*_}
 use native.Mathlib.Omega.{arith}
-use Rattle.fabric_bytes.proofs.PartLaws.{out-of-part}
+use Rattle.fabric_transfer.proofs.PartLaws.{out-of-part}
 use Rattle.fabric_bytes.proofs.write_access.Statement.{statement}
 use Rattle.fabric_bytes.proofs.write_access.Tie as tie
 

@@ -8,8 +8,8 @@ use Prim.Native.Nat.{ℕ, _≤_, _+_, _-_}
 use native.Mathlib.Omega.{arith}
 use lib.ListN.{length, length-set}
 use Rattle.common_laws.specs.Bits.{bit}
-use Rattle.fabric_bytes.specs.Moving.{bytesFrom, indexFrom, move}
-use Rattle.fabric_bytes.proofs.MoveLaws.{move-none, move-put, move-skip}
+use Rattle.fabric_transfer.specs.Moving.{bytesFrom, indexFrom, move}
+use Rattle.fabric_transfer.proofs.MoveLaws.{move-none, move-put, move-skip}
 use Rattle.fabric_bytes.proofs.write_words.Statement.{statement}
 use Rattle.fabric_bytes.proofs.write_words.Tie as tie
 

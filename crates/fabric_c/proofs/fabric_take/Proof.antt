@@ -32,8 +32,8 @@ returns c =
     let entry = start .args .entry .now in
     let three : length entry ≡ 3 = search needs in
     let x = taken .take .result in (
-      rw (entry-taken entry three x (c .mark-of .ensures)) (taken .take .ensures),
-      entry-small entry three x (c .mark-of .ensures),
+      rw (entry-taken entry three (x .number) (x .master) (x .address) (x .write) (c .mark-of .ensures)) (taken .take .ensures),
+      entry-small entry three (x .number) (x .master) (x .address) (x .write) (c .mark-of .ensures),
     )
 
 pub fabric-take-spec : {M : Type 1} → statement M

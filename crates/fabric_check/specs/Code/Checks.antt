@@ -10,8 +10,8 @@ use Rattle.common_laws.specs.Lists.{every}
 use Rattle.description_board.specs.declared.Slave.{Slave}
 use Rattle.description_board.specs.declared.Board.{Board}
 use Rattle.description_board.specs.Items.{boardRefusal}
-use Rattle.fabric_accesses.specs.declared.Transfer.{Transfer}
-use Rattle.fabric_accesses.specs.Accesses.{latencyOf}
+use Rattle.fabric_transfer.specs.declared.Transfer.{Transfer}
+use Rattle.fabric_transfer.specs.Accesses.{latencyOf}
 use Rattle.fabric_state.specs.declared.State.{State}
 use Rattle.fabric_check.specs.declared.Checked.{Checked}
 use Rattle.fabric_state.specs.Posting.{unmapped}

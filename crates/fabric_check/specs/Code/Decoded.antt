@@ -3,7 +3,7 @@
 use Prim.Native.Nat.{ℕ, _≤_, _<_}
 use Rattle.description_board.specs.declared.Board.{Board}
 use Rattle.description_board.specs.Records.{slaveAt}
-use Rattle.fabric_accesses.specs.Code.Pairs.{Span}
+use Rattle.fabric_transfer.specs.Code.Pairs.{Span}
 
 -- the array has room for the board's slaves, and their spans can be decoded
 pub record Decodes (b : Board) : Type 0 where

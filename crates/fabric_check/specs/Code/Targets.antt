@@ -8,9 +8,9 @@ use lib.Dec.{eqb}
 use lib.ListN.{getD}
 use Rattle.common_laws.specs.Lists.{table, sum}
 use Rattle.description_board.specs.declared.Board.{Board}
-use Rattle.fabric_accesses.specs.declared.Transfer.{Transfer}
-use Rattle.fabric_accesses.specs.Accesses.{noTransfer}
-use Rattle.fabric_accesses.specs.Decoding.{targetOf}
+use Rattle.fabric_transfer.specs.declared.Transfer.{Transfer}
+use Rattle.fabric_transfer.specs.Accesses.{noTransfer}
+use Rattle.fabric_transfer.specs.Decoding.{targetOf}
 use Rattle.fabric_state.specs.declared.State.{State}
 use Rattle.fabric_state.specs.Soundness.{unmappedAt}
 

@@ -10,9 +10,9 @@ use lib.ListN.{set}
 use Rattle.common_laws.specs.Bits.{bit}
 use Rattle.description_board.specs.declared.Board.{Board}
 use Rattle.description_board.specs.Records.{masterAt, slaveAt, sharesAt}
-use Rattle.fabric_accesses.specs.Accesses.{noTransfer, latencyOf}
+use Rattle.fabric_transfer.specs.Accesses.{noTransfer, latencyOf}
 use Rattle.fabric_arbiter.specs.Granting.{granted}
-use Rattle.fabric_bytes.specs.Bytes.{Store}
+use Rattle.fabric_transfer.specs.Bytes.{Store}
 use Rattle.fabric_state.specs.declared.Slot.{Slot}
 use Rattle.fabric_state.specs.declared.State.{State}
 use Rattle.fabric_state.specs.declared.Line.{Line}
@@ -21,7 +21,7 @@ use Rattle.fabric_state.specs.Records.{transferAt, slotAt, arbiterOf}
 use Rattle.fabric_state.specs.Posting.{withTransfer}
 use Rattle.fabric_state.specs.Control.{slotGranted}
 use Rattle.fabric_layout.specs.Code.Puts.{withSlot, withLate}
-use Rattle.fabric_cycle.specs.Code.Serving.{stepFrom, carriedFrom, Serves}
+use Rattle.fabric_slave.specs.Code.Serving.{stepFrom, carriedFrom, Serves}
 
 -- slave s after rule 1 (rules 4.3 to 4.7), by a mask of who requests it
 unfoldable pub slotAsked : Board → State → ℕ → ℕ → Slot

@@ -5,7 +5,7 @@ use Prim.Native.Nat.{_≤_, _-_}
 use native.Mathlib.Omega.{arith}
 use borrow.Author.Needs.{needs}
 use Rattle.common_laws.proofs.FillLaws.{filled, filled-next, filled-all}
-use Rattle.fabric_accesses.specs.Accesses.{noTransfer}
+use Rattle.fabric_transfer.specs.Accesses.{noTransfer}
 use Rattle.fabric_state.specs.Records.{transferAt, lateAt}
 use Rattle.fabric_layout.specs.Layout.{stateIn}
 use Rattle.fabric_layout.proofs.StatePutLaws.{transfers-begin, transfers-put, transfers-late, idle-all}

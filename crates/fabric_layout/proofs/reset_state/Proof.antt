@@ -8,7 +8,7 @@ use native.Mathlib.Omega.{arith}
 use lib.ListN.{replicate}
 use borrow.Author.Needs.{needs}
 use Rattle.common_laws.proofs.FillLaws.{filled, filled-next, filled-all}
-use Rattle.fabric_accesses.specs.Accesses.{noTransfer}
+use Rattle.fabric_transfer.specs.Accesses.{noTransfer}
 use Rattle.fabric_state.specs.Records.{noLog, slotAt}
 use Rattle.fabric_layout.specs.Layout.{stateIn}
 use Rattle.fabric_layout.specs.Code.Puts.{resetSlot}

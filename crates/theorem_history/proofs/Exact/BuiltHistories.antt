@@ -12,7 +12,7 @@ use Rattle.description_board.specs.declared.Board.{Board}
 use Rattle.description_board.specs.Items.{boardRefusal}
 use Rattle.description_board.specs.Legal.{Legal}
 use Rattle.fabric_state.specs.Posting.{Request}
-use Rattle.fabric.specs.Calls.{World}
+use Rattle.fabric_calls.specs.Calls.{World}
 use Rattle.theorem_history.specs.Claim.{Call, Handed, next, after, History, answers, shows, any}
 use Rattle.theorem_history.proofs.Histories.CallCases.{postAt, clockAt, withPost, withClock, answerOf, post-next}
 use Rattle.theorem_history.proofs.Histories.CallCases.{clock-next, clock-answered}

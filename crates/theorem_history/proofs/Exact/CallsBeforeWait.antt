@@ -12,8 +12,8 @@ use Rattle.description_board.specs.declared.Board.{Board}
 use Rattle.description_board.specs.Records.{slaveAt, sharesAt}
 use Rattle.description_board.specs.Items.{boardRefusal}
 use Rattle.description_board.specs.Legal.{Legal}
-use Rattle.fabric_accesses.specs.declared.Transfer.{Transfer}
-use Rattle.fabric_accesses.specs.Accesses.{latencyOf}
+use Rattle.fabric_transfer.specs.declared.Transfer.{Transfer}
+use Rattle.fabric_transfer.specs.Accesses.{latencyOf}
 use Rattle.fabric_arbiter.specs.declared.Grant.the-variants.{Silent}
 use Rattle.fabric_arbiter.specs.Granting.{grantTo, granted, arbiterAfter}
 use Rattle.fabric_state.specs.declared.Slot.{Slot}
@@ -24,7 +24,7 @@ use Rattle.fabric_state.specs.Soundness.{requests}
 use Rattle.fabric_state.specs.Control.{grantAt, slotBy, slotGranted, slotAfterGrant, stateAfter}
 use Rattle.fabric_state.specs.Posting.{Request, withTransfer}
 use Rattle.fabric_state.specs.Resetting.{stateAtReset}
-use Rattle.fabric.specs.Calls.{World}
+use Rattle.fabric_calls.specs.Calls.{World}
 use Rattle.fabric_state.proofs.StateLaws.{slot-after, transfer-with, transfer-with-other, transfer-reset, slot-reset, late-with}
 use Rattle.fabric_state.proofs.StepLaws.{grant-serving, grant-given, step-rests}
 use Rattle.fabric_state.proofs.SoundLaws.{grant-sound, clock-sound}

@@ -19,15 +19,15 @@ use Rattle.description_board.specs.Records.{masterAt, slaveAt, sharesAt}
 use Rattle.description_board.specs.Rules.{widths}
 use Rattle.description_board.specs.Legal.{Legal}
 use Rattle.description_board.proofs.RuleLaws.{width-bound, burst-bound, span-bound}
-use Rattle.fabric_accesses.specs.declared.Transfer.{Transfer}
+use Rattle.fabric_transfer.specs.declared.Transfer.{Transfer}
 use Rattle.fabric_lanes.specs.Lanes.{allLanes, lowest, adjacent, legalLanes, postLanes}
-use Rattle.fabric_accesses.specs.Decoding.{selects, targetOf}
-use Rattle.fabric_accesses.specs.Alignment.{ratio}
-use Rattle.fabric_accesses.specs.Accesses.{waitOf, latencyOf, ownLength}
-use Rattle.fabric_accesses.proofs.PowerLaws.{legal-widths}
-use Rattle.fabric_accesses.proofs.NumberLaws.{accesses-full}
-use Rattle.fabric_accesses.proofs.AccessLaws.{base-aligned}
-use Rattle.fabric_accesses.proofs.SelectLaws.{selects-of, selects-target}
+use Rattle.fabric_transfer.specs.Decoding.{selects, targetOf}
+use Rattle.fabric_transfer.specs.Alignment.{ratio}
+use Rattle.fabric_transfer.specs.Accesses.{waitOf, latencyOf, ownLength}
+use Rattle.fabric_transfer.proofs.PowerLaws.{legal-widths}
+use Rattle.fabric_transfer.proofs.NumberLaws.{accesses-full}
+use Rattle.fabric_transfer.proofs.AccessLaws.{base-aligned}
+use Rattle.fabric_transfer.proofs.SelectLaws.{selects-of, selects-target}
 use Rattle.fabric_state.specs.declared.State.{State}
 use Rattle.fabric_state.specs.Records.{transferAt, lateAt}
 use Rattle.fabric_state.specs.Soundness.{requests}

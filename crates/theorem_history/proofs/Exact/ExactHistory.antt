@@ -11,11 +11,11 @@ use Rattle.description_board.specs.declared.Board.{Board}
 use Rattle.description_board.specs.Records.{sharesAt, connected}
 use Rattle.description_board.specs.Legal.{Legal}
 use Rattle.description_board.proofs.PairLaws.{connected-pair}
-use Rattle.fabric_accesses.specs.declared.Transfer.{Transfer}
+use Rattle.fabric_transfer.specs.declared.Transfer.{Transfer}
 use Rattle.fabric_state.specs.declared.State.{State}
 use Rattle.fabric_state.specs.Records.{transferAt, slotAt, lateAt}
 use Rattle.fabric_state.specs.Posting.{Request, withTransfer}
-use Rattle.fabric.specs.Calls.{World, reset, post}
+use Rattle.fabric_calls.specs.Calls.{World, reset, post}
 use Rattle.fabric_state.proofs.StateLaws.{transfer-with, transfer-with-other, late-with}
 use Rattle.wait_turns.specs.Waits.{quotedWait}
 use Rattle.theorem_bounds.proofs.Credit.{credit-zero}

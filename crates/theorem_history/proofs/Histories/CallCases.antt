@@ -14,7 +14,7 @@ use Rattle.common_laws.specs.Bits.{bit}
 use Rattle.common_laws.proofs.BitLaws.{bit-above}
 use Rattle.common_laws.proofs.TableLaws.{getD-replicate-all}
 use Rattle.description_board.specs.declared.Board.{Board}
-use Rattle.fabric_bytes.specs.Bytes.{Store, postedWords}
+use Rattle.fabric_transfer.specs.Bytes.{Store, postedWords}
 use Rattle.fabric_state.specs.declared.State.{State}
 use Rattle.fabric_state.specs.declared.Clocked.{Clocked}
 use Rattle.fabric_state.specs.Posting.{Request, transferOf, withTransfer}
@@ -22,10 +22,10 @@ use Rattle.fabric_state.specs.Control.{stateAfter, responsesOf, linesOf}
 use Rattle.fabric_state.specs.Logging.{withoutOldest, withLog}
 use Rattle.fabric_state.specs.Clocking.{clockedOf, refusedClock}
 use Rattle.fabric_state.specs.Carrying.{storeAfter}
-use Rattle.fabric.specs.Calls.{World, postRefusal, post, bufferAfterPost, clockRefusal, clock, storeAfterClock}
-use Rattle.fabric.specs.Calls.{takeRefusal, takeAnswer}
-use Rattle.fabric.proofs.RunOfClocks.{clock-is}
-use Rattle.fabric.proofs.TakeLaws.{take-number, left-taken}
+use Rattle.fabric_calls.specs.Calls.{World, postRefusal, post, bufferAfterPost, clockRefusal, clock, storeAfterClock}
+use Rattle.fabric_calls.specs.Calls.{takeRefusal, takeAnswer}
+use Rattle.fabric_calls.proofs.RunOfClocks.{clock-is}
+use Rattle.fabric_calls.proofs.TakeLaws.{take-number, left-taken}
 use Rattle.theorem_history.specs.Claim.{Call, posts, clocks, takes, numberAnswered, Handed, leaves, next, after, History}
 use Rattle.theorem_history.specs.Claim.{answers, names, update, Reference, Order, seenAll, fedPost, fed}
 use Rattle.theorem_history.specs.Claim.{Logged, logResponses, logCalls}

@@ -7,10 +7,10 @@ use Prim.Native.Nat.{_≤_}
 use native.Mathlib.Omega.{arith}
 use lib.ListN.{length}
 use Rattle.description_board.specs.declared.Board.{Board}
-use Rattle.fabric_bytes.proofs.StoreLaws.{length-posted}
+use Rattle.fabric_transfer.proofs.StoreLaws.{length-posted}
 use Rattle.fabric_state.specs.Posting.{Request}
-use Rattle.fabric.specs.Calls.{World}
-use Rattle.fabric.proofs.ClockLaws.{exact-lengths}
+use Rattle.fabric_calls.specs.Calls.{World}
+use Rattle.fabric_calls.proofs.ClockLaws.{exact-lengths}
 use Rattle.theorem_history.specs.Claim.{Call, History, Lent, after, answers}
 use Rattle.theorem_history.proofs.Histories.CallCases.{TakesClock, withPost, withTake, keeps, tells}
 

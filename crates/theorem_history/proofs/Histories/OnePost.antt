@@ -8,15 +8,15 @@ use Prim.Native.Nat.{ℕ, _<_}
 use lib.ListN.{length}
 use Rattle.description_board.specs.declared.Board.{Board}
 use Rattle.description_board.specs.Records.{masterAt, slaveAt}
-use Rattle.fabric_accesses.specs.declared.Transfer.{Transfer}
-use Rattle.fabric_accesses.specs.Accesses.{latencyOf}
+use Rattle.fabric_transfer.specs.declared.Transfer.{Transfer}
+use Rattle.fabric_transfer.specs.Accesses.{latencyOf}
 use Rattle.fabric_state.specs.declared.Slot.{Slot}
 use Rattle.fabric_state.specs.declared.State.{State}
 use Rattle.fabric_state.specs.Records.{transferAt, slotAt}
 use Rattle.fabric_state.specs.Posting.{Request, transferOf, withTransfer}
 use Rattle.fabric_state.specs.Soundness.{requests}
-use Rattle.fabric.specs.Calls.{World, postRefusal}
-use Rattle.fabric.proofs.PostLaws as posts
+use Rattle.fabric_calls.specs.Calls.{World, postRefusal}
+use Rattle.fabric_calls.proofs.PostLaws as posts
 use Rattle.fabric_state.proofs.Sound.{Sound}
 use Rattle.fabric_state.proofs.CycleLaws.{leftOf, left-resting}
 use Rattle.fabric_state.proofs.StateLaws.{slot-with, late-with, transfer-with-other}

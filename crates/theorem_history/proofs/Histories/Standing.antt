@@ -9,14 +9,14 @@ use borrow.Author.Tests.{eq-eqb}
 use Rattle.description_board.specs.declared.Board.{Board}
 use Rattle.description_board.specs.Items.{boardRefusal}
 use Rattle.description_board.specs.Legal.{Legal}
-use Rattle.fabric_bytes.proofs.StoreLaws.{length-posted}
+use Rattle.fabric_transfer.proofs.StoreLaws.{length-posted}
 use Rattle.fabric_state.specs.declared.Slot.{Slot}
 use Rattle.fabric_state.specs.declared.State.{State}
 use Rattle.fabric_state.specs.Records.{slotAt}
 use Rattle.fabric_state.specs.Posting.{Request, transferOf}
 use Rattle.fabric_state.specs.Resetting.{stateAtReset}
 use Rattle.fabric_state.specs.Logging.{withoutOldest, withLog}
-use Rattle.fabric.specs.Calls.{World, reset}
+use Rattle.fabric_calls.specs.Calls.{World, reset}
 use Rattle.fabric_state.proofs.Sound.{Sound}
 use Rattle.fabric_state.proofs.StateLaws.{slot-with, slot-reset}
 use Rattle.fabric_state.proofs.StoreLengths.{store-length}

@@ -14,16 +14,16 @@ use Rattle.description_board.specs.declared.Board.{Board}
 use Rattle.description_board.specs.Records.{masterAt, slaveAt}
 use Rattle.description_board.specs.Items.{boardRefusal}
 use Rattle.description_board.specs.Legal.{Legal}
-use Rattle.fabric_accesses.specs.Decoding.{targetOf}
-use Rattle.fabric_bytes.specs.Bytes.{bufferLength}
+use Rattle.fabric_transfer.specs.Decoding.{targetOf}
+use Rattle.fabric_transfer.specs.Bytes.{bufferLength}
 use Rattle.fabric_state.specs.declared.State.{State}
 use Rattle.fabric_state.specs.Records.{transferAt}
 use Rattle.fabric_state.specs.Posting.{Request, transferOf, wrongBeats, unaligned, wrongLanes, unmapped, passesEnd}
 use Rattle.fabric_state.specs.Posting.{transferRefusalBy, transferRefusal}
 use Rattle.fabric_state.specs.Soundness.{sound}
-use Rattle.fabric.specs.Calls.{World, wrongWords, requestRefusal, postRefusalBy, postRefusal, post, clock}
-use Rattle.fabric.proofs.PostLaws as posts
-use Rattle.fabric.proofs.ClockLaws.{not-refused}
+use Rattle.fabric_calls.specs.Calls.{World, wrongWords, requestRefusal, postRefusalBy, postRefusal, post, clock}
+use Rattle.fabric_calls.proofs.PostLaws as posts
+use Rattle.fabric_calls.proofs.ClockLaws.{not-refused}
 use Rattle.fabric_state.proofs.SoundLaws.{sound-test}
 use Rattle.theorem_history.specs.Claim.{Call, Start, Lent, History, after}
 use Rattle.theorem_history.proofs.Histories.CallCases.{TakesPost, TakesClock, clock-number}

@@ -5,7 +5,7 @@ use mathlib.Core.Bool.{Bool, true, false}
 use Prim.Native.Nat.{ℕ}
 use Rattle.description_board.specs.declared.Board.{Board}
 use Rattle.description_board.specs.Records.{masterAt, slaveAt}
-use Rattle.fabric_accesses.specs.Accesses.{ownLength}
+use Rattle.fabric_transfer.specs.Accesses.{ownLength}
 use Rattle.fabric_arbiter.specs.declared.Grant.{Grant}
 use Rattle.fabric_arbiter.specs.declared.Grant.the-variants.{Granted, Silent}
 use Rattle.fabric_arbiter.specs.Granting.{arbiterAfter}

@@ -13,7 +13,7 @@ use Rattle.common_laws.specs.Lists.{some}
 use Rattle.common_laws.proofs.TableLaws.{some-here, none-all}
 use Rattle.description_board.specs.declared.Board.{Board}
 use Rattle.description_board.specs.Legal.{Legal}
-use Rattle.fabric_accesses.specs.declared.Transfer.{Transfer}
+use Rattle.fabric_transfer.specs.declared.Transfer.{Transfer}
 use Rattle.fabric_state.specs.declared.Slot.{Slot}
 use Rattle.fabric_state.specs.declared.State.{State}
 use Rattle.fabric_state.specs.Records.{noLine, transferAt, slotAt, lateAt}

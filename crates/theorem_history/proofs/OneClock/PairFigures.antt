@@ -15,10 +15,10 @@ use Rattle.description_board.specs.declared.Board.{Board}
 use Rattle.description_board.specs.Records.{masterAt, slaveAt, sharesAt, connected}
 use Rattle.description_board.specs.Legal.{Legal}
 use Rattle.description_board.proofs.RuleLaws.{width-bound, burst-bound, span-bound}
-use Rattle.fabric_accesses.specs.declared.Transfer.{Transfer}
-use Rattle.fabric_accesses.specs.Alignment.{ratio}
-use Rattle.fabric_accesses.specs.Accesses.{waitOf, latencyOf, ownLength}
-use Rattle.fabric_accesses.proofs.AccessLaws.{accesses-le}
+use Rattle.fabric_transfer.specs.declared.Transfer.{Transfer}
+use Rattle.fabric_transfer.specs.Alignment.{ratio}
+use Rattle.fabric_transfer.specs.Accesses.{waitOf, latencyOf, ownLength}
+use Rattle.fabric_transfer.proofs.AccessLaws.{accesses-le}
 use Rattle.fabric_state.proofs.RequestLaws.{Accepted}
 use Rattle.wait_turns.specs.Waits as waits
 use Rattle.wait_turns.proofs.AccessLaws.{single-access-plain, single-access-late}

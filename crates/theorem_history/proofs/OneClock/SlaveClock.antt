@@ -10,8 +10,8 @@ use native.Mathlib.Omega.{arith}
 use Rattle.description_board.specs.declared.Board.{Board}
 use Rattle.description_board.specs.Records.{masterAt, slaveAt}
 use Rattle.description_board.specs.Legal.{Legal}
-use Rattle.fabric_accesses.specs.declared.Transfer.{Transfer}
-use Rattle.fabric_accesses.specs.Accesses.{latencyOf}
+use Rattle.fabric_transfer.specs.declared.Transfer.{Transfer}
+use Rattle.fabric_transfer.specs.Accesses.{latencyOf}
 use Rattle.fabric_arbiter.specs.declared.Grant.the-variants.{Granted}
 use Rattle.fabric_state.specs.declared.Slot.{Slot}
 use Rattle.fabric_state.specs.declared.State.{State}

@@ -12,7 +12,7 @@ use lib.Dec.{ltb, eqb}
 use borrow.Author.Tests.{eq-eqb, ne-eqb}
 use Rattle.description_board.specs.declared.Board.{Board}
 use Rattle.description_board.specs.Records.{slaveAt, sharesAt}
-use Rattle.fabric_accesses.specs.Accesses.{latencyOf}
+use Rattle.fabric_transfer.specs.Accesses.{latencyOf}
 use Rattle.fabric_arbiter.specs.declared.Choice.{Choice}
 use Rattle.fabric_arbiter.specs.declared.Choice.the-variants.{Requester, Nobody}
 use Rattle.fabric_arbiter.specs.declared.Grant.{Grant}

@@ -9,10 +9,10 @@ use Rattle.description_board.specs.Records.{masterAt, slaveAt, sharesAt, connec
 use Rattle.description_board.specs.Items.{boardRefusal}
 use Rattle.description_board.specs.Legal.{Legal}
 use Rattle.description_board.proofs.PairLaws.{connected-pair}
-use Rattle.fabric_accesses.specs.Accesses.{ownLength}
+use Rattle.fabric_transfer.specs.Accesses.{ownLength}
 use Rattle.fabric_state.specs.Records.{transferAt}
 use Rattle.fabric_state.specs.Posting.{Request}
-use Rattle.fabric.specs.Calls.{World, post}
+use Rattle.fabric_calls.specs.Calls.{World, post}
 use Rattle.fabric_state.proofs.StateLaws.{transfer-reset}
 use Rattle.wait_turns.specs.Waits.{serveOf}
 use Rattle.wait.specs.declared.Quoted.{Quoted}

@@ -10,9 +10,9 @@ use Rattle.description_board.specs.declared.Board.{Board}
 use Rattle.description_board.specs.Records.{connected}
 use Rattle.description_board.specs.Items.{boardRefusal}
 use Rattle.description_board.specs.Legal.{Legal}
-use Rattle.fabric_accesses.specs.Decoding.{selects}
+use Rattle.fabric_transfer.specs.Decoding.{selects}
 use Rattle.fabric_state.specs.Posting.{Request, transferOf}
-use Rattle.fabric.specs.Calls.{World, post}
+use Rattle.fabric_calls.specs.Calls.{World, post}
 use Rattle.wait_turns.specs.Waits.{quotedWait, serveOf}
 use Rattle.wait.specs.declared.Quoted.{Quoted}
 use Rattle.wait.specs.Calls.{quoteOf}

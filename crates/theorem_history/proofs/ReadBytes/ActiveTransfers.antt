@@ -16,12 +16,12 @@ use Rattle.description_board.specs.Legal.{Legal}
 use Rattle.description_board.proofs.RuleLaws.{width-bound, burst-bound}
 use Rattle.description_board.proofs.PairLaws.{pair-wide}
 use Rattle.description_board.proofs.StartLaws.{end-inside}
-use Rattle.fabric_accesses.specs.declared.Transfer.{Transfer}
-use Rattle.fabric_accesses.specs.Accesses.{noTransfer}
-use Rattle.fabric_accesses.specs.Decoding.{targetOf}
-use Rattle.fabric_accesses.proofs.AlignmentLaws.{byte-within}
-use Rattle.fabric_bytes.specs.Bytes.{Store, memoryIndex}
-use Rattle.fabric_bytes.proofs.MoveLaws.{less-or}
+use Rattle.fabric_transfer.specs.declared.Transfer.{Transfer}
+use Rattle.fabric_transfer.specs.Accesses.{noTransfer}
+use Rattle.fabric_transfer.specs.Decoding.{targetOf}
+use Rattle.fabric_transfer.proofs.AlignmentLaws.{byte-within}
+use Rattle.fabric_transfer.specs.Bytes.{Store, memoryIndex}
+use Rattle.fabric_transfer.proofs.MoveLaws.{less-or}
 use Rattle.fabric_state.specs.declared.Slot.{Slot}
 use Rattle.fabric_state.specs.declared.Log.{Log}
 use Rattle.fabric_state.specs.declared.State.{State}

@@ -8,8 +8,8 @@ use lib.ListN.{length}
 use Rattle.description_board.specs.declared.Board.{Board}
 use Rattle.description_board.specs.Records.{startOf}
 use Rattle.description_board.specs.Legal.{Legal}
-use Rattle.fabric_bytes.specs.Bytes.{Store}
-use Rattle.fabric_bytes.proofs.Ranges.{agree-refl, agree-sym}
+use Rattle.fabric_transfer.specs.Bytes.{Store}
+use Rattle.fabric_transfer.proofs.Ranges.{agree-refl, agree-sym}
 use Rattle.fabric_state.specs.declared.Slot.{Slot}
 use Rattle.fabric_state.specs.declared.State.{State}
 use Rattle.fabric_state.specs.Soundness.{unmappedAt}

@@ -13,10 +13,10 @@ use borrow.Author.Tests.{ne-eqb, lt-ltb, le-ltb}
 use Rattle.description_board.specs.declared.Board.{Board}
 use Rattle.description_board.specs.Records.{startOf}
 use Rattle.description_board.specs.Legal.{Legal}
-use Rattle.fabric_accesses.specs.declared.Transfer.{Transfer}
-use Rattle.fabric_bytes.specs.Bytes.{Store, partOf}
-use Rattle.fabric_bytes.proofs.MoveLaws.{less-or}
-use Rattle.fabric_bytes.proofs.Ranges.{Agree}
+use Rattle.fabric_transfer.specs.declared.Transfer.{Transfer}
+use Rattle.fabric_transfer.specs.Bytes.{Store, partOf}
+use Rattle.fabric_transfer.proofs.MoveLaws.{less-or}
+use Rattle.fabric_transfer.proofs.Ranges.{Agree}
 use Rattle.fabric_state.specs.declared.Slot.{Slot}
 use Rattle.fabric_state.specs.declared.State.{State}
 use Rattle.fabric_state.specs.Records.{slotAt, lateAt}

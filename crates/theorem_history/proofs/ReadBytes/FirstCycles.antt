@@ -11,8 +11,8 @@ use lib.ListN.{getD}
 use borrow.Author.Tests.{eq-eqb}
 use Rattle.description_board.specs.declared.Board.{Board}
 use Rattle.description_board.specs.Legal.{Legal}
-use Rattle.fabric_bytes.specs.Bytes.{Store}
-use Rattle.fabric_bytes.proofs.MoveLaws.{less-or}
+use Rattle.fabric_transfer.specs.Bytes.{Store}
+use Rattle.fabric_transfer.proofs.MoveLaws.{less-or}
 use Rattle.fabric_state.specs.declared.Slot.{Slot}
 use Rattle.fabric_state.specs.declared.State.{State}
 use Rattle.fabric_state.specs.declared.Line.{Line}

@@ -15,12 +15,12 @@ use Rattle.common_laws.proofs.FillLaws.{table-is}
 use Rattle.description_board.specs.declared.Board.{Board}
 use Rattle.description_board.specs.Records.{masterAt, startOf, memoryLength}
 use Rattle.description_board.specs.Legal.{Legal}
-use Rattle.fabric_accesses.specs.declared.Transfer.{Transfer}
-use Rattle.fabric_bytes.specs.Moving.{all, indexFrom}
-use Rattle.fabric_bytes.specs.Bytes.{Store, bufferLength, partOf, postedWords}
-use Rattle.fabric_bytes.proofs.MoveLaws.{equal-or, less-or}
-use Rattle.fabric_bytes.proofs.Ranges.{agree-refl, agree-sym, move-apart, front-moved}
-use Rattle.fabric_bytes.proofs.StoreLaws.{length-posted, parts-apart}
+use Rattle.fabric_transfer.specs.declared.Transfer.{Transfer}
+use Rattle.fabric_transfer.specs.Moving.{all, indexFrom}
+use Rattle.fabric_transfer.specs.Bytes.{Store, bufferLength, partOf, postedWords}
+use Rattle.fabric_transfer.proofs.MoveLaws.{equal-or, less-or}
+use Rattle.fabric_transfer.proofs.Ranges.{agree-refl, agree-sym, move-apart, front-moved}
+use Rattle.fabric_transfer.proofs.StoreLaws.{length-posted, parts-apart}
 use Rattle.fabric_state.specs.declared.Slot.{Slot}
 use Rattle.fabric_state.specs.declared.State.{State}
 use Rattle.fabric_state.specs.declared.Line.{Line}
@@ -30,14 +30,14 @@ use Rattle.fabric_state.specs.Soundness.{sound}
 use Rattle.fabric_state.specs.Control.{finished, maskOf, linesOf}
 use Rattle.fabric_state.specs.Resetting.{stateAtReset}
 use Rattle.fabric_state.specs.Logging.{withoutOldest, withLog}
-use Rattle.fabric.specs.Calls.{clock, storeAfterClock, World}
+use Rattle.fabric_calls.specs.Calls.{clock, storeAfterClock, World}
 use Rattle.fabric_state.proofs.Sound.{Sound}
 use Rattle.fabric_state.proofs.StateLaws.{transfer-reset, slot-reset, late-reset, mask-bit, mask-bit-past}
 use Rattle.fabric_state.proofs.StateLaws.{transfer-with, transfer-with-other, slot-with, late-with}
 use Rattle.fabric_state.proofs.RequestLaws.{taken-bytes}
 use Rattle.theorem_history.specs.Claim.{Call, after, History, Start, Lent, names, Reference, referenceAt, bytesIn, Order}
 use Rattle.theorem_history.specs.Claim.{Mapped, stepped, seen, seenAll, fedPost, fed}
-use Rattle.fabric.proofs.RunOfClocks.{clock-is, store-is}
+use Rattle.fabric_calls.proofs.RunOfClocks.{clock-is, store-is}
 use Rattle.theorem_history.proofs.Histories.CallCases.{TakesPost, TakesClock, TakesEntry, withPost, withClock, withTake}
 use Rattle.theorem_history.proofs.Histories.CallCases.{named-taken, feeds}
 use Rattle.theorem_history.proofs.Histories.LentLengths.{clock-lent, lent-before}

@@ -11,10 +11,10 @@ use lib.ListN.{length}
 use borrow.Author.Tests.{ne-eqb}
 use Rattle.description_board.specs.declared.Board.{Board}
 use Rattle.description_board.specs.Legal.{Legal}
-use Rattle.fabric_accesses.specs.declared.Transfer.{Transfer}
-use Rattle.fabric_bytes.specs.Bytes.{Store, partOf}
-use Rattle.fabric_bytes.proofs.MoveLaws.{less-or}
-use Rattle.fabric_bytes.proofs.Ranges.{agree-refl, agree-sym, front, front-same}
+use Rattle.fabric_transfer.specs.declared.Transfer.{Transfer}
+use Rattle.fabric_transfer.specs.Bytes.{Store, partOf}
+use Rattle.fabric_transfer.proofs.MoveLaws.{less-or}
+use Rattle.fabric_transfer.proofs.Ranges.{agree-refl, agree-sym, front, front-same}
 use Rattle.fabric_state.specs.declared.State.{State}
 use Rattle.fabric_state.specs.Records.{lateAt}
 use Rattle.fabric_state.specs.Soundness.{unmappedAt}

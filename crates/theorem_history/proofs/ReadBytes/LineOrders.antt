@@ -10,7 +10,7 @@ use native.Mathlib.Omega.{arith}
 use lib.Dec.{eqb, ltb}
 use borrow.Author.Tests.{eq-eqb, ne-eqb, ltb-true, ltb-false, lt-ltb, le-ltb}
 use Rattle.common_laws.specs.Lists.{table, gather}
-use Rattle.fabric_bytes.proofs.MoveLaws.{equal-or, less-or}
+use Rattle.fabric_transfer.proofs.MoveLaws.{equal-or, less-or}
 use Rattle.theorem_history.specs.Claim.{times}
 
 -- ---- how often a number is in a list

@@ -12,11 +12,11 @@ use borrow.Author.Tests.{eq-eqb, ne-eqb}
 use Rattle.description_board.specs.declared.Board.{Board}
 use Rattle.description_board.specs.Records.{startOf, memoryLength}
 use Rattle.description_board.proofs.StartLaws.{end-before}
-use Rattle.fabric_accesses.specs.declared.Transfer.{Transfer}
-use Rattle.fabric_accesses.specs.Decoding.{targetOf}
-use Rattle.fabric_bytes.specs.Bytes.{Store, bufferLength, partOf}
-use Rattle.fabric_bytes.proofs.MoveLaws.{equal-or, less-or}
-use Rattle.fabric_bytes.proofs.Ranges.{Agree, agree-refl, agree-sym, agree-trans, Apart, front-same}
+use Rattle.fabric_transfer.specs.declared.Transfer.{Transfer}
+use Rattle.fabric_transfer.specs.Decoding.{targetOf}
+use Rattle.fabric_transfer.specs.Bytes.{Store, bufferLength, partOf}
+use Rattle.fabric_transfer.proofs.MoveLaws.{equal-or, less-or}
+use Rattle.fabric_transfer.proofs.Ranges.{Agree, agree-refl, agree-sym, agree-trans, Apart, front-same}
 use Rattle.fabric_state.specs.declared.Slot.{Slot}
 use Rattle.fabric_state.specs.Control.{slotAccessed}
 use Rattle.theorem_history.specs.Claim.{Reference, stepped}

@@ -14,23 +14,23 @@ use Rattle.common_laws.specs.Lists.{table}
 use Rattle.common_laws.proofs.FrontLaws.{table-same}
 use Rattle.description_board.specs.declared.Board.{Board}
 use Rattle.description_board.specs.Records.{masterAt, slaveAt, startOf, memoryLength}
-use Rattle.fabric_accesses.specs.declared.Transfer.{Transfer}
-use Rattle.fabric_accesses.specs.Alignment.{ratio, accessBytes, hasLane}
-use Rattle.fabric_accesses.specs.Accesses.{firstByte, accesses, accessNumber}
-use Rattle.fabric_accesses.specs.Decoding.{targetOf}
-use Rattle.fabric_accesses.specs.Code.Numbers.{Posted, firstAccess}
-use Rattle.fabric_accesses.proofs.NumberLaws.{number-is, numbers-fit, front-left-out, end-left-out}
-use Rattle.fabric_accesses.proofs.AccessLaws.{first-zero, first-next, first-add, first-le, first-all}
-use Rattle.fabric_bytes.specs.Moving.{bytesFrom, move}
-use Rattle.fabric_bytes.specs.Bytes.{Store, bufferLength, partOf, memoryIndex, stores, byteRead, written, fetched}
-use Rattle.fabric_bytes.specs.Bytes.{carriedBytes, carriedAccess}
-use Rattle.fabric_bytes.proofs.MoveLaws.{length-move}
-use Rattle.fabric_bytes.proofs.Ranges.{Agree, agree-refl, agree-sym, agree-trans, Apart, Outside, move-apart, move-agree}
-use Rattle.fabric_bytes.proofs.Ranges.{front, front-at, front-same, front-moved}
-use Rattle.fabric_bytes.proofs.StoreLaws.{length-memory, length-buffer, stores-lane, read-same, Alike, carried-write}
-use Rattle.fabric_bytes.proofs.StoreLaws.{carried-read, carried-join, carried-memory, carried-buffer}
-use Rattle.fabric_bytes.proofs.StoreLaws.{carried-alike, parts-apart}
-use Rattle.fabric_bytes.proofs.LeftOut.{left-out-all}
+use Rattle.fabric_transfer.specs.declared.Transfer.{Transfer}
+use Rattle.fabric_transfer.specs.Alignment.{ratio, accessBytes, hasLane}
+use Rattle.fabric_transfer.specs.Accesses.{firstByte, accesses, accessNumber}
+use Rattle.fabric_transfer.specs.Decoding.{targetOf}
+use Rattle.fabric_transfer.specs.Code.Numbers.{Posted, firstAccess}
+use Rattle.fabric_transfer.proofs.NumberLaws.{number-is, numbers-fit, front-left-out, end-left-out}
+use Rattle.fabric_transfer.proofs.AccessLaws.{first-zero, first-next, first-add, first-le, first-all}
+use Rattle.fabric_transfer.specs.Moving.{bytesFrom, move}
+use Rattle.fabric_transfer.specs.Bytes.{Store, bufferLength, partOf, memoryIndex, stores, byteRead, written, fetched}
+use Rattle.fabric_transfer.specs.Bytes.{carriedBytes, carriedAccess}
+use Rattle.fabric_transfer.proofs.MoveLaws.{length-move}
+use Rattle.fabric_transfer.proofs.Ranges.{Agree, agree-refl, agree-sym, agree-trans, Apart, Outside, move-apart, move-agree}
+use Rattle.fabric_transfer.proofs.Ranges.{front, front-at, front-same, front-moved}
+use Rattle.fabric_transfer.proofs.StoreLaws.{length-memory, length-buffer, stores-lane, read-same, Alike, carried-write}
+use Rattle.fabric_transfer.proofs.StoreLaws.{carried-read, carried-join, carried-memory, carried-buffer}
+use Rattle.fabric_transfer.proofs.StoreLaws.{carried-alike, parts-apart}
+use Rattle.fabric_transfer.proofs.LeftOut.{left-out-all}
 use Rattle.fabric_state.specs.Posting.{transferOf}
 use Rattle.theorem_history.specs.Claim.{Reference, slaveFor, bytesIn, bytesAfter, given, stepped}
 

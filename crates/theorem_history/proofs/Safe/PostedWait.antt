@@ -10,12 +10,12 @@ use native.Mathlib.Omega.{arith}
 use Rattle.description_board.specs.declared.Board.{Board}
 use Rattle.description_board.specs.Records.{masterAt, slaveAt}
 use Rattle.description_board.specs.Legal.{Legal}
-use Rattle.fabric_accesses.specs.declared.Transfer.{Transfer}
-use Rattle.fabric_accesses.specs.Accesses.{waitOf, latencyOf, ownLength}
+use Rattle.fabric_transfer.specs.declared.Transfer.{Transfer}
+use Rattle.fabric_transfer.specs.Accesses.{waitOf, latencyOf, ownLength}
 use Rattle.fabric_state.specs.declared.State.{State}
 use Rattle.fabric_state.specs.Records.{transferAt, slotAt}
 use Rattle.fabric_state.specs.Posting.{Request, transferOf, withTransfer}
-use Rattle.fabric.specs.Calls.{World}
+use Rattle.fabric_calls.specs.Calls.{World}
 use Rattle.fabric_state.proofs.StateLaws.{transfer-with, slot-with, late-with}
 use Rattle.fabric_state.proofs.RequestLaws.{Accepted, accepted, accepted-accesses, target-mapped, requests-of}
 use Rattle.theorem_bounds.proofs.Potential.{pot-quoted}

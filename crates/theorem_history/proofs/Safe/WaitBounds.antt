@@ -10,8 +10,8 @@ use native.Mathlib.Omega.{arith}
 use Rattle.description_board.specs.declared.Board.{Board}
 use Rattle.description_board.specs.Records.{masterAt, slaveAt}
 use Rattle.description_board.specs.Legal.{Legal}
-use Rattle.fabric_accesses.specs.declared.Transfer.{Transfer}
-use Rattle.fabric_accesses.specs.Accesses.{latencyOf, ownLength}
+use Rattle.fabric_transfer.specs.declared.Transfer.{Transfer}
+use Rattle.fabric_transfer.specs.Accesses.{latencyOf, ownLength}
 use Rattle.fabric_state.specs.declared.Slot.{Slot}
 use Rattle.fabric_state.specs.declared.Log.{Log}
 use Rattle.fabric_state.specs.declared.State.{State}
@@ -21,7 +21,7 @@ use Rattle.fabric_state.specs.Posting.{Request, transferOf, withTransfer}
 use Rattle.fabric_state.specs.Soundness.{requests, latencyAt}
 use Rattle.fabric_state.specs.Control.{stepOf, ended, finished, stateAfter}
 use Rattle.fabric_state.specs.Logging.{withoutOldest, withLog}
-use Rattle.fabric.specs.Calls.{World}
+use Rattle.fabric_calls.specs.Calls.{World}
 use Rattle.fabric_state.proofs.StateLaws.{slot-after, slot-with, late-with, mask-bit, late-after, late-ends, late-less}
 use Rattle.fabric_state.proofs.StateLaws.{ended-here, finished-now, finished-then}
 use Rattle.fabric_state.proofs.RequestLaws.{requests-free, requests-latency}

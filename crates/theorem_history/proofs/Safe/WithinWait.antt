@@ -11,7 +11,7 @@ use lib.ListN.{length, take}
 use Rattle.description_board.specs.declared.Board.{Board}
 use Rattle.description_board.specs.Legal.{Legal}
 use Rattle.fabric_state.specs.Posting.{Request, transferOf}
-use Rattle.fabric.specs.Calls.{World, post}
+use Rattle.fabric_calls.specs.Calls.{World, post}
 use Rattle.theorem_history.specs.Claim.{Call, Start, History, after, answers, shows, names, any, Accepted, afterPosting}
 use Rattle.theorem_history.specs.Claim.{slaveFor, Mapped, waitFor, lengthOf, lateFor}
 use Rattle.theorem_history.proofs.Histories.CallCases.{TakesPost, withPost, post-leaves}

@@ -11,15 +11,15 @@ use lib.ListN.{length, take, drop, replicate}
 use borrow.Author.Tests.{eq-eqb}
 use Rattle.description_board.specs.declared.Board.{Board}
 use Rattle.description_board.specs.Legal.{Legal}
-use Rattle.fabric_accesses.specs.declared.Transfer.{Transfer}
-use Rattle.fabric_bytes.specs.Bytes.{bufferLength, partOf}
+use Rattle.fabric_transfer.specs.declared.Transfer.{Transfer}
+use Rattle.fabric_transfer.specs.Bytes.{bufferLength, partOf}
 use Rattle.fabric_state.specs.declared.State.{State}
 use Rattle.fabric_state.specs.Records.{transferAt}
 use Rattle.fabric_state.specs.Posting.{Request, transferOf, unmapped, isUnmapped}
 use Rattle.fabric_state.specs.Soundness.{unmappedAt}
 use Rattle.fabric_state.specs.Logging.{withLog}
 use Rattle.fabric_state.specs.Carrying.{carriedBy, storeAfter}
-use Rattle.fabric.specs.Calls.{World, post, clock, storeAfterClock}
+use Rattle.fabric_calls.specs.Calls.{World, post, clock, storeAfterClock}
 use Rattle.fabric_state.proofs.Sound.{Sound}
 use Rattle.fabric_state.proofs.StateLaws.{transfer-with, transfer-with-other, mask-bit, response-after}
 use Rattle.fabric_state.proofs.StateLaws.{finished-unmapped, response-unmapped}
@@ -27,8 +27,8 @@ use Rattle.fabric_state.proofs.RequestLaws.{unmapped-of}
 use Rattle.fabric_state.proofs.SoundLaws.{take-sound}
 use Rattle.fabric_state.proofs.StoreLengths.{carried-length}
 use Rattle.fabric_state.proofs.ClearLaws.{clears-of, cleared-zeros}
-use Rattle.fabric.proofs.RunOfClocks.{clock-is, store-is}
-use Rattle.fabric.proofs.ClockLaws.{exact-lengths}
+use Rattle.fabric_calls.proofs.RunOfClocks.{clock-is, store-is}
+use Rattle.fabric_calls.proofs.ClockLaws.{exact-lengths}
 use Rattle.theorem_history.specs.Claim.{Call, after, History, Start, answers, names, responseTo, slaveFor, Unmapped}
 use Rattle.theorem_history.specs.Claim.{Accepted, afterPosting, bytesIn, DecodeError}
 use Rattle.theorem_history.proofs.Histories.CallCases.{TakesPost, TakesClock, withPost, withTake, post-leaves}

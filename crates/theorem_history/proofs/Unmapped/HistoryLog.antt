@@ -14,7 +14,7 @@ use Rattle.common_laws.proofs.TableLaws.{getD-replicate-all}
 use Rattle.description_board.specs.declared.Board.{Board}
 use Rattle.description_board.specs.Items.{boardRefusal}
 use Rattle.description_board.specs.Legal.{Legal}
-use Rattle.fabric_bytes.proofs.MoveLaws.{less-or}
+use Rattle.fabric_transfer.proofs.MoveLaws.{less-or}
 use Rattle.fabric_state.specs.declared.Entry.{Entry}
 use Rattle.fabric_state.specs.declared.Log.{Log}
 use Rattle.fabric_state.specs.declared.State.{State}
@@ -23,14 +23,14 @@ use Rattle.fabric_state.specs.Posting.{Request, transferOf}
 use Rattle.fabric_state.specs.Soundness.{unmappedAt}
 use Rattle.fabric_state.specs.Logging.{entryOf, enteredBy, logAfter, withoutOldest, withLog}
 use Rattle.fabric_state.specs.Control.{responsesOf}
-use Rattle.fabric.specs.Calls.{World, clock, takenOf, takeAnswer}
+use Rattle.fabric_calls.specs.Calls.{World, clock, takenOf, takeAnswer}
 use Rattle.fabric_state.proofs.Sound.{Sound}
 use Rattle.fabric_state.proofs.StateLaws.{log-reset, log-after, log-with, response-after, response-after-past}
 use Rattle.fabric_state.proofs.StateLaws.{response-unmapped, response-mapped}
 use Rattle.fabric_state.proofs.RequestLaws.{unmapped-held}
 use Rattle.fabric_state.proofs.SoundLaws.{sound-test, clock-sound, take-sound}
-use Rattle.fabric.proofs.RunOfClocks.{clock-is}
-use Rattle.fabric.proofs.TakeLaws.{take-empty, take-free, answer-taken, answer-refused}
+use Rattle.fabric_calls.proofs.RunOfClocks.{clock-is}
+use Rattle.fabric_calls.proofs.TakeLaws.{take-empty, take-free, answer-taken, answer-refused}
 use Rattle.theorem_history.specs.Claim.{Call, after, History, Start, Mapped, responseTo, Logged, loggedAt, logEntry}
 use Rattle.theorem_history.specs.Claim.{logResponses, logCalls, logOf, oldestOf}
 use Rattle.theorem_history.proofs.Histories.CallCases.{TakesPost, TakesClock, TakesEntry, withPost, withClock, withTake}

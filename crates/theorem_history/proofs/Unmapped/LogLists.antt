@@ -16,7 +16,7 @@ use Rattle.common_laws.specs.Lists.{table}
 use Rattle.common_laws.proofs.TableLaws.{getD-table, getD-table-past, getD-replicate-all}
 use Rattle.common_laws.proofs.FrontLaws.{table-same}
 use Rattle.common_laws.proofs.FillLaws.{table-is, set-table}
-use Rattle.fabric_bytes.proofs.MoveLaws.{less-or}
+use Rattle.fabric_transfer.proofs.MoveLaws.{less-or}
 use Rattle.fabric_state.specs.declared.Entry.{Entry}
 use Rattle.fabric_state.specs.Records.{noEntry, noLog, entryAt}
 use Rattle.fabric_state.specs.Logging.{entered, withoutOldest}

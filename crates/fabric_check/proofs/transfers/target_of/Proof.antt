@@ -12,7 +12,7 @@ use Rattle.common_laws.specs.Lists.{first, firstFrom}
 use Rattle.common_laws.proofs.TableLaws.{first-here, first-later, first-none}
 use Rattle.description_board.specs.declared.Board.{Board}
 use Rattle.description_layout.specs.Layout.{boardIn}
-use Rattle.fabric_accesses.specs.Decoding.{selects, targetOf}
+use Rattle.fabric_transfer.specs.Decoding.{selects, targetOf}
 use Rattle.fabric_check.proofs.TargetLaws.{selects-here, selects-elsewhere, selects-unconnected}
 use Rattle.fabric_check.proofs.transfers.target_of.Statement.{statement}
 use Rattle.fabric_check.proofs.transfers.target_of.Tie as tie

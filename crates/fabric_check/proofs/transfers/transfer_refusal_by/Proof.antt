@@ -8,7 +8,7 @@ use lib.Dec.{eqb}
 use borrow.Author.Tests.{eq-eqb, ne-eqb, lt-ltb, le-ltb}
 use borrow.Author.Needs.{needs}
 use Rattle.fabric_state.specs.Posting.{wrongBeats, unaligned, wrongLanes, unmapped, passesEnd, transferRefusalBy}
-use Rattle.fabric_accesses.proofs.PowerLaws.{over-width}
+use Rattle.fabric_transfer.proofs.PowerLaws.{over-width}
 use Rattle.fabric_check.proofs.RefusalLaws.{width-some, width-most, bytes-most}
 use Rattle.fabric_check.proofs.transfers.transfer_refusal_by.Statement.{statement}
 use Rattle.fabric_check.proofs.transfers.transfer_refusal_by.Tie as tie

@@ -1,9 +1,0 @@
-pub mod PowerLaws
-pub mod DecodeLaws
-pub mod AlignmentLaws
-pub mod LaneAccesses
-pub mod NumberLaws
-pub mod CarriedOut
-pub mod AccessLaws
-pub mod RunLaws
-pub mod SelectLaws

@@ -1,4 +1,0 @@
-pub mod Moving
-pub mod Bytes
-pub mod Cards
-pub mod Code

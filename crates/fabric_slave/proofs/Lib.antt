@@ -1,0 +1,3 @@
+pub mod SlotGrantLaws
+pub mod ServeLaws
+pub mod ReachLaws

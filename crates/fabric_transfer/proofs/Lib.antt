@@ -1,0 +1,16 @@
+pub mod PowerLaws
+pub mod DecodeLaws
+pub mod AlignmentLaws
+pub mod LaneAccesses
+pub mod NumberLaws
+pub mod CarriedOut
+pub mod AccessLaws
+pub mod RunLaws
+pub mod SelectLaws
+pub mod MoveLaws
+pub mod Ranges
+pub mod PartLaws
+pub mod StoreLaws
+pub mod LeftOut
+pub mod CarriedLaws
+pub mod Cards

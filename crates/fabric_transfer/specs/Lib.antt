@@ -1,0 +1,9 @@
+pub mod Decoding
+pub mod Alignment
+pub mod Accesses
+pub mod CarriedOut
+pub mod Runs
+pub mod Moving
+pub mod Bytes
+pub mod Cards
+pub mod Code
