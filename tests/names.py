@@ -5,7 +5,7 @@ usage: tests/names.py [--write]
 
 - a rule that is cited ("rule 4.5", "rules 4.3 to 4.6") stands in docs/RULES.md, and each rule has a row in docs/PROMISES.md;
 - a crate, file, definition, function, law or must-fail edit that a document names in backquotes exists;
-- each must-fail edit is named in docs/PROMISES.md;
+- each label of a must-fail edit is named in docs/PROMISES.md;
 - the constants of include/fabric.h are those of crate common_numbers;
 - each row of a document's table has as many cells as the table's heading;
 - docs/READING.md lists every file of definitions that is to be believed, with its number of lines (--write puts the numbers).
@@ -16,6 +16,8 @@ import re
 import subprocess
 import sys
 from pathlib import Path
+
+from edits import all_edits
 
 ROOT = Path(__file__).resolve().parent.parent
 # What a document may name in backquotes and this repository does not have: programs and words of the language or of the kit.
@@ -61,7 +63,7 @@ class Names:
 
     def __init__(self, files):
         self.crates = {path.parent.name for path in (ROOT / "crates").glob("*/src")}
-        self.edits = {f"{path.parent.parent.name}/{path.stem}" for path in files if path.suffix == ".edit"}
+        self.edits = {str(edit) for edit in all_edits(ROOT)}
         self.words = set()
         self.in_crate = {}
         for path in files:
