@@ -15,7 +15,7 @@ byte for byte, on input that the model generates from SEED (2 where it is not gi
                empty ones, folders, and names with spaces and a comma
   simulate     COUNT boards, each with a script of about 100 calls
 
-Before that the model is held to the rules by its own tests (cargo test). Prints a line for each;
+Before that the model is built and held to the rules by its own tests (tests/model.sh). Prints a line for each;
 of what differs, the input and both outputs are kept in target/compare/NAME. Exit status: 0 where
 nothing differs, 1 where something does, 2 where something could not be compared, as where a
 program is not built or the model fails its tests.
@@ -204,13 +204,7 @@ case $#,$seed,$count in
         ;;
 esac
 [ "$count" -ge 2 ] || fail "COUNT is 2 or more"
-cargo build --release --offline --quiet --manifest-path "$root/model/Cargo.toml" --target-dir "$root/target/model" ||
-    fail "the model cannot be built"
-cargo test --offline --quiet --manifest-path "$root/model/Cargo.toml" --target-dir "$root/target/model" \
-    > "$root/target/model/tests" 2>&1 || {
-    cat "$root/target/model/tests" >&2
-    fail "the model fails its tests"
-}
+"$root/tests/model.sh" || fail "the model is not to be trusted"
 different=0
 compare_stored
 compare_texts
