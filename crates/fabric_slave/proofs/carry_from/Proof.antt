@@ -1,4 +1,4 @@
--- `fabric_cycle::slave::carry_from` meets its contract: the access's bytes, or none while the slave waits.
+-- `fabric_slave::carry_from` meets its contract: the access's bytes, or none while the slave waits.
 -- Assumes nothing.
 use mathlib.Core.Path.{_∙_}
 use Rattle.fabric_slave.proofs.ServeLaws.{waits-yes, waits-no, carried-waiting, carried-access}

@@ -1,4 +1,4 @@
--- `fabric_cycle::slave::line_of` meets its contract: the line of the access in hand.
+-- `fabric_slave::line_of` meets its contract: the line of the access in hand.
 -- Assumes nothing.
 use Rattle.fabric_slave.proofs.ServeLaws.{line-found}
 use borrow.Author.Needs.{needs}

@@ -1,4 +1,4 @@
--- `fabric_cycle::slave::serve` meets its contract: the bytes, then the step.
+-- `fabric_slave::serve` meets its contract: the bytes, then the step.
 -- Assumes nothing.
 use mathlib.Core.Path.{_∙_}
 use Rattle.fabric_slave.proofs.ServeLaws.{placed-at, reached-at, from-serving}

@@ -1,4 +1,4 @@
--- `fabric_cycle::slave::served` meets its contract: a wait, an access, the last access.
+-- `fabric_slave::served` meets its contract: a wait, an access, the last access.
 -- Assumes nothing.
 use native.Mathlib.Omega.{arith}
 use Rattle.fabric_state.specs.Control.{slotWaiting, slotAccessed, slotFinished}

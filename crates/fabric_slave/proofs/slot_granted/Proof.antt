@@ -1,4 +1,4 @@
--- `fabric_cycle::slave::slot_granted` meets its contract: a walk of its MIR, by hand, since it makes a reference to a struct.
+-- `fabric_slave::slot_granted` meets its contract: a walk of its MIR, by hand, since it makes a reference to a struct.
 -- The slave's arbiter is made and stored in a local, the local is lent for a lifetime that the walk makes, the lifetime is ended
 -- after the call, and the local comes back at the arbiter that `fabric_arbiter::arbitrate_record` ensures. Of its callees the
 -- walk knows only that each meets its contract.

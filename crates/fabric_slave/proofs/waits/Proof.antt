@@ -1,4 +1,4 @@
--- `fabric_cycle::slave::waits` meets its contract: waits passed against the wait of the direction.
+-- `fabric_slave::waits` meets its contract: waits passed against the wait of the direction.
 -- Assumes nothing.
 use Rattle.fabric_state.specs.Control.{waits}
 use borrow.Author.Needs.{needs}
