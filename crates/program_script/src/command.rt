@@ -4,12 +4,10 @@ use common_numbers::MASTERS;
 use common_numbers::SLAVES;
 ghost use Prim.Native.Nat.{_≤_, _<_};
 ghost use lib.ListN.{length};
-ghost use Rattle.io.specs.Counts.{Counts};
-use crate::hex;
 use common_text::Number;
 
-// The kinds of line, by the indices of their words in WORDS. Those up to DEFAULT overwrite an entry of the state, up to ENTRY, or of
-// the board; those behind them up to TAKE call the fabric.
+// The kinds of line, by the indices of their words in WORDS. Those up to DEFAULT overwrite an entry of the state, up to ENTRY, or
+// of the board; those after them up to TAKE call the fabric.
 pub const TRANSFER: usize = 0;
 
 pub const SLOT: usize = 1;
@@ -49,7 +47,7 @@ pub const LEND: usize = 17;
 // How many kinds there are; the kind of a line that is none of them.
 pub const KINDS: usize = 18;
 
-// The room for what a line has behind its word. A slave line has the most, its card's index and eight numbers.
+// The room for what a line has after its word. A slave line has the most, its card's index and eight numbers.
 pub const FIELD_COUNT: usize = 10;
 
 // The most bytes of a word, and the letters of a kind: one for each field, and one more that ends them.
@@ -79,7 +77,7 @@ const WORDS: [[u8; WORD_BYTES]; KINDS] = [
     *b"lend,,,,",
 ];
 
-// The fields behind it, a letter for each: see `field_value`.
+// The fields after it, a letter for each: see `field_value`.
 const FIELDS: [[u8; LETTERS]; KINDS] = [
     *b"mffwbbw    ",
     *b"cbbfhb     ",
@@ -101,6 +99,10 @@ const FIELDS: [[u8; LETTERS]; KINDS] = [
     *b"sn         ",
 ];
 
+// The room to read a script into. The longest line is a fill of all the memory: two digits for each of MEMORY_ROOM bytes after
+// `fill,memory,0,`. A line that fills all of the room says nothing that could be done.
+pub const INPUT: usize = 131200;
+
 // What can be wrong with a line: it is none of the kinds, it has a number that its field does not hold, it reaches past what is
 // lent, which whoever obeys it finds, or it posts more bytes than a buffer has.
 pub const NOT_A_LINE: u8 = 1;
@@ -120,7 +122,7 @@ pub struct Command {
     pub values: [u64; FIELD_COUNT],
 }
 
-// What the field at an index says, from 0; 0 behind the last one.
+// What the field at an index says, from 0; 0 after the last one.
 pub fn value_at(c: Command, i: usize) -> u64 {
     if i < FIELD_COUNT {
         return c.values[i];
@@ -128,31 +130,34 @@ pub fn value_at(c: Command, i: usize) -> u64 {
     0
 }
 
-// What a field says, where its problem is 0.
-pub struct Field {
+// A field of a line as a number of an array. The line's limits keep it within 32 bits.
+pub fn number_at(c: Command, i: usize) -> u32 {
+    let n = value_at(c, i);
+    if n <= u32::MAX as u64 {
+        n as u32
+    } else {
+        u32::MAX
+    }
+}
+
+// What a field says, if its problem is 0.
+struct Field {
     pub problem: u8,
     pub value: u64,
 }
 
-pub fn value(n: u64) -> Field {
+fn value(n: u64) -> Field {
     Field {
         problem: 0,
         value: n,
     }
 }
 
-pub fn no_value(problem: u8) -> Field {
+fn no_value(problem: u8) -> Field {
     Field {
         problem: problem,
         value: 0,
     }
-}
-
-// Where the first piece of s ends: at the first byte that parts pieces, or at the end where there is none.
-pub fn piece_end(s: &[u8], separator: u8) -> usize
-    ensures { λ r. ⌜ Counts r (now (s .entry)) ⌝ }
-{
-    common_text::find_byte(s, separator)
 }
 
 // The last field of a line that says a command: the line from `last` on.
@@ -165,7 +170,7 @@ pub fn last_field(line: &[u8], last: usize) -> &[u8] {
 
 // Whether a word is the one that a kind has in WORDS.
 fn is_word(word: &[u8], own: &[u8]) -> bool {
-    let e = piece_end(own, b',');
+    let e = program_lines::piece_end(own, b',');
     common_text::same(word, &own[..e])
 }
 
@@ -223,9 +228,18 @@ fn number(field: &[u8], letter: u8) -> Field {
     value(n)
 }
 
+// Bytes, by their count.
+fn byte_count(field: &[u8]) -> Field {
+    let read = program_lines::byte_count(field);
+    let Number::Value(n) = read else {
+        return no_value(NOT_A_LINE);
+    };
+    value(n)
+}
+
 // The bytes of a post, by their count.
 fn posted(field: &[u8]) -> Field {
-    let bytes = hex::byte_count(field);
+    let bytes = byte_count(field);
     if bytes.value > BUFFER_BYTES as u64 {
         return no_value(TOO_MANY_BYTES);
     }
@@ -238,7 +252,7 @@ fn field_value(field: &[u8], letter: u8) -> Field {
     match letter {
         b's' => named(field, b"memory", b"buffer"),
         b'd' => named(field, b"read", b"write"),
-        b'x' => hex::byte_count(field),
+        b'x' => byte_count(field),
         b'p' => posted(field),
         b' ' => no_value(NOT_A_LINE),
         _ => number(field, letter),
@@ -254,7 +268,7 @@ fn refused(problem: u8) -> Command {
     }
 }
 
-// The fields of a line of a kind behind its word, from position `from` on. Each pass reads the field behind the comma at `at`.
+// The fields of a line of a kind after its word, from position `from` on. Each pass reads the field after the comma at `at`.
 fn parse_fields(line: &[u8], kind: usize, from: usize) -> Command
     requires { ⌜ kind < 18 × from ≤ length (now line) ⌝ }
 {
@@ -271,7 +285,7 @@ fn parse_fields(line: &[u8], kind: usize, from: usize) -> Command
         }
         last = at + 1;
         let rest = &line[last..];
-        let e = piece_end(rest, b',');
+        let e = program_lines::piece_end(rest, b',');
         let field = field_value(&rest[..e], letters[i]);
         if field.problem == NOT_A_LINE {
             return refused(NOT_A_LINE);
@@ -297,7 +311,7 @@ fn parse_fields(line: &[u8], kind: usize, from: usize) -> Command
 
 // What a line without its line feed says.
 pub fn parse(line: &[u8]) -> Command {
-    let e = piece_end(line, b',');
+    let e = program_lines::piece_end(line, b',');
     let kind = kind_of(&line[..e]);
     if kind == KINDS {
         return refused(NOT_A_LINE);

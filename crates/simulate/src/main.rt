@@ -1,8 +1,6 @@
 // Simulates a bus fabric clock by clock: `simulate BOARD < SCRIPT`. BOARD names a description's file, the script's lines say
 // what to do. `simulate --help` lists what the refusals' numbers mean.
-mod lending;
 mod obey;
-mod overwrite;
 mod world;
 
 use common_numbers::BOARD_NUMBERS;

@@ -5,15 +5,14 @@ use common_numbers::LINES_NUMBERS;
 use common_numbers::MASTERS;
 use common_numbers::STATE_NUMBERS;
 ghost use Prim.Native.Nat.{_<_};
-use crate::lending;
-use crate::overwrite;
 use crate::world;
+use crate::world::Progress;
+use program_lines::ROOM;
+use program_lines::Session;
 use program_script::BUFFER_ROOM;
 use program_script::Command;
 use program_script::INPUT;
 use program_script::MEMORY_ROOM;
-use program_script::ROOM;
-use program_script::Session;
 
 // The state of a refused board is zeros: the library leaves what it is lent as it was.
 fn obey_reset(
@@ -25,7 +24,7 @@ fn obey_reset(
     *state = [0; STATE_NUMBERS];
     let number = fabric::reset(board, state);
     let lowest = description_rules::without_share(board);
-    program_script::answer(out, session, b"reset", number, lowest)
+    program_answers::answer(out, session, b"reset", number, lowest)
 }
 
 // A post's bytes are the line's last field.
@@ -39,13 +38,13 @@ fn obey_post(
     out: &mut [u8; ROOM],
 ) -> Session {
     let mut bytes = [0u8; BUFFER_BYTES];
-    program_script::decode(program_script::last_field(line, c.last), &mut bytes);
-    let end = program_script::bounded(program_script::value_at(c, 5) as usize, &bytes);
-    let master = overwrite::number_at(c, 0);
+    program_lines::decode(program_script::last_field(line, c.last), &mut bytes);
+    let end = program_lines::bounded(program_script::value_at(c, 5) as usize, &bytes);
+    let master = program_script::number_at(c, 0);
     let write = program_script::value_at(c, 1) == 1;
-    let address = overwrite::number_at(c, 2);
-    let lanes = overwrite::number_at(c, 3);
-    let beats = overwrite::number_at(c, 4);
+    let address = program_script::number_at(c, 2);
+    let lanes = program_script::number_at(c, 3);
+    let beats = program_script::number_at(c, 4);
     let number = fabric::post(
         board,
         state,
@@ -58,10 +57,10 @@ fn obey_post(
         &bytes[..end],
     );
     let lowest = description_rules::without_share(board);
-    program_script::answer(out, session, b"post", number, lowest)
+    program_answers::answer(out, session, b"post", number, lowest)
 }
 
-// How many clocks are left after one: none where its answer could not be printed.
+// How many clocks are left after one: none if its answer could not be printed.
 fn left_after(left: u64, broken: bool) -> u64
     requires { ⌜ 0 < left ⌝ }
     ensures { λ r. ⌜ r < left ⌝ }
@@ -72,7 +71,7 @@ fn left_after(left: u64, broken: bool) -> u64
     left - 1
 }
 
-// A clock whose answer is printed: its number, and the session behind it.
+// A clock whose answer is printed: its number, and the session after it.
 pub struct Clocked {
     pub number: u32,
     pub session: Session,
@@ -92,7 +91,7 @@ fn clock_once(
     let c = fabric::clock(board, state, memory, buffer, &mut lines, &mut responses);
     let number = c.number;
     let slaves = description_layout::slave_count(board);
-    let printed = program_script::put_clock(
+    let printed = program_answers::put_clock(
         out,
         session,
         number,
@@ -107,7 +106,7 @@ fn clock_once(
     }
 }
 
-// `count` clocks, each with its answer. A refused clock changes nothing, so that those behind it are refused alike: the last
+// `count` clocks, each with its answer. A refused clock changes nothing, so that those after it are refused alike: the last
 // one's number explains them all.
 fn obey_clock(
     board: &[u32; BOARD_NUMBERS],
@@ -135,7 +134,7 @@ fn obey_clock(
         left = left_after(left, next.broken);
     }
     let lowest = description_rules::without_share(board);
-    program_script::call(&*out, next, number, lowest)
+    program_answers::call(&*out, next, number, lowest)
 }
 
 // A mark as it is printed.
@@ -158,9 +157,9 @@ fn obey_take(
         t.address as u64,
         mark_of(t.write),
     ];
-    let printed = program_script::put_line(&mut *out, session, b"take", &numbers);
+    let printed = program_lines::put_line(b"simulate", &mut *out, session, b"take", &numbers);
     let lowest = description_rules::without_share(board);
-    program_script::call(&*out, printed, number, lowest)
+    program_answers::call(&*out, printed, number, lowest)
 }
 
 // The lines that call the fabric.
@@ -193,12 +192,12 @@ fn obey_wait(session: Session, c: Command, text: &[u8], out: &mut [u8; ROOM]) ->
     description::read(text, &mut board);
     let q = wait::quote_of(
         &board,
-        overwrite::number_at(c, 0),
-        overwrite::number_at(c, 1),
+        program_script::number_at(c, 0),
+        program_script::number_at(c, 1),
     );
     let numbers = [q.number as u64, q.wait, q.serve];
-    let printed = program_script::put_line(&mut *out, session, b"wait", &numbers);
-    program_script::call(&*out, printed, q.number, 0)
+    let printed = program_lines::put_line(b"simulate", &mut *out, session, b"wait", &numbers);
+    program_answers::call(&*out, printed, q.number, 0)
 }
 
 // A fill or a show of lent bytes.
@@ -212,20 +211,20 @@ fn touch(
     let start = program_script::value_at(c, 1) as usize;
     let n = program_script::value_at(c, 2) as usize;
     if lent.len() < start {
-        return program_script::failed(session, program_script::PAST_LENT);
+        return program_lines::failed(session, program_script::PAST_LENT);
     }
     if lent.len() - start < n {
-        return program_script::failed(session, program_script::PAST_LENT);
+        return program_lines::failed(session, program_script::PAST_LENT);
     }
     let end = start + n;
     if c.kind == program_script::FILL {
-        program_script::decode(
+        program_lines::decode(
             program_script::last_field(line, c.last),
             &mut lent[start..end],
         );
         return session;
     }
-    program_script::put_hex(out, session, &lent[start..end])
+    program_lines::put_hex(b"simulate", out, session, &lent[start..end])
 }
 
 // Every line but lend, on the bytes that are lent.
@@ -241,55 +240,71 @@ fn obey_command(
     out: &mut [u8; ROOM],
 ) -> Session {
     if c.kind <= program_script::DEFAULT {
-        overwrite::overwrite(board, state, c);
+        program_script::overwrite(board, state, c);
         return session;
     }
     if c.kind <= program_script::TAKE {
         return obey_call(board, state, session, c, line, memory, buffer, out);
     }
     if c.kind == program_script::STATE {
-        return program_script::put_state(out, session, state);
+        return program_answers::put_state(out, session, state);
     }
     if c.kind == program_script::WAIT {
         return obey_wait(session, c, text, out);
     }
-    let lent = lending::either(program_script::value_at(c, 0) == 0, memory, buffer);
+    let lent = program_script::either(program_script::value_at(c, 0) == 0, memory, buffer);
     touch(session, c, line, lent, out)
+}
+
+// How much is lent from now on: a line that asks for more than can be lent ends the session.
+fn obey_lend(at: Progress, c: Command, words: &mut [u8], longer: &mut [u8]) -> Progress {
+    let mut next = at;
+    if program_script::can_lend(at.lending, c) {
+        next.lending = program_script::lend(at.lending, c, words, longer);
+        return next;
+    }
+    next.session = program_lines::failed(at.session, program_script::OUT_OF_RANGE);
+    next
 }
 
 // The line that was found in the input, if there is one.
 fn obey_line(
     board: &mut [u32; BOARD_NUMBERS],
     state: &mut [u32; STATE_NUMBERS],
-    session: Session,
+    at: Progress,
     input: &[u8],
     text: &[u8],
     memory: &mut [u8],
     words: &mut [u8],
     longer: &mut [u8],
     out: &mut [u8; ROOM],
-) -> Session {
+) -> Progress {
+    let session = at.session;
+    let lending = at.lending;
+    let mut next = at;
     if !session.found {
-        return session;
+        return next;
     }
-    let line = program_script::line_of(input, session);
+    let line = program_lines::line_of(input, session);
     let c = program_script::parse(line);
     if c.problem != 0 {
-        return program_script::failed(session, c.problem);
+        next.session = program_lines::failed(session, c.problem);
+        return next;
     }
     if c.kind == program_script::LEND {
-        return lending::lend(session, c, words, longer);
+        return obey_lend(at, c, words, longer);
     }
-    let all = lending::either(session.buffer_lent <= BUFFER_BYTES, words, longer);
-    let buffer = program_script::lent(session.buffer_lent, all);
-    let lent = program_script::lent(session.memory_lent, memory);
-    obey_command(board, state, session, c, line, text, lent, buffer, out)
+    let all = program_script::either(lending.buffer_lent <= BUFFER_BYTES, words, longer);
+    let buffer = program_lines::lent(lending.buffer_lent, all);
+    let lent = program_lines::lent(lending.memory_lent, memory);
+    next.session = obey_command(board, state, session, c, line, text, lent, buffer, out);
+    next
 }
 
 // Obeys a script from standard input on a board; `text` is the board's. The memory has the bytes that spans total at most, and
 // BYTES_OVER more, so that a length over the exact one can be lent. Of the buffer, zero bytes of the exact length are what is
-// lent; a longer length is lent from `longer`, see lending::lend. Nothing says that a script ends, so the passes are counted
-// down, from a number that no script uses up.
+// lent; a longer length is lent from `longer`, see program_script::lend. Nothing says that a script ends, so the passes are
+// counted down, from a number that no script uses up.
 pub fn obey_script(text: &[u8], board: &mut [u32; BOARD_NUMBERS]) {
     let mut memory = [0u8; MEMORY_ROOM];
     let mut words: [u8; BUFFER_BYTES] = [0; 4096];
@@ -297,15 +312,15 @@ pub fn obey_script(text: &[u8], board: &mut [u32; BOARD_NUMBERS]) {
     let mut input = [0u8; INPUT];
     let mut out = [0u8; ROOM];
     let mut state = [0u32; STATE_NUMBERS];
-    let mut session = world::start(board);
+    let mut at = world::start(board);
     let mut passes = u64::MAX;
     while 0 < passes {
         passes -= 1;
-        session = program_script::next_line(&mut input, &out, session);
-        session = obey_line(
+        at.session = program_lines::next_line(b"simulate", &mut input, &out, at.session);
+        at = obey_line(
             &mut *board,
             &mut state,
-            session,
+            at,
             &input,
             text,
             &mut memory,
@@ -313,9 +328,9 @@ pub fn obey_script(text: &[u8], board: &mut [u32; BOARD_NUMBERS]) {
             &mut longer,
             &mut out,
         );
-        if session.over {
+        if at.session.over {
             break;
         }
     }
-    program_script::finish(&mut out, session);
+    program_answers::finish(&mut out, at.session);
 }

@@ -3,17 +3,18 @@
 use mathlib.Core.Path.{_≡_}
 use lib.ListN.{length}
 use borrow.Author.Needs.{needs}
+use native.Mathlib.Omega.{arith}
 use Rattle.simulate.proofs.obey.obey_script.Statement.{statement}
 use Rattle.simulate.proofs.obey.obey_script.Tie as tie
 
 abbrev Inv-loop : tie.InvT-loop
-Inv-loop text board₀ memory₀ words₀ longer₀ input₀ out₀ state₀ session₀ passes₀ board memory words longer input out state session
-    passes =
+Inv-loop text board₀ memory₀ words₀ longer₀ input₀ out₀ state₀ at₀ passes₀ program board memory words longer
+    input out state at passes =
     (length memory ≡ 65544) × ((length words ≡ 4096) × ((length longer ≡ 4104) × (length input ≡ 131200)))
 
 abbrev μ-loop : tie.MeasureT-loop
-μ-loop text board₀ memory₀ words₀ longer₀ input₀ out₀ state₀ session₀ passes₀ board memory words longer input out state session
-    passes =
+μ-loop text board₀ memory₀ words₀ longer₀ input₀ out₀ state₀ at₀ passes₀ program board memory words longer
+    input out state at passes =
     passes
 
 start-requires : tie.Need-start-requires Inv-loop μ-loop
@@ -27,6 +28,9 @@ sub-passes c = search needs
 
 slice-aggregate-next-line : tie.Need-slice-aggregate-next-line Inv-loop μ-loop
 slice-aggregate-next-line c = search needs
+
+slice-aggregate-next-line-2 : tie.Need-slice-aggregate-next-line-2 Inv-loop μ-loop
+slice-aggregate-next-line-2 c = search needs
 
 next-line-requires : tie.Need-next-line-requires Inv-loop μ-loop
 next-line-requires c κs = search needs
@@ -68,6 +72,7 @@ obey-script-spec =
     loop-holds
     sub-passes
     slice-aggregate-next-line
+    slice-aggregate-next-line-2
     next-line-requires
     slice-aggregate-obey-line
     slice-aggregate-obey-line-2
