@@ -29,7 +29,7 @@ ROOT = Path(__file__).resolve().parent.parent
 # What an error says that follows from another refusal, or from the code's new shape.
 FOLLOWS = re.compile(r"was not admitted|has no (?:`Need-|field )|which is not proved")
 # The file and line of an error, the declaration that has it, and what it says.
-ERROR = re.compile(r"\S*?((?:specs|proofs)/\S+\.antt):(\d+):\d+: error: `([^`]+)`: (.*)")
+ERROR = re.compile(r"((?:specs|proofs)/\S+\.antt):(\d+):\d+: error: `([^`]+)`: (.*)")
 
 
 class Edit:
@@ -84,7 +84,7 @@ def own_errors(log):
     """What fails by itself in a log: functions, laws, and of a law that is a record its parts too, as `rows fourteen`."""
     found = set()
     for line in log.read_text(errors="replace").split("\n"):
-        error = ERROR.match(line)
+        error = ERROR.match(line.removeprefix(f"{log.parent}/"))
         if error and not FOLLOWS.search(error.group(4)):
             place, number, name, _ = error.groups()
             proof = re.search(r"proofs/(?:.*/)?([^/]+)/Proof\.antt$", place)
@@ -146,7 +146,7 @@ def tried_copy(copy):
 
 def try_harmless():
     with tempfile.TemporaryDirectory() as folder:
-        copy = Path(folder)
+        copy = Path(folder).resolve()
         tried_copy(copy)
         said = subprocess.run(["rt", "must-fail", TRIED], cwd=copy, capture_output=True, text=True)
         complaints, labels, _ = judge(copy)
