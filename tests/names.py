@@ -5,7 +5,7 @@ usage: tests/names.py [--write]
 
 - a rule that is cited ("rule 4.5", "rules 4.3 to 4.6") stands in docs/RULES.md, and each rule has a row in docs/PROMISES.md;
 - a crate, file, definition, function, law or must-fail edit that a document names in backquotes exists;
-- each label of a must-fail edit is named in docs/PROMISES.md;
+- each label of a must-fail edit is named in docs/PROMISES.md, and those of rules 10.1 to 10.12 have files of their own;
 - the constants of include/fabric.h are those of crate common_numbers;
 - each row of a document's table has as many cells as the table's heading;
 - docs/READING.md lists every file of definitions that is to be believed, with its number of lines (--write puts the numbers).
@@ -131,6 +131,11 @@ def name_complaints(files):
     for edit in sorted(names.edits):
         if edit not in promises:
             yield f"docs/PROMISES.md: the edit {edit} is not named"
+    # the kit's own word on a wrong program is to be seen, so its edit stands in no group
+    for row in re.findall(r"^\| 10\.\d+ \|.*$", promises, re.M):
+        for crate, label in re.findall(r"`(\w+)/([\w-]+)`", row.split("|")[-2]):
+            if not (ROOT / "crates" / crate / "must-fail" / f"{label}.edit").exists():
+                yield f"docs/PROMISES.md: the edit {crate}/{label} has no file of its own"
 
 
 def cells(row):
