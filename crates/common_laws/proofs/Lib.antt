@@ -10,3 +10,4 @@ pub mod TableLaws
 pub mod Tests
 pub mod TextLists
 pub mod SetsLaws
+pub mod PartLaws

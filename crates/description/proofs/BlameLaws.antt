@@ -15,7 +15,8 @@ use Rattle.description_board.specs.declared.Item.the-variants.{Malformed}
 use Rattle.description_board.specs.declared.Reading.{Reading}
 use Rattle.description_board.specs.Rules.{refused, start, step, stepAll, withoutShare, finish, described}
 use Rattle.description_board.proofs.StepAllLaws.{run-stays, finish-stays, step-number}
-use Rattle.description_layout.specs.Layout.{boardIn}
+use Rattle.description_layout.specs.Layout.{boardIn, numbersOfBoard}
+use Rattle.description_layout.proofs.NumbersLaws.{numbers-read}
 use Rattle.description_rules.specs.declared.Progress.{Progress}
 use Rattle.description_rules.specs.Code.Readings.{readingOf}
 use Rattle.description_lines.specs.Reader.{itemsOf, itemsOfPieces, unended}
@@ -149,13 +150,19 @@ module _ (s : List ℕ) (l : List ℕ) where
 module _ (s : List ℕ) (l : List ℕ) (r : Refusal) (e : Comes (reading s) (chargedLine s) (namedMaster s) l r) where
   pub read-refused : (before : List ℕ) → (r .number ≡ 0 → ⊥) → Read s before before (r .number)
   unfolding readText
-  read-refused before h = record { number = e .number; board = λ z. absurd (h z); kept = λ _. refl }
+  read-refused before h = record {
+    number = e .number;
+    board = λ z. absurd (h z);
+    numbers = λ z. absurd (h z);
+    kept = λ _. refl;
+  }
 
-  pub read-taken : (before after : List ℕ) → r .number ≡ 0 → after ≡ l → Read s before after 0
+  pub read-taken : (before after : List ℕ) → r .number ≡ 0 → after ≡ numbersOfBoard (boardIn l) → Read s before after 0
   unfolding readText
-  read-taken before after h same = record {
+  read-taken before after h put = record {
     number = sym h ∙ e .number;
-    board = λ _. ap boardIn same ∙ e .board;
+    board = λ _. ap boardIn put ∙ numbers-read l ∙ e .board;
+    numbers = λ _. put ∙ ap numbersOfBoard (e .board);
     kept = λ z. absurd (z refl);
   }
 

@@ -1,2 +1,3 @@
 pub mod BoardLaws
 pub mod PutLaws
+pub mod NumbersLaws

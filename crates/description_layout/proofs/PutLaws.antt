@@ -14,7 +14,8 @@ use Rattle.common_laws.proofs.SetsLaws.{five, two-sets, six-sets, Agree, five-s
 use Rattle.common_laws.proofs.SetsLaws.{counted-apart, counted-inside, records-apart}
 use Rattle.description_board.specs.declared.Slave.{Slave}
 use Rattle.description_board.specs.Rules.{withMaster, withSlave, withDefault}
-use Rattle.description_layout.specs.Layout.{slaveLength, sharesFrom, defaultAt, boardLength, masterFrom, slaveFrom, boardIn}
+use Rattle.description_layout.specs.Layout.{marked, slaveLength, sharesFrom, defaultAt, boardLength}
+use Rattle.description_layout.specs.Layout.{masterFrom, slaveFrom, boardIn}
 use Rattle.description_layout.specs.Code.Puts.{withShareAt}
 
 -- where slave s begins
@@ -164,4 +165,21 @@ default-put l e =
       table-same (λ k. getD m (sharesFrom + k) 0) (λ k. getD l (sharesFrom + k) 0) 128
           (λ k g. apart (sharesFrom + k) 1 (inl (omega arith)) (sharesFrom + k) (omega arith) (omega arith)),
       getD-set-same l defaultAt 1 0 (rw e (omega arith)),
+    )
+
+-- an array with the same numbers in front of the mark, and the same mark, is the same board
+pub board-same : (l m : List ℕ) → Agree l m 0 defaultAt → marked (getD m defaultAt 0) ≡ boardIn l .«default_line»
+    → boardIn m ≡ boardIn l
+unfolding boardIn
+board-same l m e d =
+    rw (
+      e 0 (omega arith) (omega arith),
+      e 1 (omega arith) (omega arith),
+      table-same (λ k. masterFrom m (2 + 2 * k)) (λ k. masterFrom l (2 + 2 * k)) 8
+          (λ k g. master-same l m (2 + 2 * k) (λ i low high. e i (omega arith) (omega arith))),
+      table-same (λ k. slaveFrom m (at k)) (λ k. slaveFrom l (at k)) 16
+          (λ k g. slave-same l m (at k) (λ i low high. e i (omega arith) (omega arith))),
+      table-same (λ k. getD m (sharesFrom + k) 0) (λ k. getD l (sharesFrom + k) 0) 128
+          (λ k g. e (sharesFrom + k) (omega arith) (omega arith)),
+      d,
     )

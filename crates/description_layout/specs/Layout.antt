@@ -1,19 +1,24 @@
 -- A board as an array of 275 numbers, one u32 for each field (rule 1.10).
 -- Every list of numbers is read as a board: what is not there is 0, so that no call has to rule an array out.
 -- Assumes nothing.
-use mathlib.Core.Bool.{Bool, not}
-use mathlib.Core.List.{List}
+use mathlib.Core.Bool.{Bool, cond, not}
+use mathlib.Core.List.{List, [], _∷_, _++_}
 use Prim.Native.Nat.{ℕ, _+_, _*_}
 use lib.Dec.{eqb}
 use lib.ListN.{getD}
-use Rattle.common_laws.specs.Lists.{table}
+use Rattle.common_laws.specs.Lists.{gather, table}
 use Rattle.description_board.specs.declared.Master.{Master}
 use Rattle.description_board.specs.declared.Slave.{Slave}
 use Rattle.description_board.specs.declared.Board.{Board}
+use Rattle.description_board.specs.Records.{masterAt, slaveAt}
 
 -- rules 1.10, 2.4: a mark: 0 is no, every other number is yes
 abbrev pub marked : ℕ → Bool
 marked n = not (eqb n 0)
+
+-- rules 1.10, 2.4: the number that a call puts for a mark
+unfoldable pub markOf : Bool → ℕ
+markOf b = cond b 1 0
 
 -- rule 1.10: two numbers from index p on are a master
 unfoldable pub masterFrom : List ℕ → ℕ → Master
@@ -57,3 +62,19 @@ boardIn l = record {
   shares = table (λ i. getD l (sharesFrom + i) 0) 128;
   «default_line» = marked (getD l defaultAt 0);
 }
+
+-- rule 1.10: the numbers of a master and of a slave
+abbrev pub numbersOfMaster : Master → List ℕ
+numbersOfMaster m = m .width ∷ m .burst ∷ []
+
+abbrev pub numbersOfSlave : Slave → List ℕ
+numbersOfSlave s =
+    s .base ∷ s .span ∷ s .width ∷ s .burst ∷ s .«read_wait» ∷ s .«write_wait» ∷ s .native ∷ s .latency ∷ []
+
+-- rules 1.10, 2.4: the 275 numbers that a call puts for a board; the mark is 0 or 1
+unfoldable pub numbersOfBoard : Board → List ℕ
+numbersOfBoard b =
+    b .«master_count» ∷ b .«slave_count» ∷ gather (λ m. numbersOfMaster (masterAt b m)) 8
+    ++ gather (λ s. numbersOfSlave (slaveAt b s)) 16
+    ++ table (λ i. getD (b .shares) i 0) 128
+    ++ markOf (b .«default_line») ∷ []

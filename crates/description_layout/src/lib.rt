@@ -14,7 +14,7 @@ ghost use Prim.Native.Nat.{_<_};
 ghost use lib.ListN.{getD, length, replicate};
 ghost use Rattle.description_board.specs.Records.{masterAt, slaveAt, sharesAt};
 ghost use Rattle.description_board.specs.Rules.{withMaster, withSlave, withDefault};
-ghost use Rattle.description_layout.specs.Layout.{boardLength, boardIn};
+ghost use Rattle.description_layout.specs.Layout.{markOf, boardLength, boardIn, numbersOfBoard};
 ghost use Rattle.description_layout.specs.Code.Puts.{withShareAt};
 
 // The count of numbers lent. A call of it with an array tells a proof that array's length, and costs nothing.
@@ -22,6 +22,13 @@ pub fn count(l: &[u32]) -> usize
     ensures { λ r. ⌜ r ≡ length (now (l .entry)) ⌝ }
 {
     l.len()
+}
+
+// The number of a mark (rule 2.4).
+pub fn mark_of(b: bool) -> u32
+    ensures { λ r. ⌜ r ≡ markOf b ⌝ }
+{
+    if b { 1 } else { 0 }
 }
 
 // The count of masters (rules 1.1, 1.10).
@@ -140,17 +147,18 @@ pub fn put_default(board: &mut [u32; BOARD_NUMBERS])
     board[DEFAULT_AT] = 1;
 }
 
-// A board's numbers, copied as they stand (rule 1.10).
+// A board's numbers, copied as they stand, and its mark, which is put as 0 or 1 (rules 1.10, 2.4).
 pub fn copy(to: &mut [u32; BOARD_NUMBERS], from: &[u32; BOARD_NUMBERS])
-    ensures { λ _. ⌜ now (to .exit) ≡ now (from .entry) ⌝ }
+    ensures { λ _. ⌜ now (to .exit) ≡ numbersOfBoard (boardIn (now (from .entry))) ⌝ }
 {
     count(to);
     count(from);
     let mut i: usize = 0;
-    while i < BOARD_NUMBERS {
+    while i < DEFAULT_AT {
         to[i] = from[i];
         i += 1;
     }
+    to[DEFAULT_AT] = mark_of(default_at(from));
 }
 
 // A board of zeros (rule 8.1).

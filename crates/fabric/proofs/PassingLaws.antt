@@ -15,7 +15,9 @@ use Rattle.fabric_state.specs.declared.Line.{Line}
 use Rattle.fabric_state.specs.Records.{noLine}
 use Rattle.fabric_state.specs.Control.{responsesOf}
 use Rattle.fabric_layout.specs.Layout.{stateIn, linesIn}
+use Rattle.fabric_layout.specs.Numbers.{Marks}
 use Rattle.fabric_layout.specs.Code.Puts.{responsesFor}
+use Rattle.fabric_layout.proofs.MarkLaws.{marks-same, marks-then}
 use Rattle.fabric_layout.proofs.StatePutLaws.{transfers-length, slots-length, lates-length}
 use Rattle.fabric_check.specs.Code.Targets.{targetsIn, requestMask, unmappedMask}
 use Rattle.fabric_cycle.specs.Code.Cycles.{Passes, Clocks as Cycled}
@@ -38,7 +40,7 @@ pub run-refused : (b : Board) (most : ℕ) (before responses lines : List ℕ) (
 unfolding run
 run-refused b most before responses lines d {n} e h r q =
     let no = ne-eqb (clockRefusal b (stateIn before) d) 0 (λ z. h (e ∙ z)) in
-    record { answer = rw (no, e, r, q); kept = λ _. refl }
+    record { answer = rw (no, e, r, q); marks = marks-same before; kept = λ _. refl }
 
 -- between two clocks of one that is not refused, none of which finished a master: so many clocks are left of the most
 pub record Passing (b : Board) (most : ℕ) (before : List ℕ) (d : Store) (requests : List ℕ) (unmapped : ℕ) (now lines : List ℕ)
@@ -47,6 +49,7 @@ pub record Passing (b : Board) (most : ℕ) (before : List ℕ) (d : Store) (req
   pub free : clockRefusal b (stateIn now) e ≡ 0
   pub asked : requests ≡ table (requestMask (targetsIn b (stateIn now .transfers))) 16
   pub held : unmapped ≡ unmappedMask b (stateIn now)
+  pub marks : Marks before now
   pub goes : clockOn b most (standing 0 (record { state = stateIn before; store = d }))
       ≡ clockOn b left (reached (most - left) 0 (replicate 8 0) (linesIn lines) (stateIn now) e)
 
@@ -59,6 +62,7 @@ module _ (b : Board) (most : ℕ) (before : List ℕ) (d : Store) (ok : clockRef
     free = ok;
     asked = q;
     held = u;
+    marks = marks-same before;
     goes =
         ap (λ (r : Run). clockOn b most r)
         (ap (λ (l : List Line). reached 0 0 (replicate 8 0) l (stateIn before) d) (sym shown)
@@ -71,10 +75,10 @@ module _ (b : Board) (most : ℕ) (before : List ℕ) (d : Store) (ok : clockRef
   -- its answer by where it has come to
   ran : {after responses lines : List ℕ} {e : Store} (n mask : ℕ)
       → clockOn b most (standing 0 (record { state = stateIn before; store = d }))
-      ≡ reached n mask responses (linesIn lines) (stateIn after) e
+      ≡ reached n mask responses (linesIn lines) (stateIn after) e → Marks before after
       → Runs b most before after responses lines d e 0 n mask
   unfolding run
-  ran n mask f = record { answer = sym f ∙ sym (rw ok); kept = λ h. absurd (h refl) }
+  ran n mask f k = record { answer = sym f ∙ sym (rw ok); marks = k; kept = λ h. absurd (h refl) }
 
   module _ {requests now lines : List ℕ} {unmapped : ℕ} {e : Store} {left : ℕ}
       (p : Passing b most before d requests unmapped now lines e left) where
@@ -96,9 +100,13 @@ module _ (b : Board) (most : ℕ) (before : List ℕ) (d : Store) (ok : clockRef
         ∙ on-spent b _
         ∙ ap (λ (k : ℕ). reached k 0 (replicate 8 0) (linesIn lines) (stateIn now) e) all
         ∙ ap (λ (l : List ℕ). reached most 0 l (linesIn lines) (stateIn now) e) (sym r))
+        (p .marks)
 
     module _ (some : 0 < left) (then shown : List ℕ) {f : Store} {mask : ℕ}
-        (c : Cycled b (stateIn now) (stateIn then) (linesIn shown) mask e f) where
+        (x : Cycled b (stateIn now) (stateIn then) (linesIn shown) mask e f × Marks now then) where
+      abbrev c : Cycled b (stateIn now) (stateIn then) (linesIn shown) mask e f
+      c = x .0
+
       -- one clock more
       once : clockOn b most (standing 0 (record { state = stateIn before; store = d }))
           ≡ clockOn b (left - 1)
@@ -119,6 +127,7 @@ module _ (b : Board) (most : ℕ) (before : List ℕ) (d : Store) (ok : clockRef
             (refusal-again b (stateIn now) e (p .free) (sized now));
         asked = same-requests b (stateIn now) (stateIn then) (linesIn shown) mask e f (transfers-length now) c z (p .asked);
         held = same-unmapped b (stateIn now) (stateIn then) (linesIn shown) mask e f (transfers-length now) c z (p .held);
+        marks = marks-then (p .marks) (x .1);
         goes = once ∙ rw (z, responses-zero b (stateIn now) (sym (c .mask) ∙ z));
       }
 
@@ -126,4 +135,4 @@ module _ (b : Board) (most : ℕ) (before : List ℕ) (d : Store) (ok : clockRef
           → Runs b most before then responses shown d f 0 (most - (left - 1)) mask
       passing-finished h r =
           let are = responses-are b (stateIn now) (p .held) r in
-          ran (most - (left - 1)) mask (once ∙ on-finished b (left - 1) _ h ∙ rw are)
+          ran (most - (left - 1)) mask (once ∙ on-finished b (left - 1) _ h ∙ rw are) (marks-then (p .marks) (x .1))

@@ -1,19 +1,16 @@
 -- The three numbers of an entry that a take answers (rules 2.4, 4.19), as they are put into what C lends.
 -- Assumes nothing.
 use mathlib.Core.Path.{_≡_, _∙_}
-use mathlib.Core.Bool.{Bool, true, false, cond}
+use mathlib.Core.Bool.{Bool}
 use mathlib.Core.List.{List}
 use Prim.Native.Nat.{ℕ, _≤_}
 use native.Mathlib.Omega.{arith}
 use lib.ListN.{length, getD, set, length-set}
 use lib.Seq.{getD-set-same, getD-set-other}
-use Rattle.fabric_layout.proofs.RecordLaws.{mark-back}
-use Rattle.fabric_calls.specs.Code.Requests.{takenIn}
-
--- the number of a mark is 0 or 1
-mark-small : (w : Bool) {k : ℕ} → k ≡ cond w 1 0 → k ≤ 1
-mark-small true e = omega (arith, e)
-mark-small false e = omega (arith, e)
+use Rattle.description_layout.specs.Layout.{markOf}
+use Rattle.description_layout.proofs.NumbersLaws.{mark-back}
+use Rattle.fabric_layout.proofs.MarkLaws.{mark-small}
+use Rattle.fabric_calls.specs.Lent.{takenIn}
 
 module _ (l : List ℕ) (three : length l ≡ 3) (m a k : ℕ) where
   abbrev put : List ℕ
@@ -38,10 +35,10 @@ module _ (l : List ℕ) (three : length l ≡ 3) (m a k : ℕ) where
   put-write = getD-set-same (set (set l 0 m) 1 a) 2 k 0 (omega (arith, third))
 
 -- so they are the answer's
-module _ (l : List ℕ) (three : length l ≡ 3) (n m a : ℕ) (w : Bool) {k : ℕ} (e : k ≡ cond w 1 0) where
+module _ (l : List ℕ) (three : length l ≡ 3) (n m a : ℕ) (w : Bool) {k : ℕ} (e : k ≡ markOf w) where
   pub entry-taken : takenIn n (set (set (set l 0 m) 1 a) 2 k) ≡ record { number = n; master = m; address = a; write = w }
   unfolding takenIn
   entry-taken = rw (put-master l three m a k, put-address l three m a k, put-write l three m a k, mark-back w e)
 
   pub entry-small : getD (set (set (set l 0 m) 1 a) 2 k) 2 0 ≤ 1
-  entry-small = rw (put-write l three m a k) (mark-small w e)
+  entry-small = rw (put-write l three m a k, e) (mark-small w)

@@ -12,8 +12,7 @@ ghost use Rattle.description_layout.specs.Layout.{boardIn, marked};
 ghost use Rattle.description.specs.Lent.{Read};
 ghost use Rattle.description.specs.Blame.{refusedAt};
 ghost use Rattle.wait.specs.Answers.{waitRefusal, waitOutput};
-ghost use Rattle.fabric_calls.specs.Code.Requests.{request, takenIn};
-ghost use Rattle.fabric_calls.specs.Lent.{Resets, Posts, Clocks, Runs, Takes};
+ghost use Rattle.fabric_calls.specs.Lent.{request, takenIn, Resets, Posts, Clocks, Runs, Takes};
 
 // Wait and serve of a pair, on a description's bytes (rule 5.8): wait::wait_call.
 #[no_mangle]
@@ -165,6 +164,6 @@ pub extern "C" fn fabric_take(
     let a = fabric::take(board, state);
     entry[0] = a.master;
     entry[1] = a.address;
-    entry[2] = fabric_layout::mark_of(a.write);
+    entry[2] = description_layout::mark_of(a.write);
     a.number
 }

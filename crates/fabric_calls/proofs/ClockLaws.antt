@@ -16,6 +16,7 @@ use Rattle.fabric_state.specs.declared.State.{State}
 use Rattle.fabric_state.specs.Records.{noLine}
 use Rattle.fabric_state.specs.Soundness.{sound}
 use Rattle.fabric_layout.specs.Layout.{stateIn, linesIn}
+use Rattle.fabric_layout.proofs.MarkLaws.{marks-same}
 use Rattle.fabric_calls.specs.Calls.{clockRefusal, clock, storeAfterClock}
 use Rattle.fabric_calls.specs.Code.Requests.{clockRefusalBy}
 use Rattle.fabric_calls.specs.Lent.{Clocks}
@@ -93,4 +94,4 @@ module _ (b : Board) (before responses lines : List ℕ) (d : Store) where
   unfolding clock storeAfterClock
   clock-refused {n} e h r q =
       let no = ne-eqb (clockRefusal b (stateIn before) d) 0 (λ z. h (e ∙ z)) in
-      record { answer = rw (no, e, r, q); stored = rw no; kept = λ _. refl }
+      record { answer = rw (no, e, r, q); stored = rw no; marks = marks-same before; kept = λ _. refl }

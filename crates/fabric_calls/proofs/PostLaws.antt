@@ -24,6 +24,7 @@ use Rattle.fabric_state.specs.Posting.{passesEnd, transferRefusalBy, transferRe
 use Rattle.fabric_state.specs.Soundness.{sound}
 use Rattle.fabric_state.proofs.RequestLaws.{taken-bytes}
 use Rattle.fabric_layout.specs.Layout.{stateIn}
+use Rattle.fabric_layout.specs.Numbers.{transferPut}
 use Rattle.fabric_calls.specs.Lent.{Posts}
 use Rattle.fabric_calls.specs.Calls.{wrongWords, requestRefusal, postRefusalBy, postRefusal, post, bufferAfterPost}
 
@@ -140,11 +141,12 @@ module _ (b : Board) (before buffer : List ℕ) (q : Request) {n : ℕ} (e : n �
   unfolding post bufferAfterPost
   post-refused z =
       let no = ne-eqb (postRefusal b (stateIn before) buffer q) 0 (λ f. z (e ∙ f)) in
-      record { answer = rw (no, e); stored = rw no; kept = λ _. refl }
+      record { answer = rw (no, e); stored = rw no; numbers = λ f. absurd (z f); kept = λ _. refl }
 
   pub post-taken : n ≡ 0 → {after left : List ℕ} → stateIn after ≡ withTransfer (stateIn before) (q .master) (transferOf q)
-      → left ≡ postedWords (q .master) (q .words) buffer → Posts b q before after buffer left 0
+      → after ≡ transferPut before (q .master) (transferOf q) → left ≡ postedWords (q .master) (q .words) buffer
+      → Posts b q before after buffer left 0
   unfolding post bufferAfterPost
-  post-taken z f g =
+  post-taken z f p g =
       let yes = sym e ∙ z in
-      record { answer = rw (yes, f); stored = rw yes g; kept = λ h. absurd (h refl) }
+      record { answer = rw (yes, f); stored = rw yes g; numbers = λ _. p; kept = λ h. absurd (h refl) }

@@ -1,6 +1,6 @@
 -- A take's refusals in their order, and what it answers and leaves, refused and not (rules 4.19, 7.22, 8.1).
 -- Assumes nothing.
-use mathlib.Core.Path.{_≡_, refl, sym, _∙_}
+use mathlib.Core.Path.{_≡_, refl, sym, ap, _∙_}
 use mathlib.Core.Bool.{Bool, true, false, not}
 use mathlib.Core.List.{List}
 use mathlib.Core.Logic.{_≢_}
@@ -15,6 +15,7 @@ use Rattle.fabric_state.specs.Records.{noEntry, entryAt}
 use Rattle.fabric_state.specs.Soundness.{sound}
 use Rattle.fabric_state.specs.Logging.{withoutOldest, withLog}
 use Rattle.fabric_layout.specs.Layout.{stateIn}
+use Rattle.fabric_layout.specs.Numbers.{oldestRemoved}
 use Rattle.fabric_calls.specs.Calls.{Take, takeRefusal, takenOf, takeAnswer, stateAfterTake}
 use Rattle.fabric_calls.specs.Lent.{Takes}
 use Rattle.fabric_calls.proofs.PostLaws.{passed-number}
@@ -77,14 +78,17 @@ module _ (b : Board) (before : List ℕ) where
       record {
         answer = q ∙ rw e (sym (answer-refused b (stateIn before) no));
         state = sym (left-refused b (stateIn before) no);
+        numbers = λ z. absurd (h (ap (λ (x : Take). x .number) (sym q) ∙ z));
         kept = λ _. refl;
       }
 
   pub takes-taken : {after : List ℕ} {a : Take} → takeRefusal b (stateIn before) ≡ 0
       → a ≡ takenOf 0 (entryAt (stateIn before .log) 0)
-      → stateIn after ≡ withLog (stateIn before) (withoutOldest (stateIn before .log)) → Takes b before after a
+      → (stateIn after ≡ withLog (stateIn before) (withoutOldest (stateIn before .log))) × (after ≡ oldestRemoved before)
+      → Takes b before after a
   takes-taken {after} {a} e q s = record {
     answer = q ∙ sym (answer-taken b (stateIn before) e);
-    state = s ∙ sym (left-taken b (stateIn before) e);
+    state = s .0 ∙ sym (left-taken b (stateIn before) e);
+    numbers = λ _. s .1;
     kept = λ h. absurd (h (rw q));
   }

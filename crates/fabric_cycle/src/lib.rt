@@ -21,6 +21,8 @@ ghost use Rattle.fabric_transfer.specs.Bytes.{bufferLength};
 ghost use Rattle.fabric_state.specs.Records.{lateAt};
 ghost use Rattle.description_layout.specs.Layout.{boardIn};
 ghost use Rattle.fabric_layout.specs.Layout.{stateIn, linesIn};
+ghost use Rattle.fabric_layout.specs.Numbers.{Marks};
+ghost use Rattle.fabric_layout.specs.Code.Puts.{Leaves};
 ghost use Rattle.fabric_check.specs.Code.Targets.{targetsIn, requestMask, unmappedMask};
 ghost use Rattle.fabric_cycle.specs.Code.Cycles.{Passes, Acted, Clocks};
 ghost use Rattle.fabric_cycle.specs.Code.Unmapped.{bytesHeld, clearedBehind, answeredAt, clearedAt, Answered, Answerable};
@@ -64,7 +66,7 @@ pub struct Latent {
 // One of its n latency clocks passes for master m (rule 4.16); with the last one its transfer ends.
 fn count_late(st: &mut [u32; STATE_NUMBERS], m: usize, n: u32)
     requires { ⌜ m < 8 ⌝ }
-    ensures { λ _. ⌜ stateIn (now (st .exit)) ≡ countedAt (stateIn (now (st .entry))) m n ⌝ }
+    ensures { λ _. ⌜ Leaves (now (st .entry)) (now (st .exit)) (countedAt (stateIn (now (st .entry))) m n) ⌝ }
 {
     if n == 0 {
         return;
@@ -92,7 +94,7 @@ fn late_clocks(st: &[u32; STATE_NUMBERS]) -> u64
 
 // One latency clock passes for each master that has some (rule 4.16). Mostly none has: then no master is looked at by itself.
 fn pass_latency(st: &mut [u32; STATE_NUMBERS]) -> Latent
-    ensures { λ r. ⌜ Counted (stateIn (now (st .entry))) (stateIn (now (st .exit))) 8 r ⌝ }
+    ensures { λ r. ⌜ Counted (stateIn (now (st .entry))) (stateIn (now (st .exit))) 8 r × Marks (now (st .entry)) (now (st .exit)) ⌝ }
 {
     if late_clocks(st) == 0 {
         return Latent {
@@ -119,7 +121,7 @@ fn pass_latency(st: &mut [u32; STATE_NUMBERS]) -> Latent
 // Behind the last access of master m its transfer ends (rule 4.9), or its latency begins (rule 4.16).
 fn end_transfer(st: &mut [u32; STATE_NUMBERS], m: usize, last: bool, latency: u32)
     requires { ⌜ m < 8 ⌝ }
-    ensures { λ _. ⌜ stateIn (now (st .exit)) ≡ endedTransfer (stateIn (now (st .entry))) m last latency ⌝ }
+    ensures { λ _. ⌜ Leaves (now (st .entry)) (now (st .exit)) (endedTransfer (stateIn (now (st .entry))) m last latency) ⌝ }
 {
     if last {
         if latency == 0 {
@@ -148,7 +150,7 @@ fn serve_at(
         (stateIn (now (st .exit))) s slot start
         (linesIn (now (lines .entry))) (linesIn (now (lines .exit))) r
         (record { memory = now (memory .entry); buffer = now (buffer .entry) })
-        (record { memory = now (memory .exit); buffer = now (buffer .exit) }) ⌝ }
+        (record { memory = now (memory .exit); buffer = now (buffer .exit) }) × Marks (now (st .entry)) (now (st .exit)) ⌝ }
 {
     let o = slot.owner as usize;
     let ma = description_layout::master_at(board, o);
@@ -182,7 +184,7 @@ fn clock_slave(
         (slotAsked (boardIn (now (board .entry))) (stateIn (now (st .entry))) s mask) start
         (linesIn (now (lines .entry))) (linesIn (now (lines .exit))) r
         (record { memory = now (memory .entry); buffer = now (buffer .entry) })
-        (record { memory = now (memory .exit); buffer = now (buffer .exit) }) ⌝ }
+        (record { memory = now (memory .exit); buffer = now (buffer .exit) }) × Marks (now (st .entry)) (now (st .exit)) ⌝ }
 {
     let slot = slot_asked(board, st, s, mask);
     if slot.serving {
@@ -211,7 +213,7 @@ fn act(
         × (length (now memory) ≡ memoryLength (boardIn (now board))) × (length (now buffer) ≡ bufferLength) ⌝ }
     ensures { λ r. ⌜ Acted (boardIn (now (board .entry))) (stateIn (now (st .entry))) (stateIn (now (st .exit)))
         (linesIn (now (lines .exit))) r (record { memory = now (memory .entry); buffer = now (buffer .entry) })
-        (record { memory = now (memory .exit); buffer = now (buffer .exit) }) ⌝ }
+        (record { memory = now (memory .exit); buffer = now (buffer .exit) }) × Marks (now (st .entry)) (now (st .exit)) ⌝ }
 {
     let count = description_layout::slave_count(board) as usize;
     let latent = pass_latency(st);
@@ -260,7 +262,7 @@ fn answer_at(
 )
     requires { ⌜ (m < 8) × (stateIn (now st) .log .count ≤ 8) × (length (now buffer) ≡ bufferLength)
         × (bytesHeld (boardIn (now board)) (stateIn (now st)) m ≤ 512) ⌝ }
-    ensures { λ _. ⌜ (stateIn (now (st .exit)) ≡ answeredAt (stateIn (now (st .entry))) m)
+    ensures { λ _. ⌜ Leaves (now (st .entry)) (now (st .exit)) (answeredAt (stateIn (now (st .entry))) m)
         × (now (buffer .exit) ≡ clearedAt (boardIn (now (board .entry))) (stateIn (now (st .entry))) m (now (buffer .entry))) ⌝ }
 {
     let t = fabric_layout::transfer_at(st, m);
@@ -284,7 +286,7 @@ fn answer_unmapped(
 )
     requires { ⌜ Answerable (boardIn (now board)) (stateIn (now st)) mask (now buffer) ⌝ }
     ensures { λ _. ⌜ Answered (boardIn (now (board .entry))) (stateIn (now (st .entry))) (stateIn (now (st .exit))) mask 8
-        (now (buffer .entry)) (now (buffer .exit)) ⌝ }
+        (now (buffer .entry)) (now (buffer .exit)) × Marks (now (st .entry)) (now (st .exit)) ⌝ }
 {
     let mut m: usize = 0;
     while m < 8 {
@@ -312,7 +314,7 @@ pub fn cycle(
         × (length (now memory) ≡ memoryLength (boardIn (now board))) × (length (now buffer) ≡ bufferLength) ⌝ }
     ensures { λ r. ⌜ Clocks (boardIn (now (board .entry))) (stateIn (now (st .entry))) (stateIn (now (st .exit)))
         (linesIn (now (lines .exit))) r (record { memory = now (memory .entry); buffer = now (buffer .entry) })
-        (record { memory = now (memory .exit); buffer = now (buffer .exit) }) ⌝ }
+        (record { memory = now (memory .exit); buffer = now (buffer .exit) }) × Marks (now (st .entry)) (now (st .exit)) ⌝ }
 {
     let completed = act(board, st, holders, lines, memory, buffer);
     if unmapped == 0 {

@@ -38,7 +38,7 @@ lostBy n x = record { count = x .count; lost = marked n; entries = x .entries }
 abbrev pub entriesOf : List Entry → Log → Log
 entriesOf es x = record { count = x .count; lost = x .lost; entries = es }
 
-three-sets : (l : List ℕ) (p a b c : ℕ) → set (set (set l p a) (p + 1) b) (p + 2) c ≡ sets l p (a ∷ b ∷ c ∷ [])
+pub three-sets : (l : List ℕ) (p a b c : ℕ) → set (set (set l p a) (p + 1) b) (p + 2) c ≡ sets l p (a ∷ b ∷ c ∷ [])
 three-sets l p a b c =
     let q : p + 2 ≡ suc (suc p) = omega arith in
     rw (two-sets l p a b, q)

@@ -2,7 +2,6 @@
 -- `LogPutLaws`.
 -- Assumes nothing.
 use mathlib.Core.Path.{_≡_, sym, ap}
-use mathlib.Core.Bool.{Bool, true, false, cond}
 use mathlib.Core.List.{List, [], _∷_}
 use mathlib.Core.Logic.{inl, inr}
 use Prim.Native.Nat.{ℕ, _+_, _*_, _≤_, _<_}
@@ -15,7 +14,8 @@ use Rattle.common_laws.proofs.TableLaws.{getD-table}
 use Rattle.common_laws.proofs.FillLaws.{table-put}
 use Rattle.common_laws.proofs.FrontLaws.{table-same}
 use Rattle.common_laws.proofs.SetsLaws.{five, five-sets, six-sets, sets-inside, Agree, five-same, sets-apart, records-apart}
-use Rattle.description_layout.specs.Layout.{marked}
+use Rattle.description_layout.specs.Layout.{marked, markOf}
+use Rattle.description_layout.proofs.NumbersLaws.{mark-back}
 use Rattle.fabric_transfer.specs.declared.Transfer.{Transfer}
 use Rattle.fabric_transfer.specs.Accesses.{noTransfer}
 use Rattle.fabric_state.specs.declared.Slot.{Slot}
@@ -25,10 +25,6 @@ use Rattle.fabric_state.specs.Records.{noSlot, transferAt, slotAt, lateAt}
 use Rattle.fabric_state.specs.Posting.{withTransfer}
 use Rattle.fabric_layout.specs.Layout.{transferFrom, slotFrom, entryFrom, logFrom, stateIn, lineFrom, linesIn}
 use Rattle.fabric_layout.specs.Code.Puts.{withSlot, withLate}
-
-pub mark-back : (b : Bool) {n : ℕ} → n ≡ cond b 1 0 → marked n ≡ b
-mark-back true e = rw e
-mark-back false e = rw e
 
 -- ---- records in arrays that agree where the record stands
 
@@ -88,7 +84,7 @@ module _ (l r : List ℕ) where
 
 -- a record of the numbers put is the one that was put
 module _ (l : List ℕ) (p : ℕ) where
-  transfer-here : (t : Transfer) (held write : ℕ) → p + 5 ≤ length l → held ≡ cond (t .held) 1 0 → write ≡ cond (t .write) 1 0
+  transfer-here : (t : Transfer) (held write : ℕ) → p + 5 ≤ length l → held ≡ markOf (t .held) → write ≡ markOf (t .write)
       → transferFrom (sets l p (held ∷ write ∷ t .address ∷ t .lanes ∷ t .beats ∷ [])) p ≡ t
   unfolding transferFrom
   transfer-here t held write h eh ew =
@@ -103,7 +99,7 @@ module _ (l : List ℕ) (p : ℕ) where
         mark-back (t .write) ew,
       )
 
-  slot-here : (x : Slot) (on : ℕ) → p + 5 ≤ length l → on ≡ cond (x .serving) 1 0
+  slot-here : (x : Slot) (on : ℕ) → p + 5 ≤ length l → on ≡ markOf (x .serving)
       → slotFrom (sets l p (x .owner ∷ x .remaining ∷ on ∷ x .done ∷ x .waited ∷ [])) p ≡ x
   unfolding slotFrom
   slot-here x on h e =
@@ -146,11 +142,11 @@ module _ (l : List ℕ) (p : ℕ) where
 -- ---- the state and the lines after a put
 
 module _ (l : List ℕ) where
-  slot-found : (s : ℕ) (d : Slot) → s < 16 → getD (stateIn l .slots) s d ≡ slotFrom l (40 + 5 * s)
+  pub slot-found : (s : ℕ) (d : Slot) → s < 16 → getD (stateIn l .slots) s d ≡ slotFrom l (40 + 5 * s)
   unfolding stateIn
   slot-found s d h = getD-table (λ i. slotFrom l (40 + 5 * i)) 16 d s h
 
-  transfer-found : (m : ℕ) (d : Transfer) → m < 8 → getD (stateIn l .transfers) m d ≡ transferFrom l (5 * m)
+  pub transfer-found : (m : ℕ) (d : Transfer) → m < 8 → getD (stateIn l .transfers) m d ≡ transferFrom l (5 * m)
   unfolding stateIn
   transfer-found m d h = getD-table (λ i. transferFrom l (5 * i)) 8 d m h
 
@@ -190,7 +186,7 @@ module _ (l : List ℕ) where
   beats-read m h = ap (λ (t : Transfer). t .beats) (sym (transfer-found m noTransfer h))
 
   module _ (k : length l ≡ 154) where
-    pub slot-put : (s : ℕ) (x : Slot) {on : ℕ} → s < 16 → on ≡ cond (x .serving) 1 0
+    pub slot-put : (s : ℕ) (x : Slot) {on : ℕ} → s < 16 → on ≡ markOf (x .serving)
         → stateIn (five l (40 + 5 * s) (x .owner) (x .remaining) on (x .done) (x .waited)) ≡ withSlot (stateIn l) s x
     unfolding stateIn withSlot
     slot-put s x {on} h e =
@@ -206,7 +202,7 @@ module _ (l : List ℕ) where
               (λ i w. slot-same l r (40 + 5 * i) (sets-apart vs l p (40 + 5 * i) 5 (records-apart 40 5 i s w))),
         )
 
-    pub transfer-put : (m : ℕ) (t : Transfer) {held write : ℕ} → m < 8 → held ≡ cond (t .held) 1 0 → write ≡ cond (t .write) 1 0
+    pub transfer-put : (m : ℕ) (t : Transfer) {held write : ℕ} → m < 8 → held ≡ markOf (t .held) → write ≡ markOf (t .write)
         → stateIn (five l (5 * m) held write (t .address) (t .lanes) (t .beats)) ≡ withTransfer (stateIn l) m t
     unfolding stateIn withTransfer
     transfer-put m t {held} {write} h eh ew =

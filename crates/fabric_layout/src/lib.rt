@@ -24,22 +24,17 @@ use fabric_transfer::Transfer;
 ghost use mathlib.Core.Path.{_≡_};
 ghost use mathlib.Core.Bool.{cond};
 ghost use mathlib.Core.Logic.{_≢_};
-ghost use Prim.Native.Nat.{_+_, _≤_, _<_};
+ghost use Prim.Native.Nat.{_+_, _*_, _≤_, _<_};
 ghost use lib.ListN.{set, replicate};
+ghost use lib.Seq.{sets};
 ghost use Rattle.fabric_transfer.specs.Accesses.{noTransfer};
 ghost use Rattle.fabric_state.specs.Records.{noLog, transferAt, slotAt, lateAt, entryAt};
 ghost use Rattle.fabric_state.specs.Logging.{entered, withoutOldest, withLog};
-ghost use Rattle.fabric_state.specs.Posting.{withTransfer};
 ghost use Rattle.fabric_state.specs.Resetting.{resetState};
 ghost use Rattle.fabric_layout.specs.Layout.{stateIn, linesIn};
+ghost use Rattle.fabric_layout.specs.Numbers.{numbersOfEntry, numbersOfState, oldestRemoved};
 ghost use Rattle.fabric_layout.specs.Code.Puts.{withSlot, withLate, withEntry, responsesFor, firstLines, resetSlot};
-
-// The number of a mark (rule 2.4).
-pub fn mark_of(b: bool) -> u32
-    ensures { λ r. ⌜ r ≡ cond b 1 0 ⌝ }
-{
-    if b { 1 } else { 0 }
-}
+ghost use Rattle.fabric_layout.specs.Code.Puts.{Leaves, TransferPut, entryMoved};
 
 // The transfer of master m (rule 2.4).
 pub fn transfer_at(st: &[u32; STATE_NUMBERS], m: usize) -> Transfer
@@ -90,12 +85,12 @@ pub fn late_at(st: &[u32; STATE_NUMBERS], m: usize) -> u32
 // Master m holds t (rules 2.4, 3.3).
 pub fn put_transfer(st: &mut [u32; STATE_NUMBERS], m: usize, t: Transfer)
     requires { ⌜ m < 8 ⌝ }
-    ensures { λ _. ⌜ stateIn (now (st .exit)) ≡ withTransfer (stateIn (now (st .entry))) m t ⌝ }
+    ensures { λ _. ⌜ TransferPut (now (st .entry)) (now (st .exit)) m t ⌝ }
 {
     description_layout::count(st);
     let p = TRANSFER_NUMBERS * m;
-    st[p] = mark_of(t.held);
-    st[p + 1] = mark_of(t.write);
+    st[p] = description_layout::mark_of(t.held);
+    st[p + 1] = description_layout::mark_of(t.write);
     st[p + 2] = t.address;
     st[p + 3] = t.lanes;
     st[p + 4] = t.beats;
@@ -104,13 +99,13 @@ pub fn put_transfer(st: &mut [u32; STATE_NUMBERS], m: usize, t: Transfer)
 // The slot of slave s becomes x (rules 2.4, 4.1).
 pub fn put_slot(st: &mut [u32; STATE_NUMBERS], s: usize, x: Slot)
     requires { ⌜ s < 16 ⌝ }
-    ensures { λ _. ⌜ stateIn (now (st .exit)) ≡ withSlot (stateIn (now (st .entry))) s x ⌝ }
+    ensures { λ _. ⌜ Leaves (now (st .entry)) (now (st .exit)) (withSlot (stateIn (now (st .entry))) s x) ⌝ }
 {
     description_layout::count(st);
     let p = SLOTS_FROM + SLOT_NUMBERS * s;
     st[p] = x.owner;
     st[p + 1] = x.remaining;
-    st[p + 2] = mark_of(x.serving);
+    st[p + 2] = description_layout::mark_of(x.serving);
     st[p + 3] = x.done;
     st[p + 4] = x.waited;
 }
@@ -118,7 +113,7 @@ pub fn put_slot(st: &mut [u32; STATE_NUMBERS], s: usize, x: Slot)
 // Master m has n latency clocks to pass (rules 2.4, 4.16).
 pub fn put_late(st: &mut [u32; STATE_NUMBERS], m: usize, n: u32)
     requires { ⌜ m < 8 ⌝ }
-    ensures { λ _. ⌜ stateIn (now (st .exit)) ≡ withLate (stateIn (now (st .entry))) m n ⌝ }
+    ensures { λ _. ⌜ Leaves (now (st .entry)) (now (st .exit)) (withLate (stateIn (now (st .entry))) m n) ⌝ }
 {
     description_layout::count(st);
     st[LATE_FROM + m] = n;
@@ -147,20 +142,21 @@ pub fn entry_at(st: &[u32; STATE_NUMBERS], i: usize) -> Entry
 // Entry i of the log becomes e (rules 2.4, 4.18).
 fn put_entry(st: &mut [u32; STATE_NUMBERS], i: usize, e: Entry)
     requires { ⌜ i < 8 ⌝ }
-    ensures { λ _. ⌜ stateIn (now (st .exit)) ≡ withEntry (stateIn (now (st .entry))) i e ⌝ }
+    ensures { λ _. ⌜ (stateIn (now (st .exit)) ≡ withEntry (stateIn (now (st .entry))) i e)
+        × (now (st .exit) ≡ sets (now (st .entry)) (130 + 3 * i) (numbersOfEntry e)) ⌝ }
 {
     description_layout::count(st);
     let p = ENTRIES_FROM + ENTRY_NUMBERS * i;
     st[p] = e.master;
     st[p + 1] = e.address;
-    st[p + 2] = mark_of(e.write);
+    st[p + 2] = description_layout::mark_of(e.write);
 }
 
 // An unmapped transfer enters the log; where eight stand it is dropped, and the lost mark is set (rule 4.18).
 pub fn enter(st: &mut [u32; STATE_NUMBERS], e: Entry)
     requires { ⌜ stateIn (now st) .log .count ≤ 8 ⌝ }
-    ensures { λ _. ⌜ stateIn (now (st .exit))
-        ≡ withLog (stateIn (now (st .entry))) (entered (stateIn (now (st .entry)) .log) e) ⌝ }
+    ensures { λ _. ⌜ Leaves (now (st .entry)) (now (st .exit))
+        (withLog (stateIn (now (st .entry))) (entered (stateIn (now (st .entry)) .log) e)) ⌝ }
 {
     description_layout::count(st);
     let n = log_count(st);
@@ -175,8 +171,9 @@ pub fn enter(st: &mut [u32; STATE_NUMBERS], e: Entry)
 // Entry i of the log becomes the one behind it, number for number (rule 4.19).
 fn move_entry(st: &mut [u32; STATE_NUMBERS], i: usize)
     requires { ⌜ i < 7 ⌝ }
-    ensures { λ _. ⌜ stateIn (now (st .exit))
-        ≡ withEntry (stateIn (now (st .entry))) i (entryAt (stateIn (now (st .entry)) .log) (i + 1)) ⌝ }
+    ensures { λ _. ⌜ (stateIn (now (st .exit))
+        ≡ withEntry (stateIn (now (st .entry))) i (entryAt (stateIn (now (st .entry)) .log) (i + 1)))
+        × (now (st .exit) ≡ entryMoved (now (st .entry)) i) ⌝ }
 {
     description_layout::count(st);
     let p = ENTRIES_FROM + ENTRY_NUMBERS * i;
@@ -192,8 +189,9 @@ fn move_entry(st: &mut [u32; STATE_NUMBERS], i: usize)
 // The log's count is one fewer, every entry moves one place down, and the last place becomes 0 (rule 4.19).
 pub fn remove_oldest(st: &mut [u32; STATE_NUMBERS])
     requires { ⌜ stateIn (now st) .log .count ≢ 0 ⌝ }
-    ensures { λ _. ⌜ stateIn (now (st .exit))
-        ≡ withLog (stateIn (now (st .entry))) (withoutOldest (stateIn (now (st .entry)) .log)) ⌝ }
+    ensures { λ _. ⌜ (stateIn (now (st .exit))
+        ≡ withLog (stateIn (now (st .entry))) (withoutOldest (stateIn (now (st .entry)) .log)))
+        × (now (st .exit) ≡ oldestRemoved (now (st .entry))) ⌝ }
 {
     description_layout::count(st);
     st[LOG_FROM] = log_count(st) - 1;
@@ -290,7 +288,8 @@ fn clear_masters(st: &mut [u32; STATE_NUMBERS])
 
 // The state after a reset where `owner` is the last owner of the first n slaves (rule 4.2), whatever stood in the array before.
 pub fn reset_state(st: &mut [u32; STATE_NUMBERS], owner: u32, n: u32)
-    ensures { λ _. ⌜ stateIn (now (st .exit)) ≡ resetState owner n ⌝ }
+    ensures { λ _. ⌜ (stateIn (now (st .exit)) ≡ resetState owner n)
+        × (now (st .exit) ≡ numbersOfState (resetState owner n)) ⌝ }
 {
     clear_masters(st);
     clear_log(st);
@@ -299,4 +298,5 @@ pub fn reset_state(st: &mut [u32; STATE_NUMBERS], owner: u32, n: u32)
         put_slot(st, s, reset_slot(owner, n, s));
         s += 1;
     }
+    description_layout::count(st);
 }

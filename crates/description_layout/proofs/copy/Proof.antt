@@ -1,21 +1,21 @@
 -- `description_layout::copy` meets its contract. The loop's invariant: the first i numbers are copied.
 -- Assumes nothing.
-use mathlib.Core.Path.{_≡_, refl, _∙_}
+use mathlib.Core.Path.{_≡_, refl, ap, _∙_}
 use Prim.Native.Nat.{_≤_, _-_}
 use native.Mathlib.Omega.{arith}
 use lib.ListN.{getD}
 use borrow.Author.Needs.{needs}
-use Rattle.common_laws.proofs.FillLaws.{filled, filled-none, filled-next, filled-all}
-use Rattle.description_layout.specs.Layout.{boardLength}
-use Rattle.description_layout.proofs.BoardLaws.{all-numbers}
+use Rattle.common_laws.proofs.FillLaws.{filled, filled-none, filled-next}
+use Rattle.description_layout.specs.Layout.{defaultAt, boardLength, markOf}
+use Rattle.description_layout.proofs.NumbersLaws.{copied}
 use Rattle.description_layout.proofs.copy.Statement.{statement}
 use Rattle.description_layout.proofs.copy.Tie as tie
 
 abbrev Inv-loop : tie.InvT-loop
-Inv-loop to₀ from i₀ to i = (i ≤ boardLength) × (to ≡ filled (λ k. getD from k 0) (λ k. getD to₀ k 0) boardLength i)
+Inv-loop to₀ from i₀ to i = (i ≤ defaultAt) × (to ≡ filled (λ k. getD from k 0) (λ k. getD to₀ k 0) boardLength i)
 
 abbrev μ-loop : tie.MeasureT-loop
-μ-loop to₀ from i₀ to i = boardLength - i
+μ-loop to₀ from i₀ to i = defaultAt - i
 
 count-requires : tie.Need-count-requires Inv-loop μ-loop
 count-requires c κs = search needs
@@ -47,8 +47,21 @@ loop-less c = search needs
 loop-again : tie.Need-loop-again Inv-loop μ-loop
 loop-again c = (omega arith, filled-next _ _ boardLength _ (c .before .before .loop .inv .1) refl)
 
+default-at-requires : tie.Need-default-at-requires Inv-loop μ-loop
+default-at-requires c κs = search needs
+
+mark-of-requires : tie.Need-mark-of-requires Inv-loop μ-loop
+mark-of-requires c κs = search needs
+
+element-write-to-2 : tie.Need-element-write-to-2 Inv-loop μ-loop
+element-write-to-2 c = search needs
+
 returns : tie.Need-returns Inv-loop μ-loop
-returns c = filled-all _ _ boardLength _ (omega arith) (c .before .loop .inv .1) ∙ all-numbers _ boardLength (search needs)
+returns c =
+    let l = c .before .before .before in
+    let i = l .loop .inv in
+    let e : l .loop .i ≡ defaultAt = omega (arith, c .before .before .loop-test .left, i .0) in
+    copied _ _ (rw e at (i .1)) (c .mark-of .ensures ∙ ap markOf (c .before .default-at .ensures))
 
 pub copy-spec : {M : Type 1} → statement M
 copy-spec =
@@ -66,4 +79,7 @@ copy-spec =
     add-i
     loop-less
     loop-again
+    default-at-requires
+    mark-of-requires
+    element-write-to-2
     returns)

@@ -47,8 +47,8 @@ unfolding postRefusal
 returns-2 c =
     let words = c .before .before .before .before in
     let accepted = words .before .before in
-    post-taken _ _ _ _ (accepted .before .post-refusal-by .ensures) (accepted .if1 .left) (c .put-transfer .ensures)
-    (words .post-words .ensures)
+    post-taken _ _ _ _ (accepted .before .post-refusal-by .ensures) (accepted .if1 .left)
+    (c .put-transfer .ensures .state) (c .put-transfer .ensures .numbers) (words .post-words .ensures)
 
 pub post-spec : {M : Type 1} → statement M
 post-spec =

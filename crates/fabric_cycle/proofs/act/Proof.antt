@@ -15,6 +15,8 @@ use Rattle.fabric_state.specs.declared.State.{State}
 use Rattle.fabric_state.specs.Records.{lateAt}
 use Rattle.description_layout.specs.Layout.{boardIn}
 use Rattle.fabric_layout.specs.Layout.{stateIn, linesIn}
+use Rattle.fabric_layout.specs.Numbers.{Marks}
+use Rattle.fabric_layout.proofs.MarkLaws.{marks-same, marks-then}
 use Rattle.fabric_layout.proofs.StatePutLaws.{transfers-length, slots-length, lates-length, lines-length}
 use Rattle.fabric_check.specs.Code.Targets.{targetsIn, requestMask}
 use Rattle.fabric_check.proofs.TargetLaws.{mask-at}
@@ -25,9 +27,10 @@ use Rattle.fabric_cycle.proofs.act.Tie as tie
 
 abbrev Inv-loop : tie.InvT-loop
 Inv-loop board st₀ holders lines₀ memory₀ buffer₀ count free finished₀ start₀ s₀ st lines memory buffer finished start s =
-    (u : State) → Begun (boardIn board) u (stateIn st₀) holders (record { free = free; finished = finished₀ })
+    ((u : State) → Begun (boardIn board) u (stateIn st₀) holders (record { free = free; finished = finished₀ })
     → Pass (boardIn board) u (stateIn st) s start (linesIn lines₀) (linesIn lines) finished
-    (record { memory = memory₀; buffer = buffer₀ }) (record { memory = memory; buffer = buffer })
+    (record { memory = memory₀; buffer = buffer₀ }) (record { memory = memory; buffer = buffer }))
+    × Marks st₀ st
 
 abbrev μ-loop : tie.MeasureT-loop
 μ-loop board st₀ holders lines₀ memory₀ buffer₀ count free finished₀ start₀ s₀ st lines memory buffer finished start s =
@@ -69,7 +72,7 @@ begun c =
       transfers = transfers-length _;
       slots = slots-length _;
       lates = lates-length _;
-      counted = c .pass-latency .ensures;
+      counted = c .pass-latency .ensures .0;
       masks = o .pre .1;
     }
 
@@ -94,8 +97,10 @@ pass-latency-requires : tie.Need-pass-latency-requires Inv-loop μ-loop
 pass-latency-requires c κs = search needs
 
 loop-holds : tie.Need-loop-holds Inv-loop μ-loop
-loop-holds c u w =
-    pass-begin _ _ (w .transfers) (w .slots) (w .lates) (w .passes) (w .counted) _ _ (lines-length _)
+loop-holds c = (
+  (λ u w. pass-begin _ _ (w .transfers) (w .slots) (w .lates) (w .passes) (w .counted) _ _ (lines-length _)),
+  marks-same _,
+)
 
 mul-clock-slave : tie.Need-mul-clock-slave Inv-loop μ-loop
 mul-clock-slave c = search needs
@@ -107,7 +112,7 @@ clock-slave-requires : tie.Need-clock-slave-requires Inv-loop μ-loop
 clock-slave-requires c κs = let a = top c in
     let o = start a in
     let w = begun (a .before .before) in
-    pass-ready _ _ (w .transfers) (w .slots) (w .lates) (w .passes) _ (slave-in a) _ _ (a .before .loop .inv _ w) _
+    pass-ready _ _ (w .transfers) (w .slots) (w .lates) (w .passes) _ (slave-in a) _ _ (a .before .loop .inv .0 _ w) _
     (mask-is a _ w) (o .pre .2) (o .pre .3)
 
 add-finished : tie.Need-add-finished Inv-loop μ-loop
@@ -116,8 +121,8 @@ add-finished c = let t = c .before .before .before .before in
     let w = begun (a .before .before) in
     omega (
       arith,
-      pass-fits _ _ (w .transfers) (w .slots) (w .lates) (w .passes) _ (slave-in a) _ _ (a .before .loop .inv _ w) _
-          (mask-is a _ w) _ (t .clock-slave .ensures),
+      pass-fits _ _ (w .transfers) (w .slots) (w .lates) (w .passes) _ (slave-in a) _ _ (a .before .loop .inv .0 _ w) _
+          (mask-is a _ w) _ (t .clock-slave .ensures .0),
     )
 
 slave-at-requires : tie.Need-slave-at-requires Inv-loop μ-loop
@@ -131,7 +136,7 @@ add-start c = let a = top (stepped c .before) in
     let w = begun (a .before .before) in
     omega (
       arith,
-      start-fits _ _ (w .transfers) (w .slots) (w .lates) (w .passes) _ (slave-in a) _ _ (a .before .loop .inv _ w) _
+      start-fits _ _ (w .transfers) (w .slots) (w .lates) (w .passes) _ (slave-in a) _ _ (a .before .loop .inv .0 _ w) _
           (mask-is a _ w) (c .before .slave-at .ensures),
     )
 
@@ -142,29 +147,37 @@ loop-less : tie.Need-loop-less Inv-loop μ-loop
 loop-less c = omega (arith, slave-in (top (stepped c .before)))
 
 loop-again : tie.Need-loop-again Inv-loop μ-loop
-loop-again c u w = let t = stepped c in
+loop-again c =
+    let t = stepped c in
     let a = top (t .before) in
-    let k = t .clock-slave .kept .1 .1 .1 .1 .1 .1 in
-    pass-next _ _ (w .transfers) (w .slots) (w .lates) (w .passes) _ (slave-in a) _ _ (a .before .loop .inv u w) _ (mask-is a u w)
-    _ (t .clock-slave .ensures) (c .before .slave-at .ensures) (k .0) (k .1 .0)
+    let i = a .before .loop .inv in
+    let e = t .clock-slave .ensures in
+    let k = t .clock-slave .kept .1 .1 .1 .1 .1 .1 in (
+      (λ u w.
+          pass-next _ _ (w .transfers) (w .slots) (w .lates) (w .passes) _ (slave-in a) _ _ (i .0 u w) _ (mask-is a u w) _ (e .0)
+          (c .before .slave-at .ensures) (k .0) (k .1 .0)),
+      marks-then (i .1) (e .1),
+    )
 
 first-lines-requires : tie.Need-first-lines-requires Inv-loop μ-loop
 first-lines-requires c κs = search needs
 
 same-length : tie.Need-same-length Inv-loop μ-loop
-same-length c = let a = c .before .before .before in a .loop .inv _ (begun (a .before)) .memory
+same-length c = let a = c .before .before .before in a .loop .inv .0 _ (begun (a .before)) .memory
 
 same-length-2 : tie.Need-same-length-2 Inv-loop μ-loop
-same-length-2 c = let a = c .before .before .before in a .loop .inv _ (begun (a .before)) .buffer
+same-length-2 c = let a = c .before .before .before in a .loop .inv .0 _ (begun (a .before)) .buffer
 
 returns : tie.Need-returns Inv-loop μ-loop
 returns c = let a = c .before .before .before in
     let w = begun (a .before) in
-    let p = a .loop .inv _ w in
+    let p = a .loop .inv .0 _ w in
     let n = a .before .before .before .slave-count .ensures in
     let b = boardIn (a .before .before .before .before .before .before .args .board .now) in
-    let e : a .loop .s ≡ b .«slave_count» = omega (arith, n, c .before .before .loop-test .left, p .within) in
-    pass-end _ _ (w .transfers) (w .slots) (w .lates) (w .passes) _ _ _ _ _ _ _ _ p e n (c .first-lines .ensures)
+    let e : a .loop .s ≡ b .«slave_count» = omega (arith, n, c .before .before .loop-test .left, p .within) in (
+      pass-end _ _ (w .transfers) (w .slots) (w .lates) (w .passes) _ _ _ _ _ _ _ _ p e n (c .first-lines .ensures),
+      marks-then (a .before .pass-latency .ensures .1) (a .loop .inv .1),
+    )
 
 pub act-spec : {M : Type 1} → statement M
 act-spec =

@@ -3,6 +3,7 @@
 use borrow.Author.Needs.{needs}
 use Rattle.description_layout.specs.Layout.{boardIn}
 use Rattle.fabric_layout.specs.Layout.{stateIn}
+use Rattle.fabric_layout.proofs.MarkLaws.{marks-then}
 use Rattle.fabric_cycle.proofs.UnmappedLaws.{answer-held, answer-cleared, held-fits, log-stands}
 use Rattle.fabric_cycle.proofs.answer_at.Statement.{statement}
 use Rattle.fabric_cycle.proofs.answer_at.Tie as tie
@@ -35,7 +36,7 @@ cast-t13 c = search needs
 enter-requires : tie.Need-enter-requires
 enter-requires c κs =
     let put = c .before in
-    log-stands _ _ (read put .transfer-at .ensures) (put .put-transfer .ensures) (start put .pre .1)
+    log-stands _ _ (read put .transfer-at .ensures) (put .put-transfer .ensures .state) (start put .pre .1)
 
 same-length : tie.Need-same-length
 same-length c = search needs
@@ -43,8 +44,13 @@ same-length c = search needs
 returns : tie.Need-returns
 returns c =
     let put = c .before .before in
-    let e = read put .transfer-at .ensures in (
-      answer-held _ _ e (put .put-transfer .ensures) (c .enter .ensures),
+    let e = read put .transfer-at .ensures in
+    let p = put .put-transfer .ensures in
+    let n = c .enter .ensures in (
+      record {
+        state = answer-held _ _ e (p .state) (n .state);
+        marks = marks-then (p .marks) (n .marks);
+      },
       answer-cleared _ _ e _ _ (put .before .before .before .before .clear-read .ensures),
     )
 

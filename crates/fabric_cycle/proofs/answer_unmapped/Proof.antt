@@ -10,6 +10,8 @@ use borrow.Author.Needs.{needs}
 use Rattle.common_laws.specs.Bits.{bit}
 use Rattle.description_layout.specs.Layout.{boardIn}
 use Rattle.fabric_layout.specs.Layout.{stateIn}
+use Rattle.fabric_layout.specs.Numbers.{Marks}
+use Rattle.fabric_layout.proofs.MarkLaws.{marks-same, marks-then}
 use Rattle.fabric_layout.proofs.StatePutLaws.{transfers-length}
 use Rattle.fabric_cycle.specs.Code.Unmapped.{Answered}
 use Rattle.fabric_cycle.proofs.UnmappedLaws.{answered-begin, answered-next, answered-skip, answered-length}
@@ -19,7 +21,7 @@ use Rattle.fabric_cycle.proofs.answer_unmapped.Tie as tie
 
 abbrev Inv-loop : tie.InvT-loop
 Inv-loop board st₀ mask buffer₀ m₀ st buffer m =
-    (m ≤ 8) × Answered (boardIn board) (stateIn st₀) (stateIn st) mask m buffer₀ buffer
+    (m ≤ 8) × Answered (boardIn board) (stateIn st₀) (stateIn st) mask m buffer₀ buffer × Marks st₀ st
 
 abbrev μ-loop : tie.MeasureT-loop
 μ-loop board st₀ mask buffer₀ m₀ st buffer m = 8 - m
@@ -33,7 +35,7 @@ unfolding bit
 on c = eq-eqb _ 1 (c .if1 .taken)
 
 loop-holds : tie.Need-loop-holds Inv-loop μ-loop
-loop-holds c = (omega arith, answered-begin _ _ _ (transfers-length _) _)
+loop-holds c = (omega arith, answered-begin _ _ _ (transfers-length _) _, marks-same _)
 
 cast-if1 : tie.Need-cast-if1 Inv-loop μ-loop
 cast-if1 c = search needs
@@ -67,11 +69,13 @@ loop-again c =
       ⊎-elim
           (λ w.
           answered-next _ _ _ (t .before .loop .inv .1) (t .loop-test .taken) (eq-eqb _ 1 (w .0 .taken))
-          (ap stateIn (w .6) ∙ w .3 .ensures .0) (w .7 ∙ w .3 .ensures .1))
+          (ap stateIn (w .6) ∙ w .3 .ensures .0 .state) (w .7 ∙ w .3 .ensures .1))
           (λ w.
           rw (w .1, w .2)
           (answered-skip _ _ _ (t .before .loop .inv .1) (t .loop-test .taken) (ne-eqb _ 1 (w .0 .left))))
           (c .if1 .came),
+      ⊎-elim (λ w. rw (w .6) (marks-then (t .before .loop .inv .2) (w .3 .ensures .0 .marks)))
+          (λ w. rw (w .1) (t .before .loop .inv .2)) (c .if1 .came),
     )
 
 same-length : tie.Need-same-length Inv-loop μ-loop
@@ -81,7 +85,7 @@ returns : tie.Need-returns Inv-loop μ-loop
 returns c =
     let i = c .before .loop .inv in
     let e : c .before .loop .m ≡ 8 = omega (arith, c .loop-test .left, i .0) in
-    rw e at (i .1)
+    (rw e at (i .1), i .2)
 
 pub answer-unmapped-spec : {M : Type 1} → statement M
 answer-unmapped-spec =

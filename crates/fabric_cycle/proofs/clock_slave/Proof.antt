@@ -24,7 +24,8 @@ returns : tie.Need-returns
 returns c =
     let served = c .before .before .before .before in
     let asked = served .before .before .before .before .before .before in
-    stepped-as _ _ _ _ (asked .slot-asked .ensures) _ _ _ _ _ _ (served .serve-at .ensures)
+    let e = served .serve-at .ensures in
+    (stepped-as _ _ _ _ (asked .slot-asked .ensures) _ _ _ _ _ _ (e .0), e .1)
 
 put-slot-requires : tie.Need-put-slot-requires
 put-slot-requires c κs = search needs
@@ -35,8 +36,11 @@ put-line-requires c κs = search needs
 returns-2 : tie.Need-returns-2
 returns-2 c =
     let test = c .before .before .before .before in
-    stepped-as _ _ _ _ (test .before .slot-asked .ensures) _ _ _ _ _ _
-    (stepped-resting _ _ _ _ _ _ _ _ _ (test .if1 .left) (c .before .before .put-slot .ensures) (c .put-line .ensures))
+    let p = c .before .before .put-slot .ensures in (
+      stepped-as _ _ _ _ (test .before .slot-asked .ensures) _ _ _ _ _ _
+          (stepped-resting _ _ _ _ _ _ _ _ _ (test .if1 .left) (p .state) (c .put-line .ensures)),
+      p .marks,
+    )
 
 pub clock-slave-spec : {M : Type 1} → statement M
 clock-slave-spec =

@@ -3,6 +3,7 @@
 use mathlib.Core.Path.{_≡_, _∙_}
 use native.Mathlib.Omega.{arith}
 use borrow.Author.Needs.{needs}
+use Rattle.fabric_layout.proofs.MarkLaws.{marks-then}
 use Rattle.fabric_layout.proofs.StatePutLaws.{transfers-length, slots-length, lates-length}
 use Rattle.fabric_cycle.proofs.UnmappedLaws.{answerable, mask-fits, cycle-is, cycle-none}
 use Rattle.fabric_cycle.proofs.cycle.Statement.{statement}
@@ -35,13 +36,16 @@ returns : tie.Need-returns
 returns c =
     let a = acted (c .before) in
     let o = start a in
-    cycle-none _ _ (transfers-length _) (slots-length _) (lates-length _) (o .pre .0) (a .act .ensures) (o .pre .2) (c .if1 .taken)
+    let e = a .act .ensures in (
+      cycle-none _ _ (transfers-length _) (slots-length _) (lates-length _) (o .pre .0) (e .0) (o .pre .2) (c .if1 .taken),
+      e .1,
+    )
 
 answer-unmapped-requires : tie.Need-answer-unmapped-requires
 answer-unmapped-requires c κs =
     let a = acted (c .before .before .before) in
     let o = start a in
-    answerable _ _ (transfers-length _) (slots-length _) (lates-length _) (o .pre .0) (a .act .ensures) (o .pre .2)
+    answerable _ _ (transfers-length _) (slots-length _) (lates-length _) (o .pre .0) (a .act .ensures .0) (o .pre .2)
     (a .act .kept .1 .1 .1 .1 .1 .0 ∙ o .pre .4)
 
 add-result : tie.Need-add-result
@@ -50,7 +54,7 @@ add-result c =
     let o = start a in
     omega (
       arith,
-      mask-fits _ _ (transfers-length _) (slots-length _) (lates-length _) (o .pre .0) (a .act .ensures) (o .pre .2),
+      mask-fits _ _ (transfers-length _) (slots-length _) (lates-length _) (o .pre .0) (a .act .ensures .0) (o .pre .2),
     )
 
 same-length-3 : tie.Need-same-length-3
@@ -63,8 +67,11 @@ returns-2 : tie.Need-returns-2
 returns-2 c =
     let a = behind (answered c) in
     let o = start a in
-    cycle-is _ _ (transfers-length _) (slots-length _) (lates-length _) (o .pre .0) (a .act .ensures) (o .pre .2)
-    (answered c .answer-unmapped .ensures)
+    let e = a .act .ensures in
+    let u = answered c .answer-unmapped .ensures in (
+      cycle-is _ _ (transfers-length _) (slots-length _) (lates-length _) (o .pre .0) (e .0) (o .pre .2) (u .0),
+      marks-then (e .1) (u .1),
+    )
 
 pub cycle-spec : {M : Type 1} → statement M
 cycle-spec =

@@ -5,6 +5,8 @@ use Prim.Native.Nat.{_≤_, _<_, _-_}
 use native.Mathlib.Omega.{arith}
 use borrow.Author.Needs.{needs}
 use Rattle.fabric_layout.specs.Layout.{stateIn}
+use Rattle.fabric_layout.specs.Numbers.{Marks}
+use Rattle.fabric_layout.proofs.MarkLaws.{marks-same, marks-then}
 use Rattle.fabric_layout.proofs.StatePutLaws.{transfers-length, lates-length}
 use Rattle.fabric_cycle.specs.Code.Latency.{Counted}
 use Rattle.fabric_cycle.proofs.LatencyLaws.{counted-begin, counted-next, counted-idle, free-fits, finished-fits}
@@ -13,7 +15,7 @@ use Rattle.fabric_cycle.proofs.pass_latency.Tie as tie
 
 abbrev Inv-loop : tie.InvT-loop
 Inv-loop st₀ free₀ finished₀ m₀ st free finished m =
-    (m ≤ 8) × Counted (stateIn st₀) (stateIn st) m (record { free = free; finished = finished })
+    (m ≤ 8) × Counted (stateIn st₀) (stateIn st) m (record { free = free; finished = finished }) × Marks st₀ st
 
 abbrev μ-loop : tie.MeasureT-loop
 μ-loop st₀ free₀ finished₀ m₀ st free finished m = 8 - m
@@ -29,11 +31,13 @@ late-clocks-requires : tie.Need-late-clocks-requires Inv-loop μ-loop
 late-clocks-requires c κs = search needs
 
 returns : tie.Need-returns Inv-loop μ-loop
-returns c =
-    counted-idle _ (transfers-length _) (lates-length _) (sym (c .before .late-clocks .ensures) ∙ c .if1 .taken)
+returns c = (
+  counted-idle _ (transfers-length _) (lates-length _) (sym (c .before .late-clocks .ensures) ∙ c .if1 .taken),
+  marks-same _,
+)
 
 loop-holds : tie.Need-loop-holds Inv-loop μ-loop
-loop-holds c = (omega arith, counted-begin _ (transfers-length _) (lates-length _))
+loop-holds c = (omega arith, counted-begin _ (transfers-length _) (lates-length _), marks-same _)
 
 cast-late-at : tie.Need-cast-late-at Inv-loop μ-loop
 cast-late-at c = search needs
@@ -81,14 +85,15 @@ loop-again c =
     let t = c .before in (
       omega (arith, turn t .loop-test .taken),
       counted-next _ (turn t .before .loop .inv .1) (master-in (turn t)) (t .before .before .before .late-at .ensures)
-          (t .weight-of .ensures) (c .weight-of2 .ensures) (t .before .count-late .ensures),
+          (t .weight-of .ensures) (c .weight-of2 .ensures) (t .before .count-late .ensures .state),
+      marks-then (turn t .before .loop .inv .2) (t .before .count-late .ensures .marks),
     )
 
 returns-2 : tie.Need-returns-2 Inv-loop μ-loop
 returns-2 c =
     let i = c .before .loop .inv in
     let e : c .before .loop .m ≡ 8 = omega (arith, c .loop-test .left, i .0) in
-    rw e at (i .1)
+    (rw e at (i .1), i .2)
 
 pub pass-latency-spec : {M : Type 1} → statement M
 pass-latency-spec =

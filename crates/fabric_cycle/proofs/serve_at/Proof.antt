@@ -1,5 +1,6 @@
 -- `fabric_cycle::serve_at` meets its contract: the parts are read, the step and its bytes are made, and the parts are put.
 -- Assumes nothing.
+use Rattle.fabric_layout.proofs.MarkLaws.{marks-then}
 use Rattle.fabric_cycle.proofs.SlaveClockLaws.{serves-as, stepped-serving}
 use borrow.Author.Needs.{needs}
 use Rattle.fabric_cycle.proofs.serve_at.Statement.{statement}
@@ -61,9 +62,13 @@ returns c =
     let read = ended .before .before in
     let step = stepped (slot .before) in
     let t = step .before .before .before in
-    stepped-serving _ _ _ _ _ _ (t .before .before .before .master-at .ensures) (t .before .before .slave-at .ensures)
-    (t .transfer-at .ensures) _ _ _ _ _ _ (step .serve .ensures) (slot .put-slot .ensures)
-    (read .before .put-line .ensures) (read .latency-of .ensures) (ended .end-transfer .ensures) (c .weight-of .ensures)
+    let p = slot .put-slot .ensures in
+    let e = ended .end-transfer .ensures in (
+      stepped-serving _ _ _ _ _ _ (t .before .before .before .master-at .ensures) (t .before .before .slave-at .ensures)
+          (t .transfer-at .ensures) _ _ _ _ _ _ (step .serve .ensures) (p .state)
+          (read .before .put-line .ensures) (read .latency-of .ensures) (e .state) (c .weight-of .ensures),
+      marks-then (p .marks) (e .marks),
+    )
 
 pub serve-at-spec : {M : Type 1} → statement M
 serve-at-spec =

@@ -38,7 +38,7 @@ loop-less : tie.Need-loop-less Inv-loop μ-loop
 loop-less c = search needs
 
 loop-again : tie.Need-loop-again Inv-loop μ-loop
-loop-again c = (omega arith, clear-log-next _ _ (c .before .before .before .loop .inv .1) (c .put-entry .ensures))
+loop-again c = (omega arith, clear-log-next _ _ (c .before .before .before .loop .inv .1) (c .put-entry .ensures .0))
 
 returns : tie.Need-returns Inv-loop μ-loop
 returns c = clear-log-end _ (search needs) _ (omega arith) (c .before .loop .inv .1)

@@ -40,10 +40,10 @@ loop-again c =
     let t = c .before .before in
     let i = t .before .before .before .loop .inv in (
       omega arith,
-      transfers-late _ _ _ _ (c .put-late .ensures) ∙ transfers-put _ _ _ _ (t .put-transfer .ensures)
+      transfers-late _ _ _ _ (c .put-late .ensures .state) ∙ transfers-put _ _ _ _ (t .put-transfer .ensures .state)
           ∙ filled-next _ _ 8 _ (i .1) refl,
-      lates-put _ _ _ _ (c .put-late .ensures)
-          ∙ filled-next _ _ 8 _ (lates-held _ _ _ _ (t .put-transfer .ensures) ∙ i .2) refl,
+      lates-put _ _ _ _ (c .put-late .ensures .state)
+          ∙ filled-next _ _ 8 _ (lates-held _ _ _ _ (t .put-transfer .ensures .state) ∙ i .2) refl,
     )
 
 returns : tie.Need-returns Inv-loop μ-loop

@@ -1,7 +1,7 @@
 -- `fabric_layout::enter` meets its contract: where fewer than eight stand the entry is put behind them, and else the lost mark is set.
 -- Assumes nothing.
 use borrow.Author.Needs.{needs}
-use Rattle.fabric_layout.proofs.LogPutLaws.{enter-room, enter-full}
+use Rattle.fabric_layout.proofs.MarkLaws.{room-leaves, full-leaves}
 use Rattle.fabric_layout.proofs.enter.Statement.{statement}
 use Rattle.fabric_layout.proofs.enter.Tie as tie
 
@@ -24,13 +24,13 @@ put-entry-requires : tie.Need-put-entry-requires
 put-entry-requires c κs = search needs
 
 returns : tie.Need-returns
-returns c = enter-room _ (search needs) _ _ (c .before .before .before .log-count .ensures) (search needs) (c .put-entry .ensures)
+returns c = room-leaves _ (search needs) _ _ (c .before .before .before .log-count .ensures) (search needs) (c .put-entry .ensures)
 
 element-write-st-2 : tie.Need-element-write-st-2
 element-write-st-2 c = search needs
 
 returns-2 : tie.Need-returns-2
-returns-2 c = enter-full _ (search needs) _ _ (c .before .log-count .ensures) (search needs)
+returns-2 c = full-leaves _ (search needs) _ _ (c .before .log-count .ensures) (search needs)
 
 pub enter-spec : {M : Type 1} → statement M
 enter-spec =

@@ -1,7 +1,7 @@
 -- `fabric_layout::move_entry` meets its contract: three numbers, as they stand, to the entry before. `count` tells the length.
 -- Assumes nothing.
 use borrow.Author.Needs.{needs}
-use Rattle.fabric_layout.proofs.LogPutLaws.{entry-moved}
+use Rattle.fabric_layout.proofs.NumbersLaws.{moved-leaves}
 use Rattle.fabric_layout.proofs.move_entry.Statement.{statement}
 use Rattle.fabric_layout.proofs.move_entry.Tie as tie
 
@@ -66,7 +66,7 @@ element-write-st-3 : tie.Need-element-write-st-3
 element-write-st-3 c = search needs
 
 returns : tie.Need-returns
-returns c = entry-moved _ (search needs) _ (search needs)
+returns c = moved-leaves _ _ (search needs) (search needs)
 
 pub move-entry-spec : {M : Type 1} → statement M
 move-entry-spec =

@@ -1,8 +1,7 @@
 -- `fabric_layout::put_entry` meets its contract: three stores, and no other record has a number there. `count` tells the length.
 -- Assumes nothing.
 use borrow.Author.Needs.{needs}
-use Rattle.fabric_layout.proofs.RecordLaws.{mark-back}
-use Rattle.fabric_layout.proofs.LogPutLaws.{entry-put}
+use Rattle.fabric_layout.proofs.MarkLaws.{entry-leaves}
 use Rattle.fabric_layout.proofs.put_entry.Statement.{statement}
 use Rattle.fabric_layout.proofs.put_entry.Tie as tie
 
@@ -43,8 +42,7 @@ element-write-st-3 : tie.Need-element-write-st-3
 element-write-st-3 c = search needs
 
 returns : tie.Need-returns
-returns c =
-    entry-put _ (search needs) _ _ _ (search needs) (mark-back (c .before .before .before .before .args .e .write) (c .mark-of .ensures))
+returns c = entry-leaves _ (search needs) _ _ (search needs) (c .mark-of .ensures)
 
 pub put-entry-spec : {M : Type 1} → statement M
 put-entry-spec =

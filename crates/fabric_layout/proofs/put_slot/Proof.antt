@@ -1,7 +1,7 @@
 -- `fabric_layout::put_slot` meets its contract: five stores, and no other record has a number there. `count` tells the length.
 -- Assumes nothing.
 use borrow.Author.Needs.{needs}
-use Rattle.fabric_layout.proofs.RecordLaws.{slot-put}
+use Rattle.fabric_layout.proofs.MarkLaws.{slot-leaves}
 use Rattle.fabric_layout.proofs.put_slot.Statement.{statement}
 use Rattle.fabric_layout.proofs.put_slot.Tie as tie
 
@@ -60,7 +60,7 @@ element-write-st-5 : tie.Need-element-write-st-5
 element-write-st-5 c = search needs
 
 returns : tie.Need-returns
-returns c = slot-put _ (search needs) _ _ (search needs) (c .mark-of .ensures)
+returns c = slot-leaves _ (search needs) _ _ (search needs) (c .mark-of .ensures)
 
 pub put-slot-spec : {M : Type 1} → statement M
 put-slot-spec =

@@ -1,7 +1,7 @@
 -- `fabric_layout::put_transfer` meets its contract: five stores, and no other record has a number there.
 -- Assumes nothing.
 use borrow.Author.Needs.{needs}
-use Rattle.fabric_layout.proofs.RecordLaws.{transfer-put}
+use Rattle.fabric_layout.proofs.MarkLaws.{transfer-leaves}
 use Rattle.fabric_layout.proofs.put_transfer.Statement.{statement}
 use Rattle.fabric_layout.proofs.put_transfer.Tie as tie
 
@@ -60,7 +60,7 @@ element-write-st-5 : tie.Need-element-write-st-5
 element-write-st-5 c = search needs
 
 returns : tie.Need-returns
-returns c = transfer-put _ (search needs) _ _ (search needs) (c .before .mark-of .ensures) (c .mark-of2 .ensures)
+returns c = transfer-leaves _ (search needs) _ _ (search needs) (c .before .mark-of .ensures) (c .mark-of2 .ensures)
 
 pub put-transfer-spec : {M : Type 1} → statement M
 put-transfer-spec =

@@ -14,6 +14,7 @@ use Rattle.fabric_layout.specs.Layout.{stateIn}
 use Rattle.fabric_layout.specs.Code.Puts.{resetSlot}
 use Rattle.fabric_layout.proofs.StatePutLaws.{slots-begin, slots-put, transfers-left, lates-left, log-left, reset-end}
 use Rattle.fabric_layout.proofs.StatePutLaws.{log-put, transfers-logged, lates-logged}
+use Rattle.fabric_layout.proofs.NumbersLaws.{reset-spelled}
 use Rattle.fabric_layout.proofs.reset_state.Statement.{statement}
 use Rattle.fabric_layout.proofs.reset_state.Tie as tie
 
@@ -57,7 +58,7 @@ loop-less c = search needs
 loop-again : tie.Need-loop-again Inv-loop μ-loop
 loop-again c =
     let i = c .before .before .before .before .loop .inv in
-    let e = c .put-slot .ensures in (
+    let e = c .put-slot .ensures .state in (
       omega arith,
       transfers-left _ _ _ _ e ∙ i .1,
       lates-left _ _ _ _ e ∙ i .2,
@@ -65,10 +66,13 @@ loop-again c =
       slots-put _ _ _ _ e ∙ filled-next _ _ 16 _ (i .4) (c .before .reset-slot .ensures),
     )
 
+count-requires : tie.Need-count-requires Inv-loop μ-loop
+count-requires c κs = search needs
+
 returns : tie.Need-returns Inv-loop μ-loop
 returns c =
-    let i = c .before .loop .inv in
-    reset-end _ _ _ (i .1) (filled-all _ _ 16 _ (omega arith) (i .4)) (i .2) (i .3)
+    let i = c .before .before .before .before .loop .inv in
+    reset-spelled _ _ _ (reset-end _ _ _ (i .1) (filled-all _ _ 16 _ (omega arith) (i .4)) (i .2) (i .3)) (search needs)
 
 pub reset-state-spec : {M : Type 1} → statement M
 reset-state-spec =
@@ -84,4 +88,5 @@ reset-state-spec =
     add-s
     loop-less
     loop-again
+    count-requires
     returns)
