@@ -1,7 +1,7 @@
 -- Lane legality: what the tests of `legal_lanes` decide together, and that legal lanes lie below the width.
 -- Assumes nothing.
-use mathlib.Core.Path.{_≡_, refl, ap, ap₂, _∙_}
-use mathlib.Core.Bool.{Bool, true, false, not, _&&_, _||_, and-true, or-true, false≢true}
+use mathlib.Core.Path.{_≡_, refl, ap₂, _∙_}
+use mathlib.Core.Bool.{Bool, true, false, _&&_, _||_, false≢true}
 use mathlib.Core.List.{[], _∷_}
 use Prim.Native.Nat.{ℕ, zero, suc, _+_, _-_, _*_, _/_, _%_, _^_, _≤_, _<_}
 use native.Mathlib.Nat.{lt-of-lt-of-le}
@@ -10,7 +10,7 @@ use lib.Bits.{bitAnd}
 use lib.Count.{ones, onesIn, trailingZeros, trailing-le}
 use lib.Dec.{T, eqb, leb, ltb, eqb→eq, leb→le}
 use lib.Pow.{pow-mono, shl-lt, ones-lt}
-use borrow.Author.Tests.{eq-eqb, ne-eqb, le-leb, lt-leb, le-ltb, eqb-true, eqb-false, leb-true, ltb-false, not-true}
+use borrow.Author.Tests.{ne-eqb, le-ltb, eqb-true, eqb-false, leb-true, ltb-false}
 use Rattle.common_laws.specs.Lists.{member, agree}
 use Rattle.common_laws.proofs.Finite.{each, agree-eq}
 use Rattle.common_laws.proofs.Tests.{both, both-hold, neither}
@@ -117,45 +117,8 @@ pub legal-lowest : (w l : ℕ) → w ≤ 8 → legalLanes w l ≡ true → trail
 legal-lowest w l h e =
     agreed l (rw (ne-eqb l 0 (legal-some w l e), le-ltb 255 l (omega (arith, legal-lt w l h e)))) .1
 
--- all lanes are legal where the width is a power of two: computed at every width that is not 0
-fullTest : ℕ → Bool
-unfolding ones onesIn trailingZeros lowest adjacent member legalLanes
-fullTest w = agree (eqb (bitAnd w (w - 1)) 0) (legalLanes w (allLanes w))
-
-full-legal : (w : ℕ) → 1 ≤ w → w ≤ 8 → eqb (bitAnd w (w - 1)) 0 ≡ legalLanes w (allLanes w)
-unfolding fullTest ones onesIn trailingZeros lowest adjacent member legalLanes
-full-legal zero p h = absurd (omega arith)
-full-legal (suc n) p h = agree-eq _ _ (each (λ k. fullTest (suc k)) 8 tt n (omega arith))
-
--- the tests of `post_lanes`
-module _ (w l all : ℕ) (a : all ≡ allLanes w) where
-  module _ (e : (not (eqb l 0) && eqb l all) ≡ true) where
-    full : l ≡ allLanes w
-    full = eqb-true l all (both (not (eqb l 0)) _ e .1) ∙ a
-
-    pub full-width : 1 ≤ w
-    full-width = go (eqb w 0) refl
-      where
-        go : (b : Bool) → eqb w 0 ≡ b → 1 ≤ w
-        go false q = omega (arith, eqb-false w 0 q)
-        go true q =
-            let none : l ≡ 0 = full ∙ ap allLanes (eqb-true w 0 q) in
-            absurd (eqb-false l 0 (not-true _ (both (not (eqb l 0)) _ e .0)) none)
-
-    pub all-posted : (n : ℕ) → w ≤ 8 → eqb (bitAnd w (w - 1)) 0 ≡ postLanes w l n
-    unfolding postLanes
-    all-posted n h = full-legal w full-width h ∙ rw (full, eq-eqb (allLanes w) (allLanes w) refl, or-true, and-true)
-
-  pub part-burst : (n : ℕ) → (not (eqb l 0) && eqb l all) ≡ false → 1 < n → false ≡ postLanes w l n
-  unfolding postLanes
-  part-burst n e h = go (legalLanes w l) refl
-    where
-      go : (b : Bool) → legalLanes w l ≡ b → false ≡ (b && (leb n 1 || eqb l (allLanes w)))
-      go false q = refl
-      go true q =
-          let part : eqb l all ≡ false = rw (ne-eqb l 0 (legal-some w l q)) at e in
-          rw (lt-leb n 1 h, ← a, part)
-
-pub single : (w l n : ℕ) → n ≤ 1 → legalLanes w l ≡ postLanes w l n
+-- the tests of `post_lanes` are the rules
+pub posted : (w l n : ℕ) {legal : Bool} {all : ℕ} → legal ≡ legalLanes w l → all ≡ allLanes w
+    → (legal && (leb n 1 || eqb l all)) ≡ postLanes w l n
 unfolding postLanes
-single w l n h = rw (le-leb n 1 h, and-true)
+posted w l n e a = rw (e, a)

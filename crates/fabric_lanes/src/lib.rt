@@ -30,18 +30,13 @@ pub fn legal_lanes(width: u32, lanes: u32) -> bool
     (run == all) & (count & below == 0) & (low & below == 0) & (low + count <= width)
 }
 
-// Whether a master of this width may post these lanes with so many beats (rules 3.4, 3.5). All lanes, which most posts have, are
-// as many as the width, and legal where it is a power of two.
+// Whether a master of this width may post these lanes with so many beats (rules 3.4, 3.5). The lanes are legal, and of a burst all of
+// the width: each mask is counted, and nothing is decided before that.
 pub fn post_lanes(width: u32, lanes: u32, beats: u32) -> bool
     requires { ⌜ width ≤ 8 ⌝ }
     ensures { λ r. ⌜ r ≡ postLanes width lanes beats ⌝ }
 {
+    let legal = legal_lanes(width, lanes);
     let all = all_lanes(width);
-    if (lanes != 0) & (lanes == all) {
-        return width & (width - 1) == 0;
-    }
-    if 1 < beats {
-        return false;
-    }
-    legal_lanes(width, lanes)
+    legal & ((beats <= 1) | (lanes == all))
 }

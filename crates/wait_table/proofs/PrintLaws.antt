@@ -25,7 +25,7 @@ use Rattle.wait_table.specs.declared.Printed.{Printed}
 use Rattle.wait_turns.specs.Waits.{quotedWait, serveOf}
 use Rattle.wait_table.specs.Tables.{heading, pairLine, pairLines, tableText, tableOf}
 use Rattle.wait_table.specs.Tables.{printRefusal, printAnswer, printOutput}
-use Rattle.wait_table.specs.Tables.{refusedText, printed, Begins}
+use Rattle.wait_table.specs.Tables.{refusedText, printed, pageOutput, Begins}
 use Rattle.wait_table.specs.Longest.{longestTable}
 use Rattle.wait_turns.proofs.SumLaws.{gather-le}
 use Rattle.wait_turns.proofs.FigureBounds.{wait-small, serve-small}
@@ -195,6 +195,21 @@ begins text list before n e l =
       front = t;
     }
 
+-- what is promised of the count n and of the page after
+abbrev pub Paged : List ℕ → List ℕ → List ℕ → ℕ → Type 0
+Paged text page after n = (n ≡ length (printed text)) × (after ≡ pageOutput text page)
+
+-- so that the page begins with what is printed
+pub page-begins : (text page after : List ℕ) (n : ℕ) → Paged text page after n → Begins (printed text) after n
+unfolding pageOutput
+page-begins text page after n x = begins (printed text) after page n (x .1) (x .0)
+
+-- what is printed is one text t, and the page has it at the front
+paged : (text page : List ℕ) (t : List ℕ) {after : List ℕ} {n : ℕ} → printed text ≡ t → n ≡ length t
+    → after ≡ t ++ drop (length t) page → Paged text page after n
+unfolding pageOutput
+paged text page t e l a = rw e (l, a)
+
 -- a page of `most` bytes, and what a print made of it: the table, or nothing, and then the refusal's line has room
 module _ (text page : List ℕ) (most : ℕ) {r : Printed} {after : List ℕ} (e : Promised text page most r after)
     (enough : longestTable ≤ most) (room : most ≤ length page) where
@@ -204,13 +219,13 @@ module _ (text page : List ℕ) (most : ℕ) {r : Printed} {after : List ℕ} (e
   refusal-is : printRefusal text page ≡ r .number
   refusal-is = print-room text page (omega arith) ∙ sym number-read
 
-  pub page-table : r .number ≡ 0 → Begins (printed text) after (r .length)
+  pub page-table : r .number ≡ 0 → Paged text page after (r .length)
   unfolding printed printAnswer printOutput
   page-table none =
-      rw (← number-read, none)
-      (begins (tableOf text) after page (r .length)
+      paged text page (tableOf text)
+      (rw (← number-read, none))
+      (ap (λ (q : Printed). q .length) (e .0) ∙ rw (refusal-is, none))
       (e .1 .0 ∙ rw (refusal-is, none))
-      (ap (λ (q : Printed). q .length) (e .0) ∙ rw (refusal-is, none)))
 
   module _ (some : r .number ≡ 0 → ⊥) where
     page-kept : after ≡ page
@@ -223,9 +238,11 @@ module _ (text page : List ℕ) (most : ℕ) {r : Printed} {after : List ℕ} (e
     line-room word h = omega (arith, ap length page-kept, line-length word (r .number ∷ []), fields-long (r .number ∷ []))
 
     pub page-refused : {o : List ℕ} {n : ℕ} → Put after 0 (lineText (bytesOf "refused") (r .number ∷ [])) o n
-        → Begins (printed text) o n
+        → Paged text page o n
     unfolding printed refusedText bytesOf
-    page-refused {o} {n} x =
-        rw (← number-read, ne-eqb (r .number) 0 some)
-        (begins (lineText (bytesOf "refused") (r .number ∷ [])) o after n
-        (put-front x (omega (arith, line-room (bytesOf "refused") (lit≤ tt)))) (omega (arith, x .end)))
+    page-refused x =
+        paged text page (refusedText (r .number))
+        (rw (← number-read, ne-eqb (r .number) 0 some))
+        (omega (arith, x .end))
+        (put-front x (omega (arith, line-room (bytesOf "refused") (lit≤ tt)))
+        ∙ ap (λ (b : List ℕ). refusedText (r .number) ++ drop (length (refusedText (r .number))) b) page-kept)

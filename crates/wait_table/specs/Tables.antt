@@ -63,6 +63,10 @@ refusedText n = lineText (bytesOf "refused") (n ∷ [])
 unfoldable pub printed : List ℕ → List ℕ
 printed text = let n = readText text .number in cond (eqb n 0) (tableOf text) (refusedText n)
 
+-- rules 5.9, 8.6: the lent page after `print_page`: what is printed, and after it the bytes that were there
+unfoldable pub pageOutput : List ℕ → List ℕ → List ℕ
+pageOutput text page = printed text ++ drop (length (printed text)) page
+
 -- rule 5.10: the line in front of what is printed of a file
 unfoldable pub fileLine : List ℕ → List ℕ
 fileLine name = bytesOf "file," ++ name ++ (lineFeed ∷ [])

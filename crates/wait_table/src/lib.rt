@@ -12,7 +12,7 @@ ghost use Rattle.description_layout.specs.Layout.{boardIn};
 ghost use Rattle.description.specs.Reader.{readText};
 ghost use Rattle.wait_turns.specs.Code.Pairs.{PairOf, slaveTurns};
 ghost use Rattle.wait_table.specs.Tables.{pairLine, pairLines, tableText, printAnswer, printOutput};
-ghost use Rattle.wait_table.specs.Tables.{printed, Begins};
+ghost use Rattle.wait_table.specs.Tables.{printed, pageOutput};
 ghost use Rattle.wait_table.specs.Code.PairLines.{quoteLine, masterLines, Summed};
 
 // A refusal's number and 0, or 0 and the count of bytes written (rule 8.1).
@@ -178,10 +178,11 @@ pub fn print_table(text: &[u8], out: &mut [u8]) -> Printed
     }
 }
 
-// What the table program prints for a text, at the front of the page (rule 5.9): the table, or the line that says what the text
-// is refused with. The answer is the count of bytes.
+// What the table program prints for a text, at the front of the page (rules 5.9, 8.6): the table, or the line that says what the
+// text is refused with. The answer is the count of its bytes; those after it stay.
 pub fn print_page(text: &[u8], page: &mut [u8; LONGEST_TABLE]) -> usize
-    ensures { λ r. ⌜ Begins (printed (now (text .entry))) (now (page .exit)) r ⌝ }
+    ensures answer { λ r. ⌜ r ≡ length (printed (now (text .entry))) ⌝ }
+    ensures output { λ r. ⌜ now (page .exit) ≡ pageOutput (now (text .entry)) (now (page .entry)) ⌝ }
 {
     let p = print_table(text, &mut *page);
     if p.number == 0 {

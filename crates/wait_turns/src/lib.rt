@@ -34,14 +34,14 @@ pub fn longest_access(sl: Slave) -> u32
     1 + sl.read_wait
 }
 
-// The clocks of one access of a single that is not the last transfer of a turn (rule 5.6). Where the slave has latency a read ends
-// its master's turn, so that such a single is a write.
-pub fn single_access(sl: Slave) -> u32
-    requires { ⌜ LegalSlave sl ⌝ }
+// The clocks of one access of a single that is not the last transfer of a turn (rule 5.6), by the slave's v. Where the slave has
+// latency a read ends its master's turn, so that such a single is a write.
+pub fn single_access(sl: Slave, v: u32) -> u32
+    requires { ⌜ LegalSlave sl × (v ≡ longestAccess sl) ⌝ }
     ensures { λ r. ⌜ r ≡ singleAccess sl ⌝ }
 {
     if sl.latency == 0 {
-        return longest_access(sl);
+        return v;
     }
     1 + sl.write_wait
 }
@@ -124,15 +124,15 @@ fn turns_at(board: &[u32; BOARD_NUMBERS], sl: Slave, a: u32, v: u32, s: u32) -> 
     sum
 }
 
-// The clocks of a single's access at slave s, its v, and the turns there (rules 5.1, 5.6, 5.7). Whether the slave has latency and
-// which wait is the longer one is asked here, and not again for each master.
+// The clocks of a single's access at slave s, its v, and the turns there (rules 5.1, 5.6, 5.7). Which wait is the longer one and
+// whether the slave has latency is asked here once, and not again for each master.
 pub fn slave_turns(board: &[u32; BOARD_NUMBERS], s: u32) -> Turns
     requires { ⌜ Legal (boardIn (now board)) × (s < boardIn (now board) .«slave_count») ⌝ }
     ensures { λ r. ⌜ r ≡ slaveTurns (boardIn (now (board .entry))) s ⌝ }
 {
     let sl = description_layout::slave_at(board, s as usize);
-    let a = single_access(sl);
     let v = longest_access(sl);
+    let a = single_access(sl, v);
     Turns {
         single: a,
         v: v,

@@ -4,6 +4,7 @@ use Prim.Native.Nat.{_<_}
 use lib.ListN.{length}
 use borrow.Author.Needs.{needs}
 use Rattle.description.specs.Reader.{mostBytes}
+use Rattle.wait_table.proofs.PrintLaws.{page-begins}
 use Rattle.table.proofs.PrepareLaws.{none-made, page-made}
 use Rattle.table.proofs.prepare.Statement.{statement}
 use Rattle.table.proofs.prepare.Tie as tie
@@ -34,7 +35,7 @@ returns-2 c =
     let else = c .before .before .before in
     let read = else .before .before .before in
     let room : mostBytes < length (read .read-all .last .1 .0) = search needs in
-    page-made (read .read-all .ensures) room (else .if1 .left) (c .print-page .ensures)
+    page-made (read .read-all .ensures) room (else .if1 .left) (page-begins _ _ _ _ (c .print-page .ensures))
 
 pub prepare-spec : {M : Type 1} → statement M
 prepare-spec =

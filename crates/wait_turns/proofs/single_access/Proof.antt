@@ -7,11 +7,8 @@ use Rattle.wait_turns.proofs.AccessLaws.{single-access-plain, single-ac
 use Rattle.wait_turns.proofs.single_access.Statement.{statement}
 use Rattle.wait_turns.proofs.single_access.Tie as tie
 
-longest-access-requires : tie.Need-longest-access-requires
-longest-access-requires c κs = search needs
-
 returns : tie.Need-returns
-returns c = c .longest-access .ensures ∙ sym (single-access-plain _ (omega arith))
+returns c = c .before .before .pre .1 ∙ sym (single-access-plain _ (omega arith))
 
 add-result : tie.Need-add-result
 add-result c = search needs
@@ -20,4 +17,4 @@ returns-2 : tie.Need-returns-2
 returns-2 c = sym (single-access-late _ (λ e. absurd (omega arith)))
 
 pub single-access-spec : {M : Type 1} → statement M
-single-access-spec = tie.close (tie.spec longest-access-requires returns add-result returns-2)
+single-access-spec = tie.close (tie.spec returns add-result returns-2)

@@ -8,22 +8,22 @@ use Rattle.wait_turns.proofs.slave_turns.Tie as tie
 slave-at-requires : tie.Need-slave-at-requires
 slave-at-requires c κs = search needs
 
-single-access-requires : tie.Need-single-access-requires
-single-access-requires c κs =
+longest-access-requires : tie.Need-longest-access-requires
+longest-access-requires c κs =
     let pre = c .before .pre in
     rw (c .slave-at .ensures) (pre .0 .slave _ (pre .1))
 
-longest-access-requires : tie.Need-longest-access-requires
-longest-access-requires c κs = single-access-requires (c .before) κs
+single-access-requires : tie.Need-single-access-requires
+single-access-requires c κs = (longest-access-requires (c .before) κs, c .longest-access .ensures)
 
 turns-at-requires : tie.Need-turns-at-requires
 turns-at-requires c κs = search needs
 
 returns : tie.Need-returns
 returns c =
-    let longest = c .before in
-    let single = longest .before in
-    turns-of-slave _ _ (single .before .slave-at .ensures) (single .single-access .ensures) (longest .longest-access .ensures)
+    let single = c .before in
+    let longest = single .before in
+    turns-of-slave _ _ (longest .before .slave-at .ensures) (single .single-access .ensures) (longest .longest-access .ensures)
     (c .turns-at .ensures)
 
 pub slave-turns-spec : {M : Type 1} → statement M
@@ -31,7 +31,7 @@ slave-turns-spec =
     tie.close
     (tie.spec
     slave-at-requires
-    single-access-requires
     longest-access-requires
+    single-access-requires
     turns-at-requires
     returns)
