@@ -19,7 +19,8 @@
  * time.
  *
  * A board, a state and a clock's lines are plain numbers of 32 bits, which may also be set by hand (rules 1.10 and 2.4). A
- * mark (held, write, serving, lost, default_line) is yes unless it is 0. Every other number is judged as it stands, none is cut to fewer bits: a
+ * mark (held, write, serving, lost, default_line) is yes unless it is 0. The calls put 0 or 1 for a mark; a clock may also leave it
+ * as it was, and fabric_take moves entries number for number. Every other number is judged as it stands, none is cut to fewer bits: a
  * wait of 300 is refused with 3, a latency of 64 too, an owner of 256 with 9, lanes of 256 with 15.
  *
  * The functions are proved to answer as said here for all numbers, bytes and lengths. The caller's part: no pointer is null,

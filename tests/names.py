@@ -8,7 +8,9 @@ usage: tests/names.py [--write]
 - each label of a must-fail edit is named in docs/PROMISES.md, and those of rules 10.1 to 10.12 have files of their own;
 - the constants of include/fabric.h are those of crate common_numbers;
 - each row of a document's table has as many cells as the table's heading;
-- docs/READING.md lists every file of definitions that is to be believed, with its number of lines (--write puts the numbers).
+- docs/READING.md lists every file of definitions that is to be believed, with its number of lines (--write puts the numbers);
+- what the contract of a public call (docs/PROMISES.md, section 2) or a listed file names stands in a listed file, in a crate's records
+  that docs/READING.md names, or in the kit: so what it names through others does too.
 
 Prints a line for each complaint; exit status 0 where there is none, else 1.
 """
@@ -211,6 +213,83 @@ def reading_complaints(write):
         yield "docs/READING.md: numbers of lines have changed: tests/names.py --write puts them"
 
 
+def sections(text):
+    """The parts of a document by their headings of the second order."""
+    return {part.split("\n")[0]: part for part in re.split(r"^## ", text, flags=re.M)[1:]}
+
+
+def public_calls():
+    """Crate and name of each call in the first column of the table of public calls; a name alone is of the crate before it."""
+    found = []
+    part = sections(text_of(ROOT / "docs/PROMISES.md"))["2. The public calls"]
+    for row in re.findall(r"^\| `.*$", part, re.M):
+        crate = None
+        for first, second in re.findall(r"`(\w+)(?:::(\w+))?`", row.split("|")[1]):
+            crate = first if second else crate
+            found.append((crate, second or first))
+    return found
+
+
+def unlisted_calls(calls):
+    """Public functions of the crates that have the calls, and are in no row of the table. `description_check` has inner ones too."""
+    for crate in sorted({crate for crate, _ in calls} - {"description_check"}):
+        for path in sorted((ROOT / "crates" / crate / "src").glob("*.rt")):
+            for name in re.findall(r'^pub (?:extern "C" )?fn (\w+)', text_of(path), re.M):
+                if (crate, name) not in calls:
+                    yield f"docs/PROMISES.md: {crate}::{name} is not among the public calls"
+
+
+def head_of(crate, name):
+    """The file that has a public function, and the function's text up to its body; None if there is none."""
+    for path in sorted((ROOT / "crates" / crate / "src").glob("*.rt")):
+        found = re.search(rf'^pub (?:extern "C" )?fn {name}\(.*?^\{{$', text_of(path), re.M | re.S)
+        if found:
+            return path, found.group(0)
+    return None
+
+
+USE = r"^(?:ghost )?use Rattle·(\w+?)(?:·specs)?\.(specs|proofs)\.([\w′·.-]+?)(?:\.\{(.*)\}| as (\w+))?;?$"
+
+
+def imported(text, among=None):
+    """Crate, kind and module of what a file imports from a crate: all of it, or what one of the words `among` names."""
+    for crate, kind, module, names, alias in re.findall(USE, text, re.M):
+        brought = {re.split(r" as ", name.strip())[-1] for name in names.split(",")} if names else {alias or module.split(".")[-1]}
+        if among is None or brought & among:
+            yield crate, kind, module
+
+
+def believed_complaints():
+    page = text_of(ROOT / "docs/READING.md")
+    listed = set(re.findall(r"^\| `(\w+)/(\w+)` \| \d+ \|", page, re.M))
+    own = {path.name for path in (ROOT / "crates").iterdir() if path.is_dir()}
+    named = set(re.findall(r"`(\w+)`", re.search(r"\*\*the records and enums\.\*\*.*?\n\n", page, re.S).group(0)))
+    sources = [(f"crates/{crate}/specs/{name}.antt", imported(text_of(ROOT / "crates" / crate / "specs" / f"{name}.antt")))
+               for crate, name in sorted(listed) if (ROOT / "crates" / crate / "specs" / f"{name}.antt").exists()]
+    calls = public_calls()
+    yield from unlisted_calls(calls)
+    for crate, name in calls:
+        head = head_of(crate, name)
+        if head is None:
+            yield f"docs/PROMISES.md: crate {crate} has no public function {name}"
+            continue
+        words = set(re.findall(r"[\w′·]+", head[1]))
+        if re.search(r"^ *requires", head[1], re.M):
+            yield f"{crate}::{name} has a requires"
+        sources.append((f"{crate}::{name}", imported(text_of(head[0]), words)))
+        if re.search(r"-> [A-Z]", head[1]):
+            sources.append((f"{crate}::{name}", [(crate, "specs", "declared")]))
+    for source, modules in sources:
+        for crate, kind, module in modules:
+            if crate not in own:
+                continue
+            if kind == "specs" and module.startswith("declared"):
+                if crate not in named:
+                    yield f"{source}: docs/READING.md does not name {crate} among the crates that declare records"
+            elif kind != "specs" or (crate, module) not in listed:
+                yield f"{source}: it names what stands in {crate}/{kind}/{module.replace('.', '/')}, which docs/READING.md does not list"
+
+
 def main(arguments):
     if arguments not in ([], ["--write"]):
         print(__doc__, end="", file=sys.stderr)
@@ -218,7 +297,7 @@ def main(arguments):
     files = tracked()
     complaints = list(reading_complaints(arguments == ["--write"]))
     complaints += list(rule_complaints(files)) + list(name_complaints(files)) + list(constant_complaints())
-    complaints += list(table_complaints())
+    complaints += list(table_complaints()) + sorted(set(believed_complaints()))
     for complaint in complaints or ["names: all that is cited exists"]:
         print(complaint)
     return 1 if complaints and complaints[0] != "names: all that is cited exists" else 0

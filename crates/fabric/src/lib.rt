@@ -25,8 +25,8 @@ ghost use Rattle.description_board.specs.Records.{memoryLength};
 ghost use Rattle.description_layout.specs.Layout.{boardIn};
 ghost use Rattle.fabric_layout.specs.Layout.{stateIn};
 ghost use Rattle.fabric_calls.specs.Calls.{requestRefusal, postRefusalBy, takeRefusal, takenOf};
-ghost use Rattle.fabric_calls.specs.Code.Requests.{clockRefusalBy};
-ghost use Rattle.fabric_calls.specs.Lent.{request, Resets, Posts, Clocks, Runs, Takes};
+ghost use Rattle.fabric_calls.specs.Code.Refusals.{clockRefusalBy};
+ghost use Rattle.fabric_calls.specs.Lent.{Resets, Posts, Clocks, Runs, Takes};
 
 // The answer of clock beside its responses and lines (rules 4.13, 8.1): a refusal's number and 0, or 0 and the mask of masters finished.
 pub struct Answer {
@@ -138,7 +138,8 @@ pub fn post(
     beats: u32,
     words: &[u8],
 ) -> u32
-    ensures { λ r. ⌜ Posts (boardIn (now (board .entry))) (request master write address lanes beats (now (words .entry)))
+    ensures { λ r. ⌜ Posts (boardIn (now (board .entry)))
+        (record { master = master; write = write; address = address; lanes = lanes; beats = beats; words = now (words .entry) })
         (now (state .entry)) (now (state .exit)) (now (buffer .entry)) (now (buffer .exit)) r ⌝ }
 {
     let t = Transfer {

@@ -7,10 +7,10 @@ use Prim.Native.Nat.{ℕ, _≤_}
 use native.Mathlib.Omega.{arith}
 use lib.ListN.{length, getD, set, length-set}
 use lib.Seq.{getD-set-same, getD-set-other}
-use Rattle.description_layout.specs.Layout.{markOf}
+use Rattle.description_layout.specs.Layout.{marked, markOf}
 use Rattle.description_layout.proofs.NumbersLaws.{mark-back}
 use Rattle.fabric_layout.proofs.MarkLaws.{mark-small}
-use Rattle.fabric_calls.specs.Lent.{takenIn}
+use Rattle.fabric_calls.specs.Calls.{Take}
 
 module _ (l : List ℕ) (three : length l ≡ 3) (m a k : ℕ) where
   abbrev put : List ℕ
@@ -36,8 +36,9 @@ module _ (l : List ℕ) (three : length l ≡ 3) (m a k : ℕ) where
 
 -- so they are the answer's
 module _ (l : List ℕ) (three : length l ≡ 3) (n m a : ℕ) (w : Bool) {k : ℕ} (e : k ≡ markOf w) where
-  pub entry-taken : takenIn n (set (set (set l 0 m) 1 a) 2 k) ≡ record { number = n; master = m; address = a; write = w }
-  unfolding takenIn
+  pub entry-taken : let r = set (set (set l 0 m) 1 a) 2 k in
+      _≡_ {A = Take} (record { number = n; master = getD r 0 0; address = getD r 1 0; write = marked (getD r 2 0) })
+      (record { number = n; master = m; address = a; write = w })
   entry-taken = rw (put-master l three m a k, put-address l three m a k, put-write l three m a k, mark-back w e)
 
   pub entry-small : getD (set (set (set l 0 m) 1 a) 2 k) 2 0 ≤ 1

@@ -12,7 +12,7 @@ ghost use Rattle.description_layout.specs.Layout.{boardIn, marked};
 ghost use Rattle.description.specs.Lent.{Read};
 ghost use Rattle.description.specs.Blame.{refusedAt};
 ghost use Rattle.wait.specs.Answers.{waitRefusal, waitOutput};
-ghost use Rattle.fabric_calls.specs.Lent.{request, takenIn, Resets, Posts, Clocks, Runs, Takes};
+ghost use Rattle.fabric_calls.specs.Lent.{Resets, Posts, Clocks, Runs, Takes};
 
 // Wait and serve of a pair, on a description's bytes (rule 5.8): wait::wait_call.
 #[no_mangle]
@@ -84,7 +84,7 @@ pub extern "C" fn fabric_post(
     words: &[u8],
 ) -> u32
     ensures { λ r. ⌜ Posts (boardIn (now (board .entry)))
-        (request master (marked write) address lanes beats (now (words .entry)))
+        (record { master = master; write = marked write; address = address; lanes = lanes; beats = beats; words = now (words .entry) })
         (now (state .entry)) (now (state .exit)) (now (buffer .entry)) (now (buffer .exit)) r ⌝ }
 {
     fabric::post(
@@ -158,7 +158,13 @@ pub extern "C" fn fabric_take(
     entry: &mut [u32; ENTRY_NUMBERS],
 ) -> u32
     ensures { λ r. ⌜ Takes (boardIn (now (board .entry))) (now (state .entry)) (now (state .exit))
-        (takenIn r (now (entry .exit))) × (getD (now (entry .exit)) 2 0 ≤ 1) ⌝ }
+        (record {
+          number = r;
+          master = getD (now (entry .exit)) 0 0;
+          address = getD (now (entry .exit)) 1 0;
+          write = marked (getD (now (entry .exit)) 2 0);
+        })
+        × (getD (now (entry .exit)) 2 0 ≤ 1) ⌝ }
 {
     description_layout::count(entry);
     let a = fabric::take(board, state);

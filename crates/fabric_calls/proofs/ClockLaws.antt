@@ -18,7 +18,7 @@ use Rattle.fabric_state.specs.Soundness.{sound}
 use Rattle.fabric_layout.specs.Layout.{stateIn, linesIn}
 use Rattle.fabric_layout.proofs.MarkLaws.{marks-same}
 use Rattle.fabric_calls.specs.Calls.{clockRefusal, clock, storeAfterClock}
-use Rattle.fabric_calls.specs.Code.Requests.{clockRefusalBy}
+use Rattle.fabric_calls.specs.Code.Refusals.{clockRefusalBy}
 use Rattle.fabric_calls.specs.Lent.{Clocks}
 use Rattle.fabric_calls.proofs.PostLaws.{passed-number}
 

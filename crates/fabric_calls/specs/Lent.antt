@@ -3,14 +3,11 @@
 -- number. A refusal leaves every number of the state as it was (rule 8.1).
 -- Assumes nothing.
 use mathlib.Core.Path.{_≡_}
-use mathlib.Core.Bool.{Bool}
 use mathlib.Core.List.{List}
 use mathlib.Core.Logic.{_≢_}
 use Prim.Native.Nat.{ℕ}
-use lib.ListN.{getD}
 use Rattle.description_board.specs.declared.Board.{Board}
 use Rattle.fabric_transfer.specs.Bytes.{Store}
-use Rattle.description_layout.specs.Layout.{marked}
 use Rattle.fabric_state.specs.Posting.{Request, transferOf}
 use Rattle.fabric_layout.specs.Layout.{stateIn, linesIn}
 use Rattle.fabric_layout.specs.Numbers.{numbersOfState, transferPut, oldestRemoved, Marks}
@@ -23,10 +20,6 @@ pub record Resets (b : Board) (before after : List ℕ) (number : ℕ) : Type 0 
   pub state : number ≡ 0 → stateIn after ≡ reset b .state
   pub numbers : number ≡ 0 → after ≡ numbersOfState (reset b .state)
   pub kept : number ≢ 0 → after ≡ before
-
--- rule 3.1: the arguments of a post as one request
-abbrev pub request : ℕ → Bool → ℕ → ℕ → ℕ → List ℕ → Request
-request m w a l n bytes = record { master = m; write = w; address = a; lanes = l; beats = n; words = bytes }
 
 -- rules 2.4, 3.2, 3.3, 8.1: a post: its number, the state's numbers and the buffer before and after
 pub record Posts (b : Board) (q : Request) (before after buffer left : List ℕ) (number : ℕ) : Type 0 where
@@ -63,10 +56,6 @@ pub record Runs (b : Board) (most : ℕ) (before after responses lines : List �
       ≡ run b (record { state = stateIn before; store = d }) most
   pub marks : Marks before after
   pub kept : number ≢ 0 → after ≡ before
-
--- rules 2.4, 4.19: the answer of a take with this number and these three numbers of an entry
-unfoldable pub takenIn : ℕ → List ℕ → Take
-takenIn n l = record { number = n; master = getD l 0 0; address = getD l 1 0; write = marked (getD l 2 0) }
 
 -- rules 2.4, 4.19, 8.1: a take: its answer, and the state's numbers before and after
 pub record Takes (b : Board) (before after : List ℕ) (a : Take) : Type 0 where
