@@ -107,7 +107,7 @@ fn less_one(n: u32) -> u32
 }
 
 // The winner's grant, by its shares at this slave and the beats of its transfer (rules 4.4 to 4.6).
-fn grant_by(a: Arbiter, w: Winner, shares: u32, beats: u32) -> Grant
+pub fn grant_by(a: Arbiter, w: Winner, shares: u32, beats: u32) -> Grant
     ensures { λ r. ⌜ r ≡ grantBy a w shares beats ⌝ }
 {
     match w {
@@ -118,7 +118,7 @@ fn grant_by(a: Arbiter, w: Winner, shares: u32, beats: u32) -> Grant
 }
 
 // The slave's arbiter after the grant (rule 4.6); with none, no grant remains (rule 4.3).
-fn arbiter_after(a: Arbiter, g: Grant) -> Arbiter
+pub fn arbiter_after(a: Arbiter, g: Grant) -> Arbiter
     ensures { λ r. ⌜ r ≡ arbiterAfter a g ⌝ }
 {
     match g {
@@ -131,16 +131,4 @@ fn arbiter_after(a: Arbiter, g: Grant) -> Arbiter
             remaining: 0,
         },
     }
-}
-
-// Rule 1 on the slave's own arbiter (rules 4.3 to 4.6): it is lent, and the arbiter after the winner's grant is stored in it.
-pub fn arbitrate_record(a: &mut Arbiter, w: Winner, shares: u32, beats: u32) -> Grant
-    ensures answer { λ r. ⌜ r ≡ grantBy (now (a .entry)) w shares beats ⌝ }
-    ensures record { λ _. ⌜ now (a .exit) ≡ arbiterAfter (now (a .entry)) (grantBy (now (a .entry)) w shares beats) ⌝ }
-{
-    let last = *a;
-    let g = grant_by(last, w, shares, beats);
-    let next = arbiter_after(last, g);
-    *a = next;
-    g
 }

@@ -50,13 +50,14 @@ use Rattle.fabric_layout.specs.Code.Puts.{withSlot, withLate, firstLines}
 use Rattle.fabric_layout.proofs.StatePutLaws.{first-put}
 use Rattle.fabric_check.specs.Code.Targets.{targetsIn, requestMask}
 use Rattle.fabric_check.proofs.TargetLaws.{mask-holds}
+use Rattle.fabric_grant.specs.Code.Asking.{grantChosen, slotAsked}
 use Rattle.fabric_slave.specs.Code.Serving.{stepFrom, carriedFrom}
 use Rattle.fabric_slave.proofs.ServeLaws.{from-resting, carried-resting, step-is, carried-is}
 use Rattle.fabric_slave.proofs.ReachLaws.{start-next, grant-placed, grant-reached}
 use Rattle.fabric_cycle.specs.declared.Latent.{Latent}
 use Rattle.fabric_cycle.specs.Code.Latency.{countedTransfer, Counted}
 use Rattle.fabric_cycle.specs.Code.Cycles.{Passes, stateActed, Acted}
-use Rattle.fabric_cycle.specs.Code.SlaveClocks.{slotAsked, stepAt, carriedAt, latencyBehind, endedTransfer}
+use Rattle.fabric_cycle.specs.Code.SlaveClocks.{stepAt, carriedAt, latencyBehind, endedTransfer}
 use Rattle.fabric_cycle.specs.Code.SlaveClocks.{stateStepped, Serving, Ready, SlaveClocked}
 
 -- ---- a mask with one number more, and a list with one element more
@@ -396,7 +397,7 @@ module _ (b : Board) (u : State) (l : length (u .transfers) ≡ 8) (k : length (
                   absurd (omega (arith, runs-sound .holds m (holds-held b u s m q) .0, runs-legal .fewMasters))
 
           asked-same : slotAsked b v s mask ≡ slotAfterGrant b u s
-          unfolding slotAsked slotAfterGrant grantAt
+          unfolding slotAsked grantChosen slotAfterGrant grantAt
           asked-same =
               let f : bit mask ≡ requests b u s = fun-ext mask-bits in
               let g = granted-agree (b .«master_count») (requests b u s) (λ m. sharesAt b m s) (λ m. transferAt v m .beats)

@@ -5,7 +5,6 @@ use common_numbers::BOARD_NUMBERS;
 use common_numbers::LINES_NUMBERS;
 use common_numbers::SLAVES;
 use common_numbers::STATE_NUMBERS;
-use fabric_arbiter::Winner;
 use fabric_state::Entry;
 use fabric_state::NO_LINE;
 use fabric_state::Slot;
@@ -24,38 +23,11 @@ ghost use Rattle.fabric_layout.specs.Layout.{stateIn, linesIn};
 ghost use Rattle.fabric_layout.specs.Numbers.{Marks};
 ghost use Rattle.fabric_layout.specs.Code.Puts.{Leaves};
 ghost use Rattle.fabric_check.specs.Code.Targets.{targetsIn, requestMask, unmappedMask};
+ghost use Rattle.fabric_grant.specs.Code.Asking.{slotAsked};
 ghost use Rattle.fabric_cycle.specs.Code.Cycles.{Passes, Acted, Clocks};
 ghost use Rattle.fabric_cycle.specs.Code.Unmapped.{bytesHeld, clearedBehind, answeredAt, clearedAt, Answered, Answerable};
 ghost use Rattle.fabric_cycle.specs.Code.Latency.{countedAt, Counted};
-ghost use Rattle.fabric_cycle.specs.Code.SlaveClocks.{slotAsked, endedTransfer, Ready, Serving, SlaveClocked};
-
-// Rule 1 at slave s (rules 4.3 to 4.7), by a mask of who requests it: shares and beats are read once it is known whose.
-fn slot_asked(board: &[u32; BOARD_NUMBERS], st: &[u32; STATE_NUMBERS], s: usize, mask: u32) -> Slot
-    requires { ⌜ (s < 16) × (mask < 256) ⌝ }
-    ensures { λ r. ⌜ r ≡ slotAsked (boardIn (now (board .entry))) (stateIn (now (st .entry))) s mask ⌝ }
-{
-    let slot = fabric_layout::slot_at(st, s);
-    if slot.serving {
-        return slot;
-    }
-    let last = fabric_slave::arbiter_of(slot);
-    let w = fabric_arbiter::winner_of(description_layout::master_count(board), mask, last);
-    match w {
-        Winner::Again => fabric_slave::slot_granted(
-            slot,
-            w,
-            0,
-            fabric_layout::beats_at(st, last.owner as usize),
-        ),
-        Winner::First(m) => fabric_slave::slot_granted(
-            slot,
-            w,
-            description_layout::shares_at(board, m as usize, s),
-            fabric_layout::beats_at(st, m as usize),
-        ),
-        Winner::NoOne => fabric_slave::slot_granted(slot, w, 0, 0),
-    }
-}
+ghost use Rattle.fabric_cycle.specs.Code.SlaveClocks.{endedTransfer, Ready, Serving, SlaveClocked};
 
 // Who has no latency clocks to pass, and who passes its last one in a clock (rule 4.16): bit m for master m.
 pub struct Latent {
@@ -186,7 +158,7 @@ fn clock_slave(
         (record { memory = now (memory .entry); buffer = now (buffer .entry) })
         (record { memory = now (memory .exit); buffer = now (buffer .exit) }) × Marks (now (st .entry)) (now (st .exit)) ⌝ }
 {
-    let slot = slot_asked(board, st, s, mask);
+    let slot = fabric_grant::slot_asked(board, st, s, mask);
     if slot.serving {
         return serve_at(board, st, s, slot, start, lines, memory, buffer);
     }

@@ -1,3 +1,2 @@
-pub mod SlotGrantLaws
 pub mod ServeLaws
 pub mod ReachLaws

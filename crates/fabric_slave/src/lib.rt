@@ -1,9 +1,6 @@
-// One slave's clock: the grant, the wait or the access, and the line that it shows (rules 4.3 to 4.9, 4.13).
+// One slave's clock after rule 1: the wait or the access, and the line that it shows (rules 4.8, 4.9, 4.13).
 use description_board::Master;
 use description_board::Slave;
-use fabric_arbiter::Arbiter;
-use fabric_arbiter::Grant;
-use fabric_arbiter::Winner;
 use fabric_state::Line;
 use fabric_state::Slot;
 use fabric_state::Step;
@@ -11,55 +8,9 @@ use fabric_transfer::Transfer;
 ghost use mathlib.Core.Path.{_≡_};
 ghost use mathlib.Core.Bool.{true};
 ghost use Rattle.fabric_transfer.specs.Accesses.{accesses, accessNumber};
-ghost use Rattle.fabric_arbiter.specs.Code.Winning.{grantBy};
 ghost use Rattle.fabric_transfer.specs.Code.Reaching.{Reached};
-ghost use Rattle.fabric_state.specs.Records.{arbiterOf};
-ghost use Rattle.fabric_state.specs.Control.{slotBy, slotGranted, lineOf, waits, served};
+ghost use Rattle.fabric_state.specs.Control.{lineOf, waits, served};
 ghost use Rattle.fabric_slave.specs.Code.Serving.{Placed, Serves, Served, carriedFrom};
-
-// The slave's arbiter (rule 4.1).
-pub fn arbiter_of(slot: Slot) -> Arbiter
-    ensures { λ r. ⌜ r ≡ arbiterOf slot ⌝ }
-{
-    Arbiter {
-        owner: slot.owner,
-        remaining: slot.remaining,
-    }
-}
-
-// The slot by its arbiter after a grant, or after none (rule 4.7).
-fn slot_by(slot: Slot, a: Arbiter, g: Grant) -> Slot
-    ensures { λ r. ⌜ r ≡ slotBy slot a g ⌝ }
-{
-    let owner = a.owner;
-    let remaining = a.remaining;
-    match g {
-        Grant::Granted(m, left) => Slot {
-            owner: owner,
-            remaining: remaining,
-            serving: true,
-            done: 0,
-            waited: 0,
-        },
-        Grant::Silent => Slot {
-            owner: owner,
-            remaining: remaining,
-            serving: false,
-            done: slot.done,
-            waited: slot.waited,
-        },
-    }
-}
-
-// Rule 1 at a slave that does not serve (rules 4.3 to 4.7), by the winner's shares at it and the beats of the winner's transfer:
-// the slave's arbiter is lent to the rule, and stands in the slot after it.
-pub fn slot_granted(slot: Slot, w: Winner, shares: u32, beats: u32) -> Slot
-    ensures { λ r. ⌜ r ≡ slotGranted slot (grantBy (arbiterOf slot) w shares beats) ⌝ }
-{
-    let mut a = arbiter_of(slot);
-    let g = fabric_arbiter::arbitrate_record(&mut a, w, shares, beats);
-    slot_by(slot, a, g)
-}
 
 // What the slave shows of the access in hand, access a, of a transfer with so many in total (rule 4.13).
 fn line_of(ma: Master, sl: Slave, t: Transfer, slot: Slot, total: u64, a: u32, phase: u32) -> Line

@@ -1,4 +1,4 @@
--- Gives the code of fabric_arbiter and fabric_cycle its shape: rule 1 in two steps, who is granted, then the grant.
+-- Gives the code of fabric_arbiter and fabric_grant its shape: rule 1 in two steps, who is granted, then the grant.
 -- The grant is by that master's shares and beats. The laws that both steps together are `granted` end `GrantLaws`.
 -- Assumes nothing.
 use mathlib.Core.Bool.{Bool, cond, _&&_}

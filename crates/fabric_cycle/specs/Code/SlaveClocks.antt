@@ -7,28 +7,19 @@ use mathlib.Core.List.{List}
 use Prim.Native.Nat.{ℕ, _^_, _<_}
 use lib.Dec.{eqb}
 use lib.ListN.{set}
-use Rattle.common_laws.specs.Bits.{bit}
 use Rattle.description_board.specs.declared.Board.{Board}
-use Rattle.description_board.specs.Records.{masterAt, slaveAt, sharesAt}
+use Rattle.description_board.specs.Records.{masterAt, slaveAt}
 use Rattle.fabric_transfer.specs.Accesses.{noTransfer, latencyOf}
-use Rattle.fabric_arbiter.specs.Granting.{granted}
 use Rattle.fabric_transfer.specs.Bytes.{Store}
 use Rattle.fabric_state.specs.declared.Slot.{Slot}
 use Rattle.fabric_state.specs.declared.State.{State}
 use Rattle.fabric_state.specs.declared.Line.{Line}
 use Rattle.fabric_state.specs.declared.Step.{Step}
-use Rattle.fabric_state.specs.Records.{transferAt, slotAt, arbiterOf}
+use Rattle.fabric_state.specs.Records.{transferAt}
 use Rattle.fabric_state.specs.Posting.{withTransfer}
-use Rattle.fabric_state.specs.Control.{slotGranted}
 use Rattle.fabric_layout.specs.Code.Puts.{withSlot, withLate}
+use Rattle.fabric_grant.specs.Code.Asking.{slotAsked}
 use Rattle.fabric_slave.specs.Code.Serving.{stepFrom, carriedFrom, Serves}
-
--- slave s after rule 1 (rules 4.3 to 4.7), by a mask of who requests it
-unfoldable pub slotAsked : Board → State → ℕ → ℕ → Slot
-slotAsked b st s mask =
-    cond (slotAt st s .serving) (slotAt st s)
-    (slotGranted (slotAt st s)
-    (granted (b .«master_count») (bit mask) (λ m. sharesAt b m s) (λ m. transferAt st m .beats) (arbiterOf (slotAt st s))))
 
 -- the step of slave s from its slot x after rule 1
 unfoldable pub stepAt : Board → State → ℕ → Slot → Step

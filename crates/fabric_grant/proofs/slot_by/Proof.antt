@@ -1,9 +1,9 @@
--- `fabric_slave::slot_by` meets its contract: a grant, and none.
+-- `fabric_grant::slot_by` meets its contract: a grant, and none.
 -- Assumes nothing.
 use borrow.Author.Needs.{needs}
-use Rattle.fabric_slave.proofs.SlotGrantLaws.{by-granted, by-silent}
-use Rattle.fabric_slave.proofs.slot_by.Statement.{statement}
-use Rattle.fabric_slave.proofs.slot_by.Tie as tie
+use Rattle.fabric_grant.proofs.AskingLaws.{by-granted, by-silent}
+use Rattle.fabric_grant.proofs.slot_by.Statement.{statement}
+use Rattle.fabric_grant.proofs.slot_by.Tie as tie
 
 enum-known-g : tie.Need-enum-known-g
 enum-known-g c = search needs
