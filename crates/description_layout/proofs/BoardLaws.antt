@@ -98,9 +98,5 @@ board-none =
 
 -- ---- whole arrays
 
--- a list of n numbers is the table of them
-pub all-numbers : (l : List ℕ) (n : ℕ) → length l ≡ n → table (λ k. getD l k 0) n ≡ l
-all-numbers l n e = sym (table-is (λ k. getD l k 0) n 0 l e (λ k h. refl))
-
 pub all-zero : (n : ℕ) → table {X = ℕ} (λ k. 0) n ≡ replicate n 0
 all-zero n = same-table {X = ℕ} (λ k. 0) n 0 (λ i. refl)

@@ -47,17 +47,18 @@ module _ (l : List ℕ) where
   front-spelled : numbersOfBoard (boardIn l) ≡ part l 0 defaultAt ++ markOf (boardIn l .«default_line») ∷ []
   unfolding numbersOfBoard
   front-spelled =
+      let cards : ℕ = slaveLength * 16 in
       let z : List ℕ = markOf (boardIn l .«default_line») ∷ [] in
       let masters : gather (λ m. numbersOfMaster (masterAt (boardIn l) m)) 8 ≡ part l 2 16 =
       part-gather l 2 2 _ 8 (λ m h. ap numbersOfMaster (sym (master-read l m h)) ∙ master-spelled (2 + 2 * m)) in
-      let slaves : gather (λ s. numbersOfSlave (slaveAt (boardIn l) s)) 16 ≡ part l 18 128 =
+      let slaves : gather (λ s. numbersOfSlave (slaveAt (boardIn l) s)) 16 ≡ part l 18 cards =
       part-gather l 18 slaveLength _ 16
       (λ s h. ap numbersOfSlave (sym (slave-read l s h)) ∙ slave-spelled (18 + slaveLength * s)) in
-      let upper : part l 2 16 ++ part l 18 128 ≡ part l 2 144 = part-join l 2 16 128 in
-      let all : part l 2 144 ++ part l sharesFrom 128 ≡ part l 2 272 = part-join l 2 144 128 in
+      let upper : part l 2 16 ++ part l 18 cards ≡ part l 2 (16 + cards) = part-join l 2 16 cards in
+      let all : part l 2 (16 + cards) ++ part l sharesFrom 128 ≡ part l 2 (16 + cards + 128) = part-join l 2 (16 + cards) 128 in
       rw (masters, slaves, shares-spelled, upper, all, counts-spelled .0, counts-spelled .1)
       (ap (λ (x : List ℕ). x ++ z)
-      (ap (λ (x : List ℕ). getD l 0 0 ∷ x) (part-cons l 1 272) ∙ part-cons l 0 273))
+      (ap (λ (x : List ℕ). getD l 0 0 ∷ x) (part-cons l 1 (16 + cards + 128)) ∙ part-cons l 0 (17 + cards + 128)))
 
 -- what a copy leaves: the numbers of l in front of the mark, and the mark put anew
 module _ (l : List ℕ) (g : ℕ → ℕ) {r : List ℕ} (e : r ≡ filled (λ i. getD l i 0) g boardLength defaultAt) where

@@ -15,7 +15,7 @@ use Rattle.common_laws.proofs.SetsLaws.{counted-apart, counted-inside, records-
 use Rattle.description_board.specs.declared.Slave.{Slave}
 use Rattle.description_board.specs.Rules.{withMaster, withSlave, withDefault}
 use Rattle.description_layout.specs.Layout.{marked, slaveLength, sharesFrom, defaultAt, boardLength}
-use Rattle.description_layout.specs.Layout.{masterFrom, slaveFrom, boardIn}
+use Rattle.description_layout.specs.Layout.{masterFrom, slaveFrom, numbersOfSlave, boardIn}
 use Rattle.description_layout.specs.Code.Puts.{withShareAt}
 
 -- where slave s begins
@@ -83,10 +83,7 @@ stored l p s =
     (set (set (five l p (s .base) (s .span) (s .width) (s .burst) (s .«read_wait»)) (p + 5) (s .«write_wait»)) (p + 6) (s .native))
     (p + 7) (s .latency)
 
-abbrev numbers : Slave → List ℕ
-numbers s = s .base ∷ s .span ∷ s .width ∷ s .burst ∷ s .«read_wait» ∷ s .«write_wait» ∷ s .native ∷ s .latency ∷ []
-
-slave-sets : (l : List ℕ) (p : ℕ) (s : Slave) → stored l p s ≡ sets l p (numbers s)
+slave-sets : (l : List ℕ) (p : ℕ) (s : Slave) → stored l p s ≡ sets l p (numbersOfSlave s)
 slave-sets l p s =
     let q : p + 6 ≡ suc (suc (suc (suc (suc (suc p))))) = omega arith in
     let r : p + 7 ≡ suc (suc (suc (suc (suc (suc (suc p)))))) = omega arith in
@@ -98,7 +95,7 @@ pub slave-put : (l : List ℕ) → length l ≡ boardLength → (s : Slave) (n :
 unfolding boardIn withSlave slaveFrom
 slave-put l e s n q h =
     let p = at n in
-    let vs = numbers s in
+    let vs = numbersOfSlave s in
     let y = set (sets l p vs) 1 (n + 1) in
     let apart = counted-apart vs l p 1 (n + 1) (omega arith) in
     let inside = counted-inside vs l p 1 (n + 1) (omega arith) (rw e (omega arith)) in

@@ -1,7 +1,7 @@
 -- The pass over the slaves that makes one clock: why the state may be changed in place, and the steps of the loop.
 -- Assumes nothing.
 use mathlib.Core.Path.{_≡_, refl, sym, ap, _∙_, fun-ext}
-use mathlib.Core.Bool.{Bool, true, false, cond, not, _&&_, _||_, and-true, and-false, or-false, true≢false}
+use mathlib.Core.Bool.{Bool, true, false, cond, not, _&&_, _||_, and-true, and-false, or-false}
 use mathlib.Core.Logic.{_≢_}
 use mathlib.Core.List.{List}
 use Prim.Native.Nat.{ℕ, zero, suc, _+_, _-_, _^_, _≤_, _<_}
@@ -12,14 +12,14 @@ use lib.Dec.{ltb, eqb}
 use lib.ListN.{length, getD, set}
 use lib.Bits.{bitAnd, and-le-l}
 use lib.Seq.{set-getD}
-use borrow.Author.Tests.{lt-ltb, le-ltb, ltb-true, ltb-false, eqb-true, eqb-false, eq-eqb, ne-eqb}
+use borrow.Author.Tests.{lt-ltb, le-ltb, ltb-true, ltb-false, eqb-true, eq-eqb, ne-eqb}
 use Rattle.common_laws.specs.Bits.{bit}
 use Rattle.common_laws.specs.Lists.{table, sum, some}
 use Rattle.common_laws.proofs.Tests.{both}
-use Rattle.common_laws.proofs.TableLaws.{getD-table, none-all, mask, mask-lt, bit-mask, bit-mask-past}
+use Rattle.common_laws.proofs.TableLaws.{getD-table, none-all, mask, mask-lt, bit-mask}
 use Rattle.common_laws.proofs.TableLaws as masks
 use Rattle.common_laws.proofs.BitLaws.{bit-and}
-use Rattle.common_laws.proofs.FillLaws.{sum-same, table-is, set-table, filled, filled-none, filled-next}
+use Rattle.common_laws.proofs.FillLaws.{sum-same, set-table, filled, filled-none, filled-next}
 use Rattle.common_laws.proofs.FrontLaws.{table-same}
 use Rattle.description_board.specs.declared.Slave.{Slave}
 use Rattle.description_board.specs.declared.Board.{Board}

@@ -11,7 +11,6 @@ use fabric_state::Slot;
 use fabric_transfer::NO_TRANSFER;
 use fabric_transfer::Transfer;
 ghost use mathlib.Core.Path.{_≡_};
-ghost use mathlib.Core.Bool.{false};
 ghost use Prim.Native.Nat.{_*_, _≤_, _<_};
 ghost use lib.ListN.{length};
 ghost use Rattle.common_laws.specs.Lists.{table, sum};

@@ -12,7 +12,7 @@ use denote.RattleType.{RattleType}
 use denote.Array.{Array}
 use denote.Builtin.{u32, usize}
 use denote.Ref.{RefT, ShrRef, now, ptr-vals}
-use Rattle.description_layout.specs.Layout.{boardIn}
+use Rattle.description_layout.specs.Layout.{boardLength, boardIn}
 use Rattle.fabric_layout.specs.Layout.{stateIn}
 use Rattle.fabric_arbiter.specs.declared.Arbiter.{Arbiter}
 use Rattle.fabric_arbiter.specs.declared.Grant.{Grant}
@@ -30,7 +30,7 @@ mask z = z .1 .1 .1 .0
 
 -- its types: the board is lent for κ, the state for μ
 abbrev pub kinds : Lifetime → Lft → Lifetime → Lft → List RattleType
-kinds ℓ κ m μ = ShrRef ℓ κ (Array u32 275) ∷ ShrRef m μ (Array u32 154) ∷ usize ∷ u32 ∷ []
+kinds ℓ κ m μ = ShrRef ℓ κ (Array u32 boardLength) ∷ ShrRef m μ (Array u32 154) ∷ usize ∷ u32 ∷ []
 
 -- its machine values, by parameter, and in a row
 abbrev pub machine : Rest → List Val × (List Val × (List Val × (List Val × Unit {0})))

@@ -48,6 +48,7 @@ use denote.Triple.Walked.{says, needs, Stays, stay-dropped, walkOf, AllGo, goes-
 use denote.Triple.Clauses.{ensured, lasts}
 use denote.Exit.{yes}
 use borrow.Table.OneValue.{part-in, part-out}
+use Rattle.description_layout.specs.Layout.{boardLength}
 use Rattle.fabric_arbiter.specs.declared.Arbiter.{Arbiter}
 use Rattle.fabric_arbiter.specs.declared.Grant.{Grant}
 use Rattle.fabric_arbiter.specs.Granting.{arbiterAfter}
@@ -225,7 +226,7 @@ module _ {M : Type 1} (𝓤 : URA M) (H : Heap 𝓤) (A : Atoms 𝓤) (W : Given
       (λ κs. (
         SL.tells R.the-type R′.the-laws,
         (
-          shr-tells (named 0) (κs .0) (Array u32 275),
+          shr-tells (named 0) (κs .0) (Array u32 boardLength),
           (shr-tells (named 1) (κs .1 .0) (Array u32 154), (uint-tells w64, (uint-tells w32, tt))),
         ),
       ))
@@ -237,7 +238,7 @@ module _ {M : Type 1} (𝓤 : URA M) (H : Heap 𝓤) (A : Atoms 𝓤) (W : Given
   goes = (
     goes-dropped 𝓤 H A W 2 (plain (λ _. R.the-row)) yes (λ κs y k. refl),
     (
-      goes-dropped 𝓤 H A W 2 (shrRefTo (0 ∷ []) tt (arrayOf (plain (λ _. u32)) 275)) yes (λ κs y k. refl),
+      goes-dropped 𝓤 H A W 2 (shrRefTo (0 ∷ []) tt (arrayOf (plain (λ _. u32)) boardLength)) yes (λ κs y k. refl),
       (
         goes-dropped 𝓤 H A W 2 (shrRefTo (1 ∷ []) tt (arrayOf (plain (λ _. u32)) 154)) yes (λ κs y k. refl),
         (

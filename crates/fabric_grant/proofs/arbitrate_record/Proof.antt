@@ -46,6 +46,7 @@ use denote.Triple.Walked.{Stays, stay-ref, stay-dropped, walkOf, AllGo, says, ne
 use denote.Triple.Walked.{goes-dropped, goes-ref, Walks, ends-at, walked, walk-meets}
 use denote.Triple.Clauses.{ensured, lasts}
 use denote.Exit.{yes}
+use Rattle.description_layout.specs.Layout.{boardLength}
 use Rattle.fabric_arbiter.specs.declared.Arbiter.{Arbiter}
 use Rattle.fabric_arbiter.specs.declared.Grant.{Grant}
 use Rattle.fabric_arbiter.specs.Granting.{arbiterAfter}
@@ -239,7 +240,7 @@ module _ {M : Type 1} (𝓤 : URA M) (H : Heap 𝓤) (A : Atoms 𝓤) (W : Given
       (λ κs. (
         mut-tells (named 0) (κs .0) R.the-row,
         (
-          shr-tells (named 1) (κs .1 .0) (Array u32 275),
+          shr-tells (named 1) (κs .1 .0) (Array u32 boardLength),
           (shr-tells (named 2) (κs .1 .1 .0) (Array u32 154), (uint-tells w64, (uint-tells w32, tt))),
         ),
       ))
@@ -252,7 +253,7 @@ module _ {M : Type 1} (𝓤 : URA M) (H : Heap 𝓤) (A : Atoms 𝓤) (W : Given
   goes = (
     goes-ref 𝓤 H A W 3 0 tt (plain (λ _. R.the-row)),
     (
-      goes-dropped 𝓤 H A W 3 (shrRefTo (1 ∷ []) tt (arrayOf (plain (λ _. u32)) 275)) yes (λ κs y k. refl),
+      goes-dropped 𝓤 H A W 3 (shrRefTo (1 ∷ []) tt (arrayOf (plain (λ _. u32)) boardLength)) yes (λ κs y k. refl),
       (
         goes-dropped 𝓤 H A W 3 (shrRefTo (2 ∷ []) tt (arrayOf (plain (λ _. u32)) 154)) yes (λ κs y k. refl),
         (
