@@ -2,7 +2,8 @@
  * What the calls do to the numbers and bytes they are lent: which numbers are refused and with what (refusal k is rule 7.k),
  * that a refusal leaves everything as it was (rule 8.1), which master is named where one has no share line (rule 8.3), what a
  * native slave does with a master's word (rule 4.10), when a read at a slave with latency is finished (rule 4.16), what becomes of
- * an unmapped transfer and of the log (rules 4.17 to 4.19), and that a run of clocks leaves what as many clocks leave (rule 4.15).
+ * an unmapped transfer and of the log (rules 4.17 to 4.19), that a run of clocks leaves what as many clocks leave (rule 4.15), and
+ * which numbers the calls put for marks, and which they leave (rules 1.10 and 2.4).
  */
 #include <stdio.h>
 #include <stdlib.h>
@@ -1786,6 +1787,308 @@ static void runs_of_boards(void)
     runs(1, 63, 256);
 }
 
+/* Numbers one by one, marks as they stand; the first that is another is named by its place. */
+static void check_same(const char *name, const void *got, const void *due, uint32_t count)
+{
+    const uint32_t *g = (const uint32_t *)got, *d = (const uint32_t *)due;
+    char place[128];
+    uint32_t i = 0;
+
+    while (i + 1 < count && g[i] == d[i])
+        i++;
+    sprintf(place, "%s, number %u of %u", name, (unsigned)i, (unsigned)count);
+    check_number(place, g[i], d[i]);
+}
+
+static uint64_t drawn = 1;
+
+/* A number below n, the next of a series that is always the same. */
+static uint32_t below(uint32_t n)
+{
+    drawn = drawn * UINT64_C(6364136223846793005) + UINT64_C(1442695040888963407);
+    return (uint32_t)((drawn >> 33) % n);
+}
+
+/* A mark that is yes and that no call puts: 7, a number whose lowest byte is 0, or one that tells its place from others. */
+static uint32_t odd_mark(void)
+{
+    uint32_t kind = below(3);
+
+    if (kind == 0)
+        return 7;
+    return kind == 1 ? UINT32_C(256) << below(24) : below(UINT32_C(0x80000000)) << 1 | 2;
+}
+
+/* So many numbers, none of which a call puts for a mark. */
+static void put_odd(void *numbers, uint32_t count)
+{
+    for (uint32_t i = 0; i < count; i++)
+        ((uint32_t *)numbers)[i] = odd_mark();
+}
+
+/* The place of a member among the numbers of a state. */
+#define PLACE(member) ((uint32_t)(offsetof(struct fabric_state, member) / sizeof(uint32_t)))
+
+/* Whether number i of a state is a mark (rule 2.4): held and write of a transfer, serving, lost, write of an entry. */
+static int is_mark(uint32_t i)
+{
+    if (i < PLACE(slot))
+        return i % 5 < 2;
+    if (i < PLACE(late))
+        return (i - PLACE(slot)) % 5 == 2;
+    return i == PLACE(log.lost) || (i >= PLACE(log.entry) && (i - PLACE(log.entry)) % 3 == 2);
+}
+
+/* Whether number i of a state does not count (rule 2.4): of a transfer not held, a slot of no slave, an entry from the count on. */
+static int idle_number(const struct lent *l, uint32_t i)
+{
+    if (i < PLACE(slot))
+        return i % 5 != 0 && l->state.transfer[i / 5].held == 0;
+    if (i < PLACE(late))
+        return (i - PLACE(slot)) / 5 >= l->board.slave_count;
+    return i >= PLACE(log.entry) && (i - PLACE(log.entry)) / 3 >= l->state.log.count;
+}
+
+/* Other numbers in `tried` for every mark that is yes, and for what does not count. The lost mark is drawn: no rule judges it. */
+static void put_marks(void)
+{
+    uint32_t *n = (uint32_t *)&tried.state;
+
+    tried.state.log.lost = below(2);
+    for (uint32_t i = 0; i < FABRIC_STATE_NUMBERS; i++) {
+        if (idle_number(&tried, i) || (is_mark(i) && n[i] != 0))
+            n[i] = odd_mark();
+    }
+}
+
+/*
+ * A board of so many masters and slaves, of every width, with waits, latency and native slaves. All masters have shares at slave 0,
+ * after each slave is a hole, and the spans of 16 slaves are as long as the memory.
+ */
+static void set_many(uint32_t masters, uint32_t slaves, uint32_t default_line)
+{
+    struct fabric_board *b = &tried.board;
+
+    tried = fresh;
+    memset(b, 0, sizeof *b);
+    b->master_count = masters;
+    b->slave_count = slaves;
+    b->default_line = default_line;
+    for (uint32_t i = 0; i < masters * slaves; i++) {
+        uint32_t m = i / slaves, s = i % slaves;
+        struct fabric_master master = {1u << m % 4, 1u << m % 7};
+        struct fabric_slave slave = {1024 * s, s < 7 ? 512u : 64u, 1u << s % 4, 1u << s % 5, s % 3, s % 2, s % 3 / 2, s % 5};
+
+        b->master[m] = master;
+        b->slave[s] = slave;
+        if (s == 0 || ((m + s) % 3 != 0 && (slave.native == 0 || master.width >= slave.width)))
+            b->shares[m][s] = 1 + (m + s) % 4;
+    }
+}
+
+/* A reset puts every number, the marks as 0, whatever stood there (rule 4.2): on boards of every count of masters and slaves. */
+static void reset_numbers(void)
+{
+    for (uint32_t i = 0; i < FABRIC_MASTERS * FABRIC_SLAVES; i++) {
+        uint32_t masters = 1 + i / FABRIC_SLAVES, slaves = 1 + i % FABRIC_SLAVES;
+
+        set_many(masters, slaves, i % 3 == 0 ? 0 : odd_mark());
+        put_odd(&tried.state, FABRIC_STATE_NUMBERS);
+        expected = tried;
+        memset(&expected.state, 0, sizeof expected.state);
+        for (uint32_t s = 0; s < slaves; s++)
+            expected.state.slot[s].owner = masters - 1;
+        check_number("a reset over other numbers", reset(&tried), FABRIC_TAKEN);
+        check_same("the state after a reset", &tried.state, &expected.state, FABRIC_STATE_NUMBERS);
+        check("a reset leaves the board", same_lent(&tried, &expected));
+    }
+}
+
+/* The text of a board (rule 1.9). */
+static void text_of(const struct fabric_board *b, char *text)
+{
+    for (uint32_t m = 0; m < b->master_count; m++)
+        text += sprintf(text, "master,%u,%u\n", (unsigned)b->master[m].width, (unsigned)b->master[m].burst);
+    for (uint32_t i = 0; i < b->slave_count; i++) {
+        const struct fabric_slave *s = &b->slave[i];
+
+        text += sprintf(text, "slave,%u,%u,%u,%u,%u,%u,%u,%u\n", (unsigned)s->base, (unsigned)s->span, (unsigned)s->width,
+                        (unsigned)s->burst, (unsigned)s->read_wait, (unsigned)s->write_wait, (unsigned)s->native,
+                        (unsigned)s->latency);
+    }
+    for (uint32_t i = 0; i < FABRIC_MASTERS * FABRIC_SLAVES; i++) {
+        uint32_t m = i / FABRIC_SLAVES, s = i % FABRIC_SLAVES;
+
+        if (b->shares[m][s] != 0)
+            text += sprintf(text, "share,%u,%u,%u\n", (unsigned)m, (unsigned)s, (unsigned)b->shares[m][s]);
+    }
+    strcpy(text, b->default_line != 0 ? "default\n" : "");
+}
+
+/* A reading puts every number, the mark as 0 or 1, whatever stood there: the same boards, from their texts. */
+static void read_numbers(void)
+{
+    static char text[FABRIC_TEXT_BYTES];
+
+    for (uint32_t i = 0; i < 2 * FABRIC_MASTERS * FABRIC_SLAVES; i++) {
+        set_many(1 + i / 2 / FABRIC_SLAVES, 1 + i / 2 % FABRIC_SLAVES, i % 2);
+        text_of(&tried.board, text);
+        put_odd(&other.board, FABRIC_BOARD_NUMBERS);
+        check_number("a reading over other numbers", read_text(text, strlen(text), &other.board), FABRIC_TAKEN);
+        check_same("the board read", &other.board, &tried.board, FABRIC_BOARD_NUMBERS);
+    }
+}
+
+/* What has come of the clocks of a board, so that nothing is left untried. */
+struct happened {
+    unsigned long granted, served, freed, late, finished, entered, dropped, reads, writes, taken;
+};
+static struct happened happened;
+
+static void note_clocks(const struct lent *before)
+{
+    for (uint32_t s = 0; s < tried.board.slave_count; s++) {
+        int was = before->state.slot[s].serving != 0, is = tried.state.slot[s].serving != 0;
+
+        happened.granted += !was && is;
+        happened.served += was && is;
+        happened.freed += was && !is;
+    }
+    happened.late += !all_zero(tried.state.late, sizeof tried.state.late);
+    happened.finished += tried.mask != 0;
+    happened.entered += tried.state.log.count > before->state.log.count;
+    happened.dropped += before->state.log.lost == 0 && tried.state.log.lost != 0;
+}
+
+/*
+ * A post that is drawn, to a slave or into the hole after it. One that is accepted puts the five numbers of its transfer, held as 1
+ * and write as 0 or 1, and the words of a write; all else stays, number for number. One that is refused changes nothing.
+ */
+static void post_drawn(uint32_t m)
+{
+    const struct fabric_slave *s = &tried.board.slave[below(tried.board.slave_count)];
+    uint32_t width = tried.board.master[m].width, write = below(2) == 0 ? 0 : odd_mark();
+    uint32_t beats = below(2) == 0 ? 1 : 1 + below(tried.board.master[m].burst);
+    uint32_t lanes = beats == 1 && below(2) == 0 ? 1u << below(width) : (1u << width) - 1;
+    uint32_t offset = (below(3) == 0 ? s->span : 0) + width * below(s->span / width);
+    struct fabric_transfer t = {1, one_if(write), s->base + offset, lanes, beats};
+    size_t length = write != 0 ? beats * width : 0;
+    uint32_t due = FABRIC_TAKEN;
+
+    expected = tried;
+    expected.state.transfer[m] = t;
+    memcpy(expected.buffer + FABRIC_PART_BYTES * m, words, length);
+    if ((unmapped(&expected) >> m & 1) == 0)
+        due = offset + beats * width > s->span ? FABRIC_PAST_END : FABRIC_TAKEN;
+    else if (tried.board.default_line == 0)
+        due = FABRIC_NOT_CONNECTED;
+    if (due != FABRIC_TAKEN)
+        expected = tried;
+    check_number("a post beside other marks", post(&tried, m, write, t.address, lanes, beats, length), due);
+    check_same("the state after a post", &tried.state, &expected.state, FABRIC_STATE_NUMBERS);
+    check("a post leaves all else", same_lent(&tried, &expected));
+    happened.reads += due == FABRIC_TAKEN && write == 0;
+    happened.writes += due == FABRIC_TAKEN && write != 0;
+}
+
+/* A take moves entries number for number, their marks as they stand, and leaves every other number. It answers 0 or 1. */
+static void take_marked(void)
+{
+    take_expected();
+    memset(&tried.entry, 0xa5, sizeof tried.entry);
+    check_number("a take of other marks", take(&tried), FABRIC_TAKEN);
+    check_same("the entry taken", &tried.entry, &expected.entry, FABRIC_ENTRY_NUMBERS);
+    check_same("the state after a take", &tried.state, &expected.state, FABRIC_STATE_NUMBERS);
+    check("a take leaves all that is lent", same_lent(&tried, &expected));
+    happened.taken++;
+}
+
+/*
+ * After a clock or a run of clocks each mark is 0, 1 or what it was, what does not count is what it was, and all numbers of a
+ * transfer that is finished are 0 (rule 4.9).
+ */
+static void check_marks(const struct lent *before)
+{
+    const uint32_t *was = (const uint32_t *)&before->state;
+    struct fabric_state due = tried.state;
+    uint32_t *d = (uint32_t *)&due;
+
+    for (uint32_t i = 0; i < FABRIC_STATE_NUMBERS; i++) {
+        if (i < PLACE(slot) && (tried.mask >> i / 5 & 1) != 0)
+            d[i] = 0;
+        else if ((is_mark(i) && d[i] > 1) || (idle_number(before, i) && idle_number(&tried, i)))
+            d[i] = was[i];
+    }
+    check_same("the marks after clocks", &tried.state, &due, FABRIC_STATE_NUMBERS);
+}
+
+/* A clock, or a run of clocks if `most` is above 0, beside the same with marks of 0 and 1: only the numbers of marks are others. */
+static void clocks_marked(uint32_t most)
+{
+    struct lent before = tried;
+    struct fabric_state plain;
+
+    other = tried;
+    other.state = marked(tried.state);
+    check_number("clocks of other marks", most == 0 ? clock_once(&tried) : run(&tried, most), FABRIC_TAKEN);
+    check_number("clocks of marks of 0 and 1", most == 0 ? clock_once(&other) : run(&other, most), FABRIC_TAKEN);
+    check("both answer the same", same_answer(&tried, &other) && tried.clocks == other.clocks);
+    check("both leave the same", same_marked(&tried, &other));
+    check("clocks leave the board", memcmp(&tried.board, &before.board, sizeof before.board) == 0);
+    check_marks(&before);
+    plain = marked(other.state);
+    check_same("marks of 0 and 1 after clocks", &other.state, &plain, FABRIC_STATE_NUMBERS);
+    note_clocks(&before);
+}
+
+/* Posts, takes and clocks on the board of `tried`, from a full log on; other marks are put before posts and before clocks. */
+static void marks_of_board(void)
+{
+    const struct happened none = {0, 0, 0, 0, 0, 0, 0, 0, 0, 0}, *h = &happened;
+    int line = tried.board.default_line != 0;
+
+    happened = none;
+    check_number("a reset before other marks", reset(&tried), FABRIC_TAKEN);
+    fill_log(FABRIC_LOG_ENTRIES, 0);
+    for (uint32_t i = 0; i < 600; i++) {
+        put_marks();
+        for (uint32_t m = 0; m < tried.board.master_count; m++) {
+            if (tried.state.transfer[m].held == 0 && below(4) != 0)
+                post_drawn(m);
+        }
+        if (tried.state.log.count > 0 && below(5) == 0)
+            take_marked();
+        put_marks();
+        clocks_marked(below(2) == 0 ? 0 : 1 + below(9));
+    }
+    check("reads and writes beside other marks", h->reads > 50 && h->writes > 50);
+    check("grants, service and ends of other marks", h->granted > 50 && h->served > 50 && h->freed > 50 && h->finished > 50);
+    check("latency clocks of other marks", h->late > 50);
+    check("entries of other marks, and dropped ones", line ? h->entered > 50 && h->dropped > 30 : h->entered + h->dropped == 0);
+    check("takes of other marks", line ? h->taken > 50 : h->taken == FABRIC_LOG_ENTRIES);
+}
+
+/*
+ * A small board, with places for masters and slaves that it does not have, and one of all of them; with the line `default`, whose
+ * mark is 7, and without it.
+ */
+static void marks(void)
+{
+    reset_numbers();
+    read_numbers();
+    for (uint32_t i = 0; i < 4; i++) {
+        tried = fresh;
+        tried.board.slave[0].native = i / 2;
+        tried.board.slave[0].latency = 3;
+        tried.board.default_line = i % 2 == 0 ? 7 : 0;
+        marks_of_board();
+    }
+    set_many(FABRIC_MASTERS, FABRIC_SLAVES, 7);
+    marks_of_board();
+    set_many(FABRIC_MASTERS, FABRIC_SLAVES, 0);
+    marks_of_board();
+}
+
 int main(void)
 {
     readings();
@@ -1819,6 +2122,7 @@ int main(void)
     late_together();
     answered();
     runs_of_boards();
+    marks();
     if (!failed)
         printf("calls: ok, %d checks\n", checks);
     return failed;
