@@ -105,28 +105,16 @@ module _ (l : List ℕ) where
               one-kept vs 130 3 i j 2 p (130 + 3 * j + 2) refl (omega arith) (rw k (omega arith)) (mark-small (e .write)) refl refl;
         }
 
-    -- numbers that are no marks: latency clocks, the log's count
-    pub late-marks : (m n : ℕ) → m < 8 → Marks l (set l (120 + m) n)
-    late-marks m n h =
+    -- the numbers between the slots and the lost mark are no marks: latency clocks, the log's count
+    between-marks : (p n : ℕ) → 120 ≤ p → p < 129 → Marks l (set l p n)
+    between-marks p n low high =
         let vs = n ∷ [] in
-        let p = 120 + m in
         record {
-          held = λ i g. inl (sets-outside vs l p (5 * i) (inl (omega arith)));
-          write = λ i g. inl (sets-outside vs l p (5 * i + 1) (inl (omega arith)));
+          held = λ m g. inl (sets-outside vs l p (5 * m) (inl (omega arith)));
+          write = λ m g. inl (sets-outside vs l p (5 * m + 1) (inl (omega arith)));
           serving = λ s g. inl (sets-outside vs l p (40 + 5 * s + 2) (inl (omega arith)));
           lost = inl (sets-outside vs l p 129 (inr (omega arith)));
           entries = λ i g. inl (sets-outside vs l p (130 + 3 * i + 2) (inr (omega arith)));
-        }
-
-    pub count-marks : (n : ℕ) → Marks l (set l 128 n)
-    count-marks n =
-        let vs = n ∷ [] in
-        record {
-          held = λ i g. inl (sets-outside vs l 128 (5 * i) (inl (omega arith)));
-          write = λ i g. inl (sets-outside vs l 128 (5 * i + 1) (inl (omega arith)));
-          serving = λ s g. inl (sets-outside vs l 128 (40 + 5 * s + 2) (inl (omega arith)));
-          lost = inl (sets-outside vs l 128 129 (inr (omega arith)));
-          entries = λ i g. inl (sets-outside vs l 128 (130 + 3 * i + 2) (inr (omega arith)));
         }
 
     -- the lost mark set
@@ -164,7 +152,7 @@ module _ (l : List ℕ) (k : length l ≡ 154) where
       record { state = slot-put l k s x h e; marks = marks-as n (slot-marks l k s x h) }
 
   pub late-leaves : (m n : ℕ) → m < 8 → Leaves l (set l (120 + m) n) (withLate (stateIn l) m n)
-  late-leaves m n h = record { state = late-put l k m n h; marks = late-marks l k m n h }
+  late-leaves m n h = record { state = late-put l k m n h; marks = between-marks l k (120 + m) n (omega arith) (omega arith) }
 
   pub entry-leaves : (i : ℕ) (e : Entry) {write : ℕ} → i < 8 → write ≡ markOf (e .write)
       → let r = set (set (set l (130 + 3 * i) (e .master)) (130 + 3 * i + 1) (e .address)) (130 + 3 * i + 2) write in
@@ -184,7 +172,7 @@ module _ (l : List ℕ) (k : length l ≡ 154) where
       let c = set l 128 (n + 1) in
       record {
         state = enter-room l k n e q h (put .0);
-        marks = marks-then (count-marks l k (n + 1))
+        marks = marks-then (between-marks l k 128 (n + 1) (omega arith) (omega arith))
             (marks-as (put .1) (entry-marks c (length-set l 128 (n + 1) ∙ k) n e h));
       }
 
