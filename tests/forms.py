@@ -4,8 +4,8 @@
 usage: tests/forms.py
 
 Each entry of FORMS names a function, texts that its head or its body has, and words that its body has not. A text stands as often
-as the entry says, or at least once. Each row of the document's table "Named forms" has an entry by its rule; the row "all", of enums,
-has none, because their definitions are used by contracts.
+as the entry says, or at least once. Each row of the document's table "Named forms" has an entry by its rule; the row "all", of answers
+that are enums, names each enum of the code with its definition.
 
 Prints a line for each complaint; exit status 0 if there is none, else 1.
 """
@@ -48,6 +48,9 @@ FORMS = [
     Form("3.4", "fabric_lanes/src/lib.rt", "post_lanes", has=[("legal_lanes(width, lanes)", 1)], lacks=BRANCHES),
     Form("4.3 to 4.6", "fabric_grant/src/lib.rt", "arbitrate_record", has=[("choose(", 1), ("arbiter_after(", 1)], lacks=BRANCHES,
          head=["&mut Arbiter"]),
+    Form("4.3 to 4.6", "fabric_grant/src/lib.rt", "arbitrate", has=[("arbitrate_record(&mut a,", 1)], lacks=BRANCHES),
+    Form("4.3 to 4.6", "fabric_grant/src/lib.rt", "slot_asked", has=[("arbitrate(arbiter_of(slot),", 1)]),
+    Form("4.3 to 4.6", "fabric_cycle/src/lib.rt", "clock_slave", has=[("fabric_grant::slot_asked(", 1)]),
     Form("5.7", "wait_turns/src/lib.rt", "slave_turns", has=[("longest_access(", 1), ("single_access(sl, v)", 1), ("turns_at(", 1)],
          lacks=BRANCHES),
     Form("5.7", "wait_turns/src/lib.rt", "single_access", lacks=["longest_access", "read_wait"]),
@@ -93,18 +96,31 @@ def complaints_of(form):
             yield f"{form}: it has `{word}`"
 
 
-def rows_without_entry():
+def named_forms():
+    """The rows of the document's table, by rule."""
     text = (ROOT / "docs/DECISIONS.md").read_text().split("### Named forms")[1]
-    rules = {row.split("|")[1].strip() for row in re.findall(r"^\| (?!rule).*$", text, re.M)}
-    for rule in sorted(rules - {form.rule for form in FORMS} - {"all"}):
+    return {row.split("|")[1].strip(): row for row in re.findall(r"^\| (?!rule).*$", text, re.M)}
+
+
+def rows_without_entry():
+    for rule in sorted(set(named_forms()) - {form.rule for form in FORMS} - {"all"}):
         yield f"docs/DECISIONS.md: the named form of rule {rule} is not looked for"
+
+
+def enums_without_definition():
+    row = named_forms()["all"]
+    for path in sorted((ROOT / "crates").glob("*/src/*.rt")):
+        for name in re.findall(r"^(?:pub )?enum (\w+)", path.read_text(), re.M):
+            if f"`{name}` by `" not in row:
+                yield f"docs/DECISIONS.md: no definition is named for the enum {name} of {path.parent.parent.name}"
 
 
 def main(arguments):
     if arguments:
         print(__doc__, end="", file=sys.stderr)
         return 2
-    complaints = [line for form in FORMS for line in complaints_of(form)] + list(rows_without_entry())
+    complaints = [line for form in FORMS for line in complaints_of(form)]
+    complaints += list(rows_without_entry()) + list(enums_without_definition())
     print("\n".join(complaints or [f"forms: {len(FORMS)} functions have the forms that are named for them"]))
     return 1 if complaints else 0
 
