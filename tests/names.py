@@ -249,6 +249,8 @@ def head_of(crate, name):
 
 
 USE = r"^(?:ghost )?use Rattle·(\w+?)(?:·specs)?\.(specs|proofs)\.([\w′·.-]+?)(?:\.\{(.*)\}| as (\w+))?;?$"
+# a name in full, outside an import: its last part is the definition
+FULL = r"^(?!(?:ghost )?use |\s*--).*?Rattle·(\w+?)(?:·specs)?\.(specs|proofs)\.([\w′·.-]+)\.[\w′-]+"
 
 
 def imported(text, among=None):
@@ -259,32 +261,49 @@ def imported(text, among=None):
             yield crate, kind, module
 
 
+def named_in(text):
+    """What a file names of crates: by its imports, and in full."""
+    return list(imported(text)) + re.findall(FULL, text, re.M)
+
+
+def named_by_files(listed):
+    """Each listed file, with what it names."""
+    for crate, name in sorted(listed):
+        path = ROOT / "crates" / crate / "specs" / f"{name}.antt"
+        if path.exists():
+            yield f"crates/{crate}/specs/{name}.antt", named_in(text_of(path))
+
+
+def named_by_call(crate, name):
+    """What the head of a public call names: its contract, and a record that it answers."""
+    path, head = head_of(crate, name)
+    found = list(imported(text_of(path), set(re.findall(r"[\w′·]+", head)))) + re.findall(FULL, head, re.M)
+    return found + ([(crate, "specs", "declared")] if re.search(r"-> [A-Z]", head) else [])
+
+
+def call_complaints(calls):
+    yield from unlisted_calls(calls)
+    for crate, name in calls:
+        if head_of(crate, name) is None:
+            yield f"docs/PROMISES.md: crate {crate} has no public function {name}"
+        elif re.search(r"^ *requires", head_of(crate, name)[1], re.M):
+            yield f"{crate}::{name} has a requires"
+
+
 def believed_complaints():
     page = text_of(ROOT / "docs/READING.md")
     listed = set(re.findall(r"^\| `(\w+)/(\w+)` \| \d+ \|", page, re.M))
+    declare = set(re.findall(r"`(\w+)`", re.search(r"\*\*the records and enums\.\*\*.*?\n\n", page, re.S).group(0)))
     own = {path.name for path in (ROOT / "crates").iterdir() if path.is_dir()}
-    named = set(re.findall(r"`(\w+)`", re.search(r"\*\*the records and enums\.\*\*.*?\n\n", page, re.S).group(0)))
-    sources = [(f"crates/{crate}/specs/{name}.antt", imported(text_of(ROOT / "crates" / crate / "specs" / f"{name}.antt")))
-               for crate, name in sorted(listed) if (ROOT / "crates" / crate / "specs" / f"{name}.antt").exists()]
     calls = public_calls()
-    yield from unlisted_calls(calls)
-    for crate, name in calls:
-        head = head_of(crate, name)
-        if head is None:
-            yield f"docs/PROMISES.md: crate {crate} has no public function {name}"
-            continue
-        words = set(re.findall(r"[\w′·]+", head[1]))
-        if re.search(r"^ *requires", head[1], re.M):
-            yield f"{crate}::{name} has a requires"
-        sources.append((f"{crate}::{name}", imported(text_of(head[0]), words)))
-        if re.search(r"-> [A-Z]", head[1]):
-            sources.append((f"{crate}::{name}", [(crate, "specs", "declared")]))
-    for source, modules in sources:
+    yield from call_complaints(calls)
+    sources = [(f"{crate}::{name}", named_by_call(crate, name)) for crate, name in calls if head_of(crate, name)]
+    for source, modules in sources + list(named_by_files(listed)):
         for crate, kind, module in modules:
-            if crate not in own:
+            if crate not in own:  # the kit's
                 continue
             if kind == "specs" and module.startswith("declared"):
-                if crate not in named:
+                if crate not in declare:
                     yield f"{source}: docs/READING.md does not name {crate} among the crates that declare records"
             elif kind != "specs" or (crate, module) not in listed:
                 yield f"{source}: it names what stands in {crate}/{kind}/{module.replace('.', '/')}, which docs/READING.md does not list"
