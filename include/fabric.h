@@ -233,7 +233,8 @@ uint32_t fabric_reset(const struct fabric_board *board, struct fabric_state *sta
  * pass too.
  *
  *   board, state            the state gets the transfer
- *   buffer, buffer_length   FABRIC_BUFFER_BYTES; the words of a write are copied there (rule 3.2)
+ *   buffer, buffer_length   FABRIC_BUFFER_BYTES; the words of a write are copied there (rule 3.2). Nothing else keeps them: each access
+ *                           of the write takes its bytes from there in its own clock (rule 4.11)
  *   master                  its number, from 0
  *   write                   a mark: 0 for a read
  *   address, lanes, beats   the first byte's address, the lanes of the master's word (rules 3.4 and 3.5), the count of words
@@ -250,7 +251,8 @@ uint32_t fabric_post(const struct fabric_board *board, struct fabric_state *stat
  * One clock of all slaves (rules 4.1 to 4.14 and 4.16 to 4.18).
  *
  *   board, state            the state as the clock leaves it
- *   memory, memory_length   what the spans add up to; the bytes of a write access go there
+ *   memory, memory_length   what the spans add up to; the bytes of a write access go there, from its master's part of the buffer
+ *                           as it stands now (rule 4.11)
  *   buffer, buffer_length   FABRIC_BUFFER_BYTES; the bytes of a read access go to its master's part, those of an unmapped read
  *                           become 0 there
  *   lines                   what the clock shows of each slave; behind the board's slaves 0
