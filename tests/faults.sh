@@ -57,19 +57,19 @@ try() {
     diff error.expected error || :
 }
 
-# The reads of a descriptor, 5 bytes at most in each: the descriptor, its name in a report, the file that is read. The last of the
-# reads answers that the input ends, and none is made behind it.
+# The reads of a descriptor, 5 bytes at most in each: the descriptor, its name in a report, the file that is read, and what standard
+# error has if all of it is read. The last of the reads answers that the input ends, and none is made after it.
 reads() {
     reading="FAULT_CALL=read FAULT_FD=$1"
     last=$((($(wc -c < "$3") + 4) / 5 + 1))
     for at in 1 $((last / 2 + 1)) "$last"; do
         fault="$reading FAULT_MOST=5 FAULT_AT=$at"
         try "$fault FAULT_ERRNO=$eio" '' none "$name: $2: Input/output error"
-        try "$fault FAULT_ERRNO=$eintr" '' "$whole" ''
-        try "$fault FAULT_ERRNO=$eagain FAULT_TIMES=3" '' "$whole" ''
+        try "$fault FAULT_ERRNO=$eintr" '' "$whole" "${4-}"
+        try "$fault FAULT_ERRNO=$eagain FAULT_TIMES=3" '' "$whole" "${4-}"
     done
-    try "$reading FAULT_MOST=5 FAULT_AT=$((last + 1)) FAULT_ERRNO=$eio" '' "$whole" ''
-    try "$reading FAULT_MOST=1" '' "$whole" ''
+    try "$reading FAULT_MOST=5 FAULT_AT=$((last + 1)) FAULT_ERRNO=$eio" '' "$whole" "${4-}"
+    try "$reading FAULT_MOST=1" '' "$whole" "${4-}"
 }
 
 # The writes to standard output, and how many bytes the first two of at most 7 move where that is not 14.
@@ -106,6 +106,36 @@ streams() {
     try '' '<&- >&-' none "$name: standard input: Bad file descriptor"
     try '' '0> other' none "$name: standard input: Bad file descriptor"
     try '' '2>&-' "$whole" ''
+}
+
+# The writes to standard error: redirections of the subject's own, and the lines that it explains. Each line is one write: if the write
+# with a number fails for good, that line is lost and no other. A write that is interrupted, would have to wait or moves few bytes
+# loses none.
+explains() {
+    explaining='FAULT_CALL=write FAULT_FD=2'
+    lines=$(echo "$2" | wc -l)
+    try "$explaining FAULT_MOST=1" "$1" "$whole" "$2"
+    for at in $(seq "$lines"); do
+        try "$explaining FAULT_AT=$at FAULT_ERRNO=$eintr" "$1" "$whole" "$2"
+        try "$explaining FAULT_AT=$at FAULT_ERRNO=$eagain FAULT_TIMES=3" "$1" "$whole" "$2"
+        try "$explaining FAULT_MOST=7 FAULT_AT=$((at + 1)) FAULT_ERRNO=$eagain FAULT_TIMES=3" "$1" "$whole" "$2"
+        try "$explaining FAULT_AT=$at FAULT_ERRNO=$eio" "$1" "$whole" "$(echo "$2" | sed "${at}d")"
+    done
+    try "$explaining FAULT_AT=$((lines + 1)) FAULT_ERRNO=$eio" "$1" "$whole" "$2"
+}
+
+# The subject with standard error a pipe that does not wait and is read after a pause only: what it explains, which is in a file, is more
+# than the pipe holds.
+through_full_pipe() {
+    tries=$((tries + 1))
+    ./pipes -1 /bin/sh -c "./$command 2>&1 > /dev/null" < "$input" > output 2> error || :
+    if [ "$(wc -c < "$1")" -gt 65536 ] && cmp -s output "$1" && cmp -s error none; then
+        return 0
+    fi
+    different=$((different + 1))
+    echo "faults: $command explains through a pipe that is full"
+    diff "$1" output | head -n 5 || :
+    cat error
 }
 
 # The subject between two pipes that do not wait, the first of which pauses behind so many lines.
@@ -286,6 +316,46 @@ subject 'table /dev/stdin' none none
 echo file,/dev/stdin > part.whole
 try '' '<&-' part.whole 'table: /dev/stdin: No such file or directory'
 
+# What is explained, each line by one write, and more of it than a pipe holds.
+subject 'table long.txt' none explained.one
+printf 'file,long.txt\nrefused,1\n' > explained.one
+explains '' "table: long.txt: $long"
+subject table long.txt refused
+explains '' "table: $long"
+subject table . none
+explains '< .' 'table: standard input: Is a directory'
+subject table board.txt none
+explains '> /dev/full' 'table: standard output: No space left on device'
+subject 'table board.txt long.txt absent.txt . third.txt' none mixed
+explains '' "$explained
+$unread"
+absent=$(seq 2000 | sed 's/.*/absent&/')
+subject "table $(echo "$absent" | tr '\n' ' ')" none none
+echo "$absent" | sed 's/.*/table: &: No such file or directory/' > explained.many
+through_full_pipe explained.many
+# The usage has a line in one write too.
+./table -x 2> usage
+subject 'table -x' none none
+try '' '' none "$(cat usage)"
+for at in 1 2 3 4; do
+    tries=$((tries + 1))
+    env FAULT_CALL=write FAULT_FD=2 FAULT_AT=$at FAULT_ERRNO=$eio LD_PRELOAD=./faults.so ./table -x 2> error || :
+    if [ "$(wc -l < error)" -lt "$(wc -l < usage)" ] && ! grep -vxFf usage error; then
+        continue
+    fi
+    different=$((different + 1))
+    echo "faults: the usage without write $at"
+    diff usage error || :
+done
+
+# The system's words for each error, as the C library has them. EINTR and EAGAIN are tried again.
+subject table board.txt none
+python3 -c 'import os; [print(os.strerror(number)) for number in range(1, 141)]' > words
+for number in $(seq 140); do
+    case $number in "$eintr" | "$eagain") continue ;; esac
+    try "FAULT_CALL=read FAULT_FD=0 FAULT_AT=1 FAULT_ERRNO=$number" '' none "table: standard input: $(sed -n "${number}p" words)"
+done
+
 # 100 tables of the largest board are more than a pipe holds that does not wait; standard input has two parts.
 cp "$root/boards/largest.txt" largest.txt
 {
@@ -357,6 +427,30 @@ printf 'reset,0\nwait,0,36,2\n' > both
 subject 'simulate board.txt' unended.txt both
 reads 0 'standard input' unended.txt
 
+# What is explained, each line by one write, and more of it than a pipe holds.
+printf 'reset\npost,2,read,4096,15,1,-\nclock,1\nwait,0,9\nshow,memory,4096,1\n' > mistakes.txt
+printf 'reset,0\npost,11\nclock,0,0\nslave,0,0,0,0,0,0,0\nwait,16,0,0\nerror,5\n' > mistakes
+subject 'simulate board.txt' mistakes.txt mistakes
+explains '' 'simulate: script line 2: refusal 11: no such master
+simulate: script line 4: refusal 16: no connected slave there
+simulate: script line 5: reaches past what is lent'
+subject 'simulate long.txt' none refused
+explains '' "simulate: long.txt: $long"
+subject 'simulate absent.txt' none none
+explains '' 'simulate: absent.txt: No such file or directory'
+subject 'simulate board.txt' script.txt none
+explains '< .' 'simulate: standard input: Is a directory'
+explains '> /dev/full' 'simulate: standard output: No space left on device'
+subject 'simulate' none none
+explains '' 'usage: simulate BOARD < SCRIPT'
+{ echo reset && seq 2000 | sed 's/.*/post,2,read,4096,15,1,-/' && echo clock; } > mistakes.many
+{
+    seq 2 2001 | sed 's/.*/simulate: script line &: refusal 11: no such master/'
+    echo 'simulate: script line 2002: not a line of a script'
+} > explained.many
+subject 'simulate board.txt' mistakes.many none
+through_full_pipe explained.many
+
 # A script of 20,000 lines of 9 bytes. The first 131,200 bytes have 14,577 lines, and 7 bytes of the next one.
 seq 20000 | sed 's/.*/wait,0,0/' > waits.txt
 seq 20000 | sed 's/.*/wait,0,6,32/' > all
@@ -381,6 +475,9 @@ reads 0 'standard input' records
 writes
 streams
 through_pipes 3
+subject texts records none
+explains '< .' 'texts: standard input: Is a directory'
+explains '> /dev/full' 'texts: standard output: No space left on device'
 
 # 1,000 records of 77 bytes: the first 65,536 have 851 of them, and 9 bytes of the next one.
 seq 1000 | while read -r _; do head -n 6 records; done > records.many

@@ -529,10 +529,11 @@ static int read_board(const char *name)
         number = fabric_reset(board, state);
     if (number == FABRIC_TAKEN)
         return 0;
-    fprintf(stderr, "lockstep: %s: ", name);
+    /* one write for a line, whoever else writes to the same terminal */
     if (line > 0)
-        fprintf(stderr, "line %lu: ", (unsigned long)line);
-    fprintf(stderr, "refusal %" PRIu32 "\n", number);
+        fprintf(stderr, "lockstep: %s: line %lu: refusal %" PRIu32 "\n", name, (unsigned long)line, number);
+    else
+        fprintf(stderr, "lockstep: %s: refusal %" PRIu32 "\n", name, number);
     return 2;
 }
 

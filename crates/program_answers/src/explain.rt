@@ -1,15 +1,32 @@
 // What is said on standard error of a line of the script: what is wrong with it, or why its call is refused.
 use libc::STDERR_FILENO;
 use program_lines::Session;
+use program_messages::ROOM;
+use program_messages::say;
+use program_messages::say_number;
 use program_script::NOT_A_LINE;
 use program_script::OUT_OF_RANGE;
 use program_script::PAST_LENT;
 
 // How each explanation begins.
-fn say_line(line: u64) {
-    io::write_all(STDERR_FILENO, b"simulate: script line ");
-    io::print_decimal(STDERR_FILENO, line);
-    io::write_all(STDERR_FILENO, b": ");
+fn say_line(text: &mut [u8], line: u64) -> usize {
+    let word = say(&mut *text, 0, b"simulate: script line ");
+    let next = say_number(&mut *text, word, line);
+    say(text, next, b": ")
+}
+
+fn say_problem(text: &mut [u8], at: usize, problem: u8) -> usize {
+    match problem {
+        NOT_A_LINE => say(text, at, b"not a line of a script"),
+        OUT_OF_RANGE => say(text, at, b"a number is out of its range"),
+        PAST_LENT => say(text, at, b"reaches past what is lent"),
+        NO_LINE_FEED => say(
+            text,
+            at,
+            b"lacks its line feed: the script may be cut short",
+        ),
+        _ => say(text, at, b"more than 4096 bytes"),
+    }
 }
 
 // A line's problem, if it has one.
@@ -17,14 +34,10 @@ pub fn problem(line: u64, problem: u8) {
     if problem == 0 {
         return;
     }
-    say_line(line);
-    match problem {
-        NOT_A_LINE => io::write_all(STDERR_FILENO, b"not a line of a script\n"),
-        OUT_OF_RANGE => io::write_all(STDERR_FILENO, b"a number is out of its range\n"),
-        PAST_LENT => io::write_all(STDERR_FILENO, b"reaches past what is lent\n"),
-        _ => io::write_all(STDERR_FILENO, b"more than 4096 bytes\n"),
-    }
-    ;
+    let mut text = [0u8; ROOM];
+    let next = say_line(&mut text, line);
+    let told = say_problem(&mut text, next, problem);
+    program_streams::tell(STDERR_FILENO, &mut text, told);
 }
 
 // Explains a call if it was refused. Its answer is written out before, so that the explanation comes after it if both go to one
@@ -35,7 +48,9 @@ pub fn call(out: &[u8], session: Session, number: u32, lowest: u32) -> Session {
         return session;
     }
     let next = program_lines::flush(b"simulate", out, session);
-    say_line(session.line);
-    program_refusals::explain_number(number, lowest);
+    let mut text = [0u8; ROOM];
+    let begun = say_line(&mut text, session.line);
+    let told = program_refusals::say_cause(&mut text, begun, number, lowest);
+    program_streams::tell(STDERR_FILENO, &mut text, told);
     next
 }

@@ -38,11 +38,7 @@ unfolding is
 is-no n (pos k) e = ne-eqb k n e
 is-no n (negsuc k) e = refl
 
--- an answer above 0 is a count
-counted : (got : ℤ) → SFits w64 got → ltZ (pos 0) got ≡ true → T (nonNeg got) × Fits w64 (natAbs got)
-counted (pos n) f h = (tt, let g : n < 2 ^ 63 = f .sfits in record { fits = omega arith })
-counted (negsuc n) f h = absurd (false≢true h)
-
+-- an answer above 0 is a count of bytes
 bytes : (got error : ℤ) → ltZ (pos 0) got ≡ true → Bytes (natAbs got) ≡ judged got error
 unfolding judged
 bytes (pos zero) error h = absurd (false≢true h)
@@ -58,15 +54,6 @@ told-nothing (negsuc n) error f e = absurd (let g : n < 2 ^ 63 = f .sfits in ome
 
 -- the test for an answer above 0, as the code makes it
 module _ (got error : ℤ) (f : SFits w64 got) where
-  pub count-fits :
-      ltZ (pos 0) (toZ w64 (ofZ w64 got)) ≡ true
-      → T (nonNeg (toZ w64 (ofZ w64 got))) × Fits w64 (natAbs (toZ w64 (ofZ w64 got)))
-  count-fits =
-      subst
-      (λ (z : ℤ). ltZ (pos 0) z ≡ true → T (nonNeg z) × Fits w64 (natAbs z))
-      (sym (toZ-ofZ f))
-      (counted got f)
-
   pub told-bytes :
       ltZ (pos 0) (toZ w64 (ofZ w64 got)) ≡ true → Bytes (natAbs (toZ w64 (ofZ w64 got))) ≡ judged got error
   told-bytes =

@@ -1,13 +1,13 @@
 // Reading a file descriptor up to its end, writing all bytes, and telling why a call of the operating system failed. Only the
 // answer 0 of a read is the end of an input: a read that fails has read nothing, and says nothing of what is still to come.
-mod lines;
-
 ghost use mathlib.Core.Path.{_≡_};
 ghost use Rattle.program_streams.specs.Calls.{judged, Call};
 ghost use Rattle.program_streams.specs.Reading.{outcomeOf, Gathered};
 use libc::EAGAIN;
 use libc::EINTR;
+use libc::STDERR_FILENO;
 use libc::types::timespec;
+use program_messages::ROOM;
 
 // How a reading went: the bytes stand in front of `end`. `ended`: a read answered 0, the end of the input. `failed`: a read
 // failed for good, and errno says why. Neither: the room is full.
@@ -136,10 +136,20 @@ pub fn write_all(fd: i32, bytes: &[u8]) -> bool {
     true
 }
 
-// A line on standard error: `program: what: text of errno`. Called straight after the call that failed: what is done here before
-// errno is read makes no call that could change it.
+// Ends a line, of which `at` bytes are filled, and writes it, by one call unless the system takes fewer bytes. The answer is as
+// write_all has it.
+pub fn tell(fd: i32, line: &mut [u8], at: usize) -> bool {
+    let n = program_messages::say(&mut *line, at, b"\n");
+    write_all(fd, &line[..n])
+}
+
+// A line on standard error: `program: what: words`, with the words of errno. It is called straight after the call that failed, and
+// takes errno before another call can change it.
 pub fn report(program: &[u8], what: &[u8]) {
-    let mut line = [0; lines::ROOM];
-    let n = lines::head(program, what, &mut line);
-    os::fail(&line[..n]);
+    let error = os::errno();
+    let mut line = [0u8; ROOM];
+    let n = program_messages::say_head(&mut line, program, what);
+    let named = program_messages::say(&mut line, n, b": ");
+    let told = program_messages::say_error(&mut line, named, error);
+    tell(STDERR_FILENO, &mut line, told);
 }

@@ -13,8 +13,8 @@ abbrev μ-loop : tie.MeasureT-loop
 loop-holds : tie.Need-loop-holds Inv-loop μ-loop
 loop-holds c = search needs
 
-say-entry-requires : tie.Need-say-entry-requires Inv-loop μ-loop
-say-entry-requires c κs = search needs
+print-entry-requires : tie.Need-print-entry-requires Inv-loop μ-loop
+print-entry-requires c κs = search needs
 
 returns : tie.Need-returns Inv-loop μ-loop
 returns c = search needs
@@ -41,7 +41,7 @@ list-spec =
     Inv-loop
     μ-loop
     loop-holds
-    say-entry-requires
+    print-entry-requires
     returns
     add-number
     loop-less

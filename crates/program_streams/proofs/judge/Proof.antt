@@ -1,11 +1,13 @@
 -- `program_streams::judge` meets its contract. Each test of the answer and of errno is one of the tests that `told` makes.
 -- Assumes nothing.
-use Rattle.program_streams.proofs.CallLaws.{count-fits, told-bytes, told-nothing, told-again, told-later, told-failed}
+use mir.Syntax.{w64}
+use Rattle.program_messages.proofs.CountLaws.{count-fits}
+use Rattle.program_streams.proofs.CallLaws.{told-bytes, told-nothing, told-again, told-later, told-failed}
 use Rattle.program_streams.proofs.judge.Statement.{statement}
 use Rattle.program_streams.proofs.judge.Tie as tie
 
 cast-t4 : tie.Need-cast-t4
-cast-t4 c = count-fits _ (c .before .args .error) (c .before .fits .got) (c .if1 .taken)
+cast-t4 c = count-fits w64 _ tt (c .before .fits .got) (c .if1 .taken)
 
 returns : tie.Need-returns
 returns c = told-bytes _ _ (c .before .fits .got) (c .if1 .taken)

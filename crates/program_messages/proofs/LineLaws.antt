@@ -1,13 +1,13 @@
--- Texts that are put one behind another, as far as they fit.
+-- Texts that are put one after another, as far as they fit.
 -- Assumes nothing.
-use mathlib.Core.List.{List, [], _∷_, _++_, append-assoc}
+use mathlib.Core.List.{List, [], _∷_, _++_, append-assoc, append-nil}
 use mathlib.Core.Path.{_≡_, refl, ap, sym, _∙_}
 use Prim.Native.Nat.{ℕ, zero, suc, _+_, _-_, _≤_}
 use native.Mathlib.Omega.{arith}
 use lib.ListN.{length, take, length-append, length-take}
 use lib.Seq.{length-take-le, length-sets, sets-eq, take-all, take-at, take-append-add}
 use Rattle.common_text.specs.Code.Scanning.{Put}
-use Rattle.program_streams.specs.Code.Reports.{head, Holds}
+use Rattle.program_messages.specs.Code.Messages.{head, Holds}
 
 -- what does not fit is cut once
 take-cut : (n : ℕ) (x y : List ℕ) → take n (take n x ++ y) ≡ take n (x ++ y)
@@ -18,7 +18,7 @@ take-cut (suc n) (b ∷ x) y = ap (λ (l : List ℕ). b ∷ l) (take-cut n x y)
 take-front : (n : ℕ) (x y : List ℕ) (m : ℕ) → n ≡ length x + m → take n (x ++ y) ≡ x ++ take m y
 take-front n x y m e = ap (λ (k : ℕ). take k (x ++ y)) e ∙ take-append-add x y m
 
--- as much of the bytes as fits, behind `at`
+-- as much of the bytes as fits, after `at`
 pub holds-put :
     (before bytes after : List ℕ) (at r : ℕ) → at ≤ length before
     → Put before at (take (length before - at) bytes) after r → Holds after r (take at before ++ bytes)
@@ -43,7 +43,18 @@ pub holds-all :
 holds-all before bytes after at r h f p =
     holds-put before bytes after at r h (rw (take-all (length before - at) bytes f) p)
 
--- one text behind another
+-- none of them, after a line that is full
+pub holds-full : (line bytes : List ℕ) (at : ℕ) → length line ≤ at → Holds line (length line) (take at line ++ bytes)
+holds-full line bytes at h =
+    let whole = take-all (length line) line (omega arith) in
+    record {
+      same =
+          whole ∙ sym (take-front (length line) line bytes 0 (omega arith) ∙ append-nil line)
+          ∙ sym (ap (λ (l : List ℕ). take (length line) (l ++ bytes)) (take-all at line h));
+      fits = (omega arith, sym (ap length whole));
+    }
+
+-- one text after another
 holds-then :
     (line after x y : List ℕ) (at r : ℕ) → length after ≡ length line → Holds line at x
     → Holds after r (take at line ++ y) → Holds after r (x ++ y)
