@@ -644,6 +644,16 @@ $(state_of 1,1,4104,240,1 0,1,1,1,1)
 $(clocks 0:1,0,14,3,2,1 1:2,0,14,3,2,1)
 $(state_of 0,0,0,0,0 0,1,0,0,0)"
 
+# A write's bytes are those that stand in the buffer at each access, and none is kept from the post (rule 4.11): before each of the two
+# accesses of this word other bytes are put there.
+called 'reset\npost,0,write,4096,15,1,a1a2a3a4\nfill,buffer,0,b1b2\nclock,1\nfill,buffer,0,c1c2c3c4\nclock,1\nshow,memory,0,4\n' 'reset,0
+post,0
+clock,0,0
+slave,0,2,0,0,3,2,0
+clock,0,1
+slave,0,2,0,2,3,2,1
+b1b2c3c4' ''
+
 # A lent state that serves a transfer of master 0: WRITE, LANES, the accesses carried out, the clocks from there where the state is
 # taken, and the card's numbers where they are others. From the count of accesses on it is refused (rule 7.9), by a post too; the
 # state, the card's bytes and the master's words are as they were.
@@ -797,6 +807,18 @@ post,0
 $(answers 1 0)
 a1b2c3d4
 11223344"
+# What is refused of a post before its transfer is judged is refused of an unmapped one too (rules 3.7, 7.8, 7.9, 7.11 and 7.12): a
+# script after a reset, its answers, the line that is explained, and the cause.
+unmapped_refused() {
+    answered "reset\n$1" "reset,0
+$2" "simulate: script line $3: refusal $4"
+}
+
+unmapped_refused 'lend,buffer,4095\npost,0,read,8192,15,1,-\n' post,8 3 '8: memory or buffer not of its exact length'
+unmapped_refused 'slot,0,2,0,0,0,0\npost,0,read,8192,15,1,-\n' post,9 3 '9: the state breaks a rule'
+unmapped_refused 'post,2,read,8192,15,1,-\n' post,11 2 '11: no such master'
+unmapped_refused 'post,0,read,8192,15,1,-\npost,0,read,8196,15,1,-\n' 'post,0
+post,12' 3 '12: master holds a transfer'
 # How far a burst reaches is asked of one that begins in a card alone.
 answered 'reset\npost,0,read,4092,15,8,-\npost,1,read,4096,3,1,-\nclock,1\npost,0,read,8188,15,2,-\npost,0,read,4294967292,15,8,-\n'"\
 clock,1\n" 'reset,0
@@ -1005,14 +1027,39 @@ clock,0,0
 $idle
 $(seq 500 | sed 's/.*/clock,20,0/')" '3:1 7:0'
 
-# A malformed line ends the script, also where it is the last and has no line feed.
+# A malformed line ends the script.
 called 'reset\npost,2,read,4096,15,1,-\nclock,one\nclock,1\n' 'reset,0
 post,11
 error,3' 'simulate: script line 2: refusal 11: no such master
 simulate: script line 3: not a line of a script'
 called '\n' 'error,1' 'simulate: script line 1: not a line of a script'
-called 'reset\nshow,memory,4096,1' 'reset,0
+called 'reset\nshow,memory,4096,1\n' 'reset,0
 error,2' 'simulate: script line 2: reaches past what is lent'
+
+# A last line that lacks its line feed is not carried out, whatever it says: the line, after a reset and two posts, which are.
+cut='lacks its line feed: the script may be cut short'
+unended() {
+    called "reset\npost,0,read,4096,15,1,-\npost,1,write,4100,3,1,a1b2\n$1" 'reset,0
+post,0
+post,0
+error,4' "simulate: script line 4: $cut"
+}
+
+for last in clock,10 clock,1 clock, clock c reset state take wait,0,0 show,memory,0,4 fill,memory,0,a1 lend,memory,0 slot,0,2,0,0,0,0 \
+    show,memory,4096,1 clock,4294967296 post,0,read,4096,15,1,- x , '\r'; do
+    unended "$last"
+done
+called clock,1 error,1 "simulate: script line 1: $cut"
+called 'reset\nclock,1\nslot,0,2,0,0,0,0\nclock,1\nclock,1' "reset,0
+clock,0,0
+$idle
+clock,9,0
+error,5" "simulate: script line 4: refusal 9: the state breaks a rule
+simulate: script line 5: $cut"
+# A script that ends in a line feed has no such line, nor has an empty one; an empty line is another mistake.
+called '' '' ''
+called 'reset\n\n' 'reset,0
+error,2' 'simulate: script line 2: not a line of a script'
 
 # A line of a known form says what is wrong with its numbers: LINE, the problem. What is malformed besides comes first.
 problem() {
@@ -1080,7 +1127,7 @@ problem 'transfer,0,0,0,0,0,0' "$form"
 problem 'transfer,0,0,0,0,0,0,0,0' "$form"
 
 # Where both go to one file, an explanation comes right behind the answer.
-printf 'reset\npost,2,read,4096,15,1,-\nclock,2\nwait,2,0\nreset' > calls.txt
+printf 'reset\npost,2,read,4096,15,1,-\nclock,2\nwait,2,0\nreset\nstate' > calls.txt
 "$root/target/bin/simulate" fabric.txt < calls.txt > output 2>&1 || :
 cat > output.expected <<'END'
 reset,0
@@ -1093,6 +1140,8 @@ slave,0,0,0,0,0,0,0
 wait,11,0,0
 simulate: script line 4: refusal 11: no such master
 reset,0
+error,6
+simulate: script line 6: lacks its line feed: the script may be cut short
 END
 tries=$((tries + 1))
 cmp -s output output.expected || {

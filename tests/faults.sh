@@ -421,11 +421,14 @@ try '' '2>&-' refused ''
 try '' '> /dev/full' none "simulate: standard output: No space left on device
 simulate: long.txt: $long"
 
-# An unfinished last line is carried out where the script ends, and not where it cannot be read.
+# An unfinished last line is an error of its own if the script ends, and not if the script cannot be read. In neither case is it carried
+# out.
 printf 'reset\nwait,1,0' > unended.txt
-printf 'reset,0\nwait,0,36,2\n' > both
-subject 'simulate board.txt' unended.txt both
-reads 0 'standard input' unended.txt
+printf 'reset,0\nerror,2\n' > first.only
+subject 'simulate board.txt' unended.txt first.only
+cut='simulate: script line 2: lacks its line feed: the script may be cut short'
+reads 0 'standard input' unended.txt "$cut"
+explains '' "$cut"
 
 # What is explained, each line by one write, and more of it than a pipe holds.
 printf 'reset\npost,2,read,4096,15,1,-\nclock,1\nwait,0,9\nshow,memory,4096,1\n' > mistakes.txt

@@ -1,5 +1,6 @@
 // What is said on standard error of a line of the script: what is wrong with it, or why its call is refused.
 use libc::STDERR_FILENO;
+use program_lines::NO_LINE_FEED;
 use program_lines::Session;
 use program_messages::ROOM;
 use program_messages::say;

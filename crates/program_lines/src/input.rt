@@ -3,6 +3,7 @@ ghost use mathlib.Core.Path.{_≡_};
 ghost use mathlib.Core.Bool.{true, false};
 ghost use Prim.Native.Nat.{_+_, _≤_};
 ghost use lib.ListN.{length};
+use crate::NO_LINE_FEED;
 use crate::ROOM;
 use crate::Session;
 use crate::output;
@@ -20,10 +21,26 @@ fn keep(input: &mut [u8], from: usize, n: usize)
     }
 }
 
-// The text has no more bytes than the first n of the input: its last line, if it has any.
-fn last_line(session: Session, n: usize) -> Session {
+// The text has ended, and n bytes stand after its last line feed: a line that lacks its own, and may be cut short. It is not found,
+// so that it is not obeyed, and that is its problem.
+fn text_end(session: Session, n: usize) -> Session
+    ensures { λ r. ⌜ r .found ≡ false ⌝ }
+{
+    let mut last = session;
+    last.found = false;
+    last.over = true;
+    last.line = std::num::wrapping_add_u64(session.line, 1);
+    if n == 0 {
+        return last;
+    }
+    last.problem = NO_LINE_FEED;
+    last
+}
+
+// One line fills the input, n bytes, and no byte more finds room: the last line, since it says nothing that could be done.
+fn full_line(session: Session, n: usize) -> Session {
     let mut next = session;
-    next.found = 0 < n;
+    next.found = true;
     next.start = 0;
     next.stop = n;
     next.over = true;
@@ -32,9 +49,9 @@ fn last_line(session: Session, n: usize) -> Session {
 }
 
 // After a read into the input from `kept` on: the bytes before are an unfinished line, and `end` is where the bytes end now. A
-// text that cannot be read has no further line, the unfinished one included.
+// text that cannot be read has no further line, and the unfinished one is none if the text has ended.
 fn after_read(program: &[u8], session: Session, got: Got, kept: usize, end: usize) -> Session
-    ensures { λ r. ⌜ (got .failed ≡ true → (r .found ≡ false) × (r .over ≡ true)) ⌝ }
+    ensures { λ r. ⌜ (got .failed ≡ true → (r .found ≡ false) × (r .over ≡ true)) × (got .ended ≡ true → r .found ≡ false) ⌝ }
 {
     let mut next = session;
     next.from = 0;
@@ -47,14 +64,16 @@ fn after_read(program: &[u8], session: Session, got: Got, kept: usize, end: usiz
         return next;
     }
     if end == kept {
-        return last_line(next, kept);
+        if got.ended {
+            return text_end(next, kept);
+        }
+        return full_line(next, kept);
     }
     next
 }
 
-// Keeps an unfinished line, from `from` to `end`, and reads after it until the input is full or the text ends. If it has ended, or
-// no byte more finds room, that line is the last. What has gathered is written out before, so that a read that fails is reported
-// after it.
+// Keeps an unfinished line, from `from` to `end`, and reads after it until the input is full or the text ends. If it has ended, there
+// is no further line. What has gathered is written out before, so that a read that fails is reported after it.
 fn read_more(
     program: &[u8],
     input: &mut [u8],
@@ -64,11 +83,12 @@ fn read_more(
     end: usize,
 ) -> Session
     requires { ⌜ (from ≤ end) × (end ≤ length (now input)) ⌝ }
+    ensures { λ r. ⌜ (session .ended ≡ true → r .found ≡ false) ⌝ }
 {
     let kept = end - from;
     keep(&mut *input, from, kept);
     if session.ended {
-        return last_line(session, kept);
+        return text_end(session, kept);
     }
     let mut written = output::flush(program, out, session);
     if written.over {

@@ -34,6 +34,9 @@ pub struct Session {
     pub broken: bool,
 }
 
+// The problem of a last line that lacks its line feed. Any other is for whoever obeys the lines.
+pub const NO_LINE_FEED: u8 = 8;
+
 // Before the first line.
 pub fn first_session() -> Session {
     Session {

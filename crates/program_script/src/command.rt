@@ -104,7 +104,8 @@ const FIELDS: [[u8; LETTERS]; KINDS] = [
 pub const INPUT: usize = 131200;
 
 // What can be wrong with a line: it is none of the kinds, it has a number that its field does not hold, it reaches past what is
-// lent, which whoever obeys it finds, or it posts more bytes than a buffer has.
+// lent, which whoever obeys it finds, or it posts more bytes than a buffer has. A last line without its line feed is none, and has
+// the problem program_lines::NO_LINE_FEED.
 pub const NOT_A_LINE: u8 = 1;
 
 pub const OUT_OF_RANGE: u8 = 2;
