@@ -423,11 +423,32 @@ log_of() {
     done
 }
 
-# The state is cleared before a reset, also before one that is refused: no last owner is 1 any more, and the log is empty.
+# A refused reset leaves every number of the state as it was (rule 8.1): the last owner is still 1, and the log has its entry.
 unshared_calls 'share,1,0,0\nlog,3,1\nentry,2,1,8192,1\nreset\nstate\n' "reset,20
 $(seq 0 7 | sed 's/.*/transfer,&,0,0,0,0,0,0/')
+slot,0,1,0,0,0,0
+$(seq 1 15 | sed 's/.*/slot,&,0,0,0,0,0/')
+$(log_of 3,1 0,0,0 0,0,0 1,8192,1)" 5:1
+# Before the first reset every number is 0, and stays so. A transfer that is served goes on from where it was.
+called 'share,1,0,0\nreset\nstate\n' "reset,20
+$(seq 0 7 | sed 's/.*/transfer,&,0,0,0,0,0,0/')
 $(seq 0 15 | sed 's/.*/slot,&,0,0,0,0,0/')
-$(log_of 0,0)" 5:1
+$(log_of 0,0)" 'simulate: script line 2: refusal 20: master 1 has no share line'
+unshared_calls 'post,0,read,4096,15,1,-\nclock,3\nshare,1,0,0\nreset\nstate\nshare,1,0,3\nclock,1\n' "post,0
+clock,0,0
+slave,0,1,0,0,3,2,0
+clock,0,0
+slave,0,2,0,0,3,2,0
+clock,0,0
+slave,0,1,0,2,3,2,1
+reset,20
+transfer,0,1,0,4096,15,1,0
+$(seq 1 7 | sed 's/.*/transfer,&,0,0,0,0,0,0/')
+slot,0,0,1,1,1,1
+$(seq 1 15 | sed 's/.*/slot,&,0,0,0,0,0/')
+$(log_of 0,0)
+clock,0,1
+slave,0,2,0,2,3,2,1" 5:1
 
 # What was refused is taken when the share line is given back. Nothing has moved: master 0 is served from where it was.
 unshared_calls 'share,1,0,0\nreset\nshare,1,0,3\nreset\nclock,1\n' "reset,20

@@ -14,14 +14,13 @@ use program_script::Command;
 use program_script::INPUT;
 use program_script::MEMORY_ROOM;
 
-// The state of a refused board is zeros: the library leaves what it is lent as it was.
+// A refused reset leaves the state as it was.
 fn obey_reset(
     board: &[u32; BOARD_NUMBERS],
     state: &mut [u32; STATE_NUMBERS],
     session: Session,
     out: &mut [u8; ROOM],
 ) -> Session {
-    *state = [0; STATE_NUMBERS];
     let number = fabric::reset(board, state);
     let lowest = description_rules::without_share(board);
     program_answers::answer(out, session, b"reset", number, lowest)
