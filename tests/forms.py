@@ -53,6 +53,7 @@ FORMS = [
     Form("4.3 to 4.6", "fabric_cycle/src/lib.rt", "clock_slave", has=[("fabric_grant::slot_asked(", 1)]),
     Form("5.7", "wait_turns/src/lib.rt", "slave_turns", has=[("longest_access(", 1), ("single_access(sl, v)", 1), ("turns_at(", 1)],
          lacks=BRANCHES),
+    Form("5.7", "wait_table/src/lib.rt", "add_turns", has=[("slave_turns(", 1)], lacks=["longest_access", "single_access", "read_wait"]),
     Form("5.7", "wait_turns/src/lib.rt", "single_access", lacks=["longest_access", "read_wait"]),
     Form("5.7", "wait_turns/src/lib.rt", "turns_at", has=[("while ", 1)],
          lacks=["longest_access", "single_access", "read_wait", "write_wait", "latency"]),

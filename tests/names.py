@@ -3,11 +3,14 @@
 
 usage: tests/names.py [--write]
 
-- a rule that is cited ("rule 4.5", "rules 4.3 to 4.6") stands in docs/RULES.md, and each rule has a row in docs/PROMISES.md;
+- a rule that is cited ("rule 4.5", "rules 4.3 to 4.6") stands in docs/RULES.md, and each rule has a row in docs/PROMISES.md; the rules
+  of a section stand in the order of their numbers, but for section 7, which is by who causes a refusal;
 - a crate, file, definition, function, law or must-fail edit that a document names in backquotes exists;
 - each label of a must-fail edit is named in docs/PROMISES.md, and those of rules 10.1 to 10.12 have files of their own;
 - the constants of include/fabric.h are those of crate common_numbers;
 - each row of a document's table has as many cells as the table's heading;
+- a figure that changes with the product stands in one document: how long the gate takes, how many numbers a board and a state are, and
+  no decision is a version;
 - docs/READING.md lists every file of definitions that is to be believed, with its number of lines (--write puts the numbers);
 - what the contract of a public call (docs/PROMISES.md, section 2) or a listed file names stands in a listed file, in a crate's records
   that docs/READING.md names, or in the kit: so what it names through others does too.
@@ -58,6 +61,15 @@ def rule_complaints(files):
             rows |= set(re.findall(r"\d+\.\d+", line.split("|")[1]))
     for number in sorted(known - rows, key=lambda n: [int(part) for part in n.split(".")]):
         yield f"docs/PROMISES.md: no row for rule {number}"
+
+
+def order_complaints():
+    """Rules that stand after a higher one of their section."""
+    last = {}
+    for section, number in re.findall(r"^- \*\*(\d+)\.(\d+)\*\*", text_of(ROOT / "docs/RULES.md"), re.M):
+        if section != "7" and int(number) < last.get(section, 0):
+            yield f"docs/RULES.md: rule {section}.{number} stands after rule {section}.{last[section]}"
+        last[section] = max(int(number), last.get(section, 0))
 
 
 class Names:
@@ -160,10 +172,16 @@ def value_of(expression, values):
     return eval(re.sub(r"[A-Z]\w*", lambda m: str(values[m.group(0)]), expression), {"__builtins__": {}})
 
 
-def constant_complaints():
+def constants():
+    """The constants of crate common_numbers, by name."""
     values = {}
     for name, expression in re.findall(r"pub const (\w+): \w+ = ([^;]+);", text_of(ROOT / "crates/common_numbers/src/lib.rt")):
         values[name] = value_of(expression, values)
+    return values
+
+
+def constant_complaints():
+    values = constants()
     header = text_of(ROOT / "include/fabric.h")
     defined = dict(re.findall(r"#define FABRIC_(\w+) (\d+)", header))
     for name, value in defined.items():
@@ -175,6 +193,19 @@ def constant_complaints():
     for name in lacking:
         if name not in defined and name != "LAST_REFUSAL":
             yield f"include/fabric.h: no FABRIC_{name}"
+
+
+def figure_complaints():
+    """Figures that stand in two documents, and decisions that are a version."""
+    values = constants()
+    figures = {"how long the gate takes": r"\d+ (?:to \d+ )?minutes"}
+    figures |= {f"common_numbers::{name}": rf"\b{values[name]} numbers" for name in ("BOARD_NUMBERS", "STATE_NUMBERS")}
+    for what, figure in figures.items():
+        places = [path for path in documents() if re.search(figure, text_of(path))]
+        if len(places) > 1:
+            yield f"{what} stands in {' and '.join(str(path.relative_to(ROOT)) for path in places)}"
+    for row in re.findall(r"^\|[^|]*\| \d+\.\d+[ ,].*$", text_of(ROOT / "docs/DECISIONS.md"), re.M):
+        yield f"docs/DECISIONS.md: a version is decided, which the next change makes wrong: {row}"
 
 
 def lines_to_read(path):
@@ -315,7 +346,8 @@ def main(arguments):
         return 2
     files = tracked()
     complaints = list(reading_complaints(arguments == ["--write"]))
-    complaints += list(rule_complaints(files)) + list(name_complaints(files)) + list(constant_complaints())
+    complaints += list(rule_complaints(files)) + list(order_complaints()) + list(name_complaints(files))
+    complaints += list(constant_complaints()) + list(figure_complaints())
     complaints += list(table_complaints()) + sorted(set(believed_complaints()))
     for complaint in complaints or ["names: all that is cited exists"]:
         print(complaint)
