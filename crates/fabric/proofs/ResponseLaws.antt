@@ -1,38 +1,23 @@
 -- A clock's responses by the mask of who holds an unmapped transfer (rules 4.13, 4.17).
 -- Assumes nothing.
 use mathlib.Core.Path.{_≡_, refl, sym, ap, _∙_}
-use mathlib.Core.Bool.{Bool, true, false, cond, _&&_, false≢true}
+use mathlib.Core.Bool.{Bool, true, false, cond, false≢true}
 use mathlib.Core.List.{List}
-use Prim.Native.Nat.{ℕ, _^_, _<_}
+use Prim.Native.Nat.{ℕ, _<_}
 use native.Mathlib.Omega.{arith}
 use lib.ListN.{replicate}
 use Rattle.common_laws.specs.Bits.{bit}
-use Rattle.common_laws.specs.Lists.{table, sum, every}
-use Rattle.common_laws.proofs.Tests.{both}
 use Rattle.common_laws.proofs.TableLaws.{bit-mask}
 use Rattle.common_laws.proofs.BitLaws.{bit-above}
-use Rattle.common_laws.proofs.FillLaws.{sum-same}
 use Rattle.common_laws.proofs.FrontLaws.{table-same}
 use Rattle.description_board.specs.declared.Board.{Board}
-use Rattle.description_board.specs.Items.{boardRefusal}
 use Rattle.fabric_state.specs.declared.State.{State}
-use Rattle.fabric_state.specs.Soundness.{unmappedAt, soundTransfer, soundSlot, soundLog, sound}
+use Rattle.fabric_state.specs.Soundness.{unmappedAt}
 use Rattle.fabric_state.specs.Control.{finished, maskOf, responseOf, responsesOf}
 use Rattle.fabric_state.proofs.StateLaws.{mask-bit, finished-unmapped}
 use Rattle.fabric_layout.specs.Code.Puts.{responsesFor}
 use Rattle.fabric_layout.proofs.LogPutLaws.{responses-none}
-use Rattle.fabric_check.specs.Code.Targets.{targetsIn, unmappedMask}
-use Rattle.fabric_check.specs.Code.Checks.{Decoded}
-
--- what the check of board and state found is what the mask asks for
-pub decoded-of : (b : Board) (st : State) {ts : List ℕ} → boardRefusal b ≡ 0 → sound b st ≡ true → ts ≡ targetsIn b (st .transfers)
-    → Decoded b st ts
-unfolding sound
-decoded-of b st ok keeps e = record {
-  board = ok;
-  transfers = both (every (soundTransfer b st) 8) (every (soundSlot b st) (b .«slave_count») && soundLog (st .log)) keeps .0;
-  targets = e;
-}
+use Rattle.fabric_check.specs.Code.Targets.{unmappedMask}
 
 module _ (b : Board) (st : State) where
   pub responses-are : {mask : ℕ} {responses : List ℕ} → mask ≡ unmappedMask b st → responses ≡ responsesFor mask

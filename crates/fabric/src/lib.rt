@@ -11,7 +11,6 @@ use common_numbers::MASTERS;
 use common_numbers::NO_MASTER;
 use common_numbers::SLAVES;
 use common_numbers::STATE_NUMBERS;
-use common_numbers::TAKEN;
 use description_board::Master;
 use fabric_state::Entry;
 use fabric_state::NO_ENTRY;
@@ -21,11 +20,9 @@ ghost use mathlib.Core.Bool.{cond};
 ghost use Prim.Native.Nat.{_*_, _<_};
 ghost use lib.ListN.{length};
 ghost use Rattle.description_board.specs.Items.{boardRefusal};
-ghost use Rattle.description_board.specs.Records.{memoryLength};
 ghost use Rattle.description_layout.specs.Layout.{boardIn};
 ghost use Rattle.fabric_layout.specs.Layout.{stateIn};
 ghost use Rattle.fabric_calls.specs.Calls.{requestRefusal, postRefusalBy, takeRefusal, takenOf};
-ghost use Rattle.fabric_calls.specs.Code.Refusals.{clockRefusalBy};
 ghost use Rattle.fabric_calls.specs.Lent.{Resets, Posts, Clocks, Runs, Takes};
 
 // The answer of clock beside its responses and lines (rules 4.13, 8.1): a refusal's number and 0, or 0 and the mask of masters finished.
@@ -159,28 +156,6 @@ pub fn post(
     0
 }
 
-// What a clock is refused for, or 0 (rules 7.8, 7.9, 8.4, 8.5): by the board's number, the state's check and the bytes lent.
-fn clock_refusal_by(
-    board: &[u32; BOARD_NUMBERS],
-    number: u32,
-    sound: bool,
-    memory: usize,
-    buffer: usize,
-) -> u32
-    ensures { λ r. ⌜ r ≡ clockRefusalBy number (memoryLength (boardIn (now (board .entry)))) sound memory buffer ⌝ }
-{
-    if number != 0 {
-        return number;
-    }
-    if memory as u64 != description_rules::memory_length(board) {
-        return BAD_LENGTH;
-    }
-    if buffer != BUFFER_BYTES {
-        return BAD_LENGTH;
-    }
-    if sound { TAKEN } else { BAD_STATE }
-}
-
 // One clock (rules 4.1, 4.3 to 4.14, 4.16 to 4.18). What is refused is judged in rising order (rule 8.4), and leaves state, memory and
 // buffer (rule 8.1); where nothing is, each slave acts, and unmapped transfers are answered.
 pub fn clock(
@@ -197,28 +172,26 @@ pub fn clock(
         (record { memory = now (memory .exit); buffer = now (buffer .exit) })
         (r .number) (r .mask) ⌝ }
 {
-    let mut targets = [0u32; MASTERS];
-    let checked = fabric_check::ready(board, state, &mut targets);
-    let number = clock_refusal_by(
-        board,
-        checked.number,
-        checked.sound,
-        memory.len(),
-        buffer.len(),
-    );
-    if number != 0 {
+    let mut holders = [0u32; SLAVES];
+    let begun = fabric_begin::begin(board, state, memory, buffer, &mut holders);
+    if begun.number != 0 {
         fabric_layout::first_lines(lines, 0);
         fabric_layout::put_responses(responses, 0);
         return Answer {
-            number: number,
+            number: begun.number,
             mask: 0,
         };
     }
-    let mut holders = [0u32; SLAVES];
-    fabric_check::request_masks(&targets, &mut holders);
-    let unmapped = fabric_check::unmapped_mask(board, state, &targets);
-    fabric_layout::put_responses(responses, unmapped);
-    let mask = fabric_cycle::cycle(board, state, &holders, unmapped, lines, memory, buffer);
+    fabric_layout::put_responses(responses, begun.unmapped);
+    let mask = fabric_cycle::cycle(
+        board,
+        state,
+        &holders,
+        begun.unmapped,
+        lines,
+        memory,
+        buffer,
+    );
     Answer {
         number: 0,
         mask: mask,
@@ -254,23 +227,14 @@ pub fn run(
         (record { memory = now (memory .exit); buffer = now (buffer .exit) })
         (r .number) (r .clocks) (r .mask) ⌝ }
 {
-    let mut targets = [0u32; MASTERS];
-    let checked = fabric_check::ready(board, state, &mut targets);
-    let number = clock_refusal_by(
-        board,
-        checked.number,
-        checked.sound,
-        memory.len(),
-        buffer.len(),
-    );
+    let mut holders = [0u32; SLAVES];
+    let begun = fabric_begin::begin(board, state, memory, buffer, &mut holders);
     fabric_layout::first_lines(lines, 0);
     fabric_layout::put_responses(responses, 0);
-    if number != 0 {
-        return run_answer(number, 0, 0);
+    if begun.number != 0 {
+        return run_answer(begun.number, 0, 0);
     }
-    let mut holders = [0u32; SLAVES];
-    fabric_check::request_masks(&targets, &mut holders);
-    let unmapped = fabric_check::unmapped_mask(board, state, &targets);
+    let unmapped = begun.unmapped;
     let mut left = most;
     while 0 < left {
         let mask = fabric_cycle::cycle(board, state, &holders, unmapped, lines, memory, buffer);

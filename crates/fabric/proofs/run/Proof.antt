@@ -2,45 +2,40 @@
 -- The loop's invariant: where the run of clocks stands between two of them (`Passing`), responses of 0, and the lengths of the lent bytes. The
 -- measure is the count of clocks that are left.
 -- Assumes nothing.
-use mathlib.Core.Path.{_≡_, refl, sym, ap, _∙_}
+use mathlib.Core.Path.{_≡_, refl, sym, _∙_}
 use mathlib.Core.List.{List}
 use Prim.Native.Nat.{ℕ}
 use native.Mathlib.Omega.{arith}
 use lib.ListN.{length, replicate}
 use borrow.Author.Needs.{needs}
-use Rattle.common_laws.specs.Lists.{table}
 use Rattle.description_board.specs.declared.Board.{Board}
 use Rattle.description_layout.specs.Layout.{boardIn}
 use Rattle.fabric_transfer.specs.Bytes.{Store}
 use Rattle.fabric_layout.specs.Layout.{stateIn}
 use Rattle.fabric_layout.proofs.StatePutLaws.{first-none}
 use Rattle.fabric_layout.proofs.LogPutLaws.{responses-none}
-use Rattle.fabric_check.specs.Code.Targets.{requestMask}
 use Rattle.fabric_calls.specs.Calls.{clockRefusal}
-use Rattle.fabric_calls.proofs.ClockLaws.{refusal-found}
-use Rattle.fabric.proofs.ResponseLaws.{decoded-of}
-use Rattle.fabric_calls.proofs.RunOfClocks.{accepted-board, keeps-rules}
 use Rattle.fabric.proofs.PassingLaws.{run-refused, Passing, passing-begin, passing-accepts, passing-lengths}
 use Rattle.fabric.proofs.PassingLaws.{passing-spent, passing-next, passing-finished}
 use Rattle.fabric.proofs.run.Statement.{statement}
 use Rattle.fabric.proofs.run.Tie as tie
 
 abbrev Inv-loop : tie.InvT-loop
-Inv-loop board state₀ memory₀ buffer₀ lines₀ responses₀ most number requests unmapped left₀ state memory buffer lines responses left =
+Inv-loop board state₀ memory₀ buffer₀ lines₀ responses₀ most holders unmapped left₀ state memory buffer lines responses left =
     (clockRefusal (boardIn board) (stateIn state₀) (record { memory = memory₀; buffer = buffer₀ }) ≡ 0)
-    × (Passing (boardIn board) most state₀ (record { memory = memory₀; buffer = buffer₀ }) requests unmapped state lines
+    × (Passing (boardIn board) most state₀ (record { memory = memory₀; buffer = buffer₀ }) holders unmapped state lines
     (record { memory = memory; buffer = buffer }) left)
     × (responses ≡ replicate 8 0)
     × (length memory ≡ length memory₀)
     × (length buffer ≡ length buffer₀)
 
 abbrev μ-loop : tie.MeasureT-loop
-μ-loop board state₀ memory₀ buffer₀ lines₀ responses₀ most number requests unmapped left₀ state memory buffer lines responses left =
+μ-loop board state₀ memory₀ buffer₀ lines₀ responses₀ most holders unmapped left₀ state memory buffer lines responses left =
     left
 
--- back to the start, from the call of `cycle` back to the loop's pass, and from the clock's end back to behind that call
-abbrev start : tie.After-ready Inv-loop μ-loop → tie.Start Inv-loop μ-loop
-start c = c .before .before .before .before .before
+-- back to the start, from the call of `cycle` back to the loop's pass, and from the clock's end back to after that call
+abbrev start : tie.After-begin Inv-loop μ-loop → tie.Start Inv-loop μ-loop
+start c = c .before .before .before .before .before .before .before
 
 abbrev pass : tie.After-cycle-arg4 Inv-loop μ-loop → tie.In-loop Inv-loop μ-loop
 pass c = c .before .before .before .before .before
@@ -57,19 +52,8 @@ before c = c .args .state .now
 abbrev bytes : tie.Start Inv-loop μ-loop → Store
 bytes c = record { memory = c .args .memory .now; buffer = c .args .buffer .now }
 
-ready-requires : tie.Need-ready-requires Inv-loop μ-loop
-ready-requires c κs = search needs
-
-clock-refusal-by-requires : tie.Need-clock-refusal-by-requires Inv-loop μ-loop
-clock-refusal-by-requires c κs = search needs
-
-found : (c : tie.After-clock-refusal-by Inv-loop μ-loop)
-    → let s = start (c .before) in c .clock-refusal-by .result ≡ clockRefusal (board s) (stateIn (before s)) (bytes s)
-found c =
-    let s = start (c .before) in
-    c .clock-refusal-by .ensures
-    ∙ refusal-found (board s) (stateIn (before s)) (bytes s) _ _ (c .before .ready .ensures .number)
-    (c .before .ready .ensures .sound)
+begin-requires : tie.Need-begin-requires Inv-loop μ-loop
+begin-requires c κs = search needs
 
 first-lines-requires : tie.Need-first-lines-requires Inv-loop μ-loop
 first-lines-requires c κs = search needs
@@ -80,57 +64,40 @@ run-answer-requires c κs = search needs
 put-responses-requires : tie.Need-put-responses-requires Inv-loop μ-loop
 put-responses-requires c κs = search needs
 
--- from behind the responses back to the lines, and to the refusal
+-- from after the responses back to the lines, and to what the run of clocks begins with
 abbrev cleared : tie.After-put-responses Inv-loop μ-loop → tie.After-first-lines Inv-loop μ-loop
 cleared c = c .before .before
 
-abbrev judged : tie.After-put-responses Inv-loop μ-loop → tie.After-clock-refusal-by Inv-loop μ-loop
-judged c = cleared c .before .before
+abbrev begun : tie.After-put-responses Inv-loop μ-loop → tie.After-begin Inv-loop μ-loop
+begun c = cleared c .before .before
+
+same-length : tie.Need-same-length Inv-loop μ-loop
+same-length c = search needs
+
+same-length-2 : tie.Need-same-length-2 Inv-loop μ-loop
+same-length-2 c = search needs
 
 returns : tie.Need-returns Inv-loop μ-loop
 returns c =
     let t = c .before in
-    let p = t .before in
+    let p = t .before .before in
     rw (c .run-answer .ensures)
-    (run-refused _ _ _ _ _ _ (found (judged p)) (t .if1 .taken) (p .put-responses .ensures ∙ responses-none)
+    (run-refused _ _ _ _ _ _ (begun p .begin .ensures .number) (t .if1 .taken) (p .put-responses .ensures ∙ responses-none)
     (cleared p .first-lines .ensures ∙ first-none _))
 
 -- nothing is refused
 taken : (c : tie.Else1 Inv-loop μ-loop)
-    → let s = start (judged (c .before) .before) in clockRefusal (board s) (stateIn (before s)) (bytes s) ≡ 0
-taken c = sym (found (judged (c .before))) ∙ c .if1 .left
-
-request-masks-requires : tie.Need-request-masks-requires Inv-loop μ-loop
-request-masks-requires c κs = search needs
-
--- from the masks back to where nothing is refused
-abbrev free : tie.After-request-masks Inv-loop μ-loop → tie.Else1 Inv-loop μ-loop
-free c = c .before .before .before
-
-unmapped-mask-requires : tie.Need-unmapped-mask-requires Inv-loop μ-loop
-unmapped-mask-requires c κs =
-    let e = free (c .before .before) in
-    let r = judged (e .before) .before in
-    let s = start r in
-    let z = taken e in
-    let ok = accepted-board (board s) (stateIn (before s)) (bytes s) z in
-    let keeps = keeps-rules (board s) (stateIn (before s)) (bytes s) z in
-    decoded-of _ _ ok keeps (r .ready .ensures .targets ok keeps)
+    → let s = start (begun (c .before .before)) in clockRefusal (board s) (stateIn (before s)) (bytes s) ≡ 0
+taken c = sym (begun (c .before .before) .begin .ensures .number) ∙ c .if1 .left
 
 loop-holds : tie.Need-loop-holds Inv-loop μ-loop
 loop-holds c =
-    let masks = c .before .before .before in
-    let e = free masks in
-    let p = e .before in
-    let r = judged p .before in
-    let s = start r in
-    let z = taken e in
-    let ok = accepted-board (board s) (stateIn (before s)) (bytes s) z in
-    let keeps = keeps-rules (board s) (stateIn (before s)) (bytes s) z in
-    let asked =
-    masks .request-masks .ensures ∙ ap (λ (ts : List ℕ). table (requestMask ts) 16) (r .ready .ensures .targets ok keeps) in (
+    let p = c .before .before in
+    let x = begun p .begin .ensures in
+    let z = taken c in (
       z,
-      passing-begin _ _ _ _ z _ _ asked (c .unmapped-mask .ensures) (cleared p .first-lines .ensures ∙ first-none _),
+      passing-begin _ _ _ _ z _ _ (x .holders (c .if1 .left)) (x .unmapped (c .if1 .left))
+          (cleared p .first-lines .ensures ∙ first-none _),
       p .put-responses .ensures ∙ responses-none,
       refl,
       refl,
@@ -154,11 +121,11 @@ sub-run-answer c = search needs
 run-answer-requires-2 : tie.Need-run-answer-requires-2 Inv-loop μ-loop
 run-answer-requires-2 c κs = search needs
 
-same-length : tie.Need-same-length Inv-loop μ-loop
-same-length c = search needs
+same-length-3 : tie.Need-same-length-3 Inv-loop μ-loop
+same-length-3 c = search needs
 
-same-length-2 : tie.Need-same-length-2 Inv-loop μ-loop
-same-length-2 c = search needs
+same-length-4 : tie.Need-same-length-4 Inv-loop μ-loop
+same-length-4 c = search needs
 
 returns-2 : tie.Need-returns-2 Inv-loop μ-loop
 returns-2 c =
@@ -189,11 +156,11 @@ loop-again c =
 run-answer-requires-3 : tie.Need-run-answer-requires-3 Inv-loop μ-loop
 run-answer-requires-3 c κs = search needs
 
-same-length-3 : tie.Need-same-length-3 Inv-loop μ-loop
-same-length-3 c = search needs
+same-length-5 : tie.Need-same-length-5 Inv-loop μ-loop
+same-length-5 c = search needs
 
-same-length-4 : tie.Need-same-length-4 Inv-loop μ-loop
-same-length-4 c = search needs
+same-length-6 : tie.Need-same-length-6 Inv-loop μ-loop
+same-length-6 c = search needs
 
 returns-3 : tie.Need-returns-3 Inv-loop μ-loop
 returns-3 c =
@@ -207,26 +174,25 @@ run-spec =
     (tie.spec
     Inv-loop
     μ-loop
-    ready-requires
-    clock-refusal-by-requires
+    begin-requires
     first-lines-requires
     put-responses-requires
     run-answer-requires
+    same-length
+    same-length-2
     returns
-    request-masks-requires
-    unmapped-mask-requires
     loop-holds
     cycle-requires
     sub-left
     put-responses-requires-2
     sub-run-answer
     run-answer-requires-2
-    same-length
-    same-length-2
+    same-length-3
+    same-length-4
     returns-2
     loop-less
     loop-again
     run-answer-requires-3
-    same-length-3
-    same-length-4
+    same-length-5
+    same-length-6
     returns-3)

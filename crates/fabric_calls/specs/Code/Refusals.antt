@@ -1,4 +1,4 @@
--- Gives the code of fabric its shape: a clock's refusal by its parts.
+-- Gives the code of fabric_begin its shape: a clock's refusal by its parts.
 -- Assumes nothing.
 use mathlib.Core.Bool.{Bool, cond, not, _||_}
 use Prim.Native.Nat.{ℕ}

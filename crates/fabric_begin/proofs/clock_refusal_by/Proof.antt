@@ -1,10 +1,10 @@
--- `fabric::clock_refusal_by` meets its contract. Each way out answers the refusals in their order.
+-- `fabric_begin::clock_refusal_by` meets its contract. Each way out answers the refusals in their order.
 -- Assumes nothing.
 use mathlib.Core.Path.{sym, _∙_}
 use borrow.Author.Needs.{needs}
 use Rattle.fabric_calls.proofs.ClockLaws.{by-board, by-memory, by-buffer, by-state}
-use Rattle.fabric.proofs.clock_refusal_by.Statement.{statement}
-use Rattle.fabric.proofs.clock_refusal_by.Tie as tie
+use Rattle.fabric_begin.proofs.clock_refusal_by.Statement.{statement}
+use Rattle.fabric_begin.proofs.clock_refusal_by.Tie as tie
 
 returns : tie.Need-returns
 returns c = sym (by-board _ _ _ _ (c .if1 .taken))
