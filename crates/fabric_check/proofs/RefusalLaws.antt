@@ -10,7 +10,6 @@ use lib.Dec.{eqb}
 use lib.ListN.{getD}
 use borrow.Author.Tests.{eqb-false}
 use Rattle.common_laws.specs.Lists.{member}
-use Rattle.common_laws.proofs.TableLaws.{member-each}
 use Rattle.common_laws.proofs.Arithmetic.{product-le}
 use Rattle.description_board.specs.declared.Master.{Master}
 use Rattle.description_board.specs.declared.Slave.{Slave}
@@ -26,16 +25,11 @@ use Rattle.fabric_state.specs.Posting.{unmapped, isUnmapped, transferRefusalBy,
 use Rattle.fabric_state.specs.Soundness.{latencyAt}
 use Rattle.fabric_check.specs.Code.Checks.{latencyBy}
 use Rattle.fabric_transfer.proofs.SelectLaws.{target-first}
-
-pub width-some : (width : ℕ) → member width widths ≡ true → 0 < width
-width-some width e = member-each (λ w. 0 < w) width widths (omega arith) e
-
-pub width-most : (width : ℕ) → member width widths ≡ true → width ≤ 8
-width-most width e = member-each (λ w. w ≤ 8) width widths (omega arith) e
+use Rattle.fabric_transfer.proofs.AccessLaws.{width-le}
 
 -- the bytes of a transfer, whatever its beats, fit 64 bits with room for an address
 pub bytes-most : (beats width : ℕ) → beats ≤ 4294967295 → member width widths ≡ true → beats * width ≤ 34359738360
-bytes-most beats width h e = product-le beats width 4294967295 8 h (width-most width e)
+bytes-most beats width h e = product-le beats width 4294967295 8 h (width-le width e)
 
 -- a transfer for no slave is not refused for its slave: 16 stands before 17
 refusal-slave : (ma : Master) (slaves : List Slave) (t : Transfer) (target count : ℕ) (default : Bool) → target ≤ count → count ≤ 16

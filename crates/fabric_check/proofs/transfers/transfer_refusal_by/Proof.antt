@@ -9,7 +9,8 @@ use borrow.Author.Tests.{eq-eqb, ne-eqb, lt-ltb, le-ltb}
 use borrow.Author.Needs.{needs}
 use Rattle.fabric_state.specs.Posting.{wrongBeats, unaligned, wrongLanes, unmapped, passesEnd, transferRefusalBy}
 use Rattle.fabric_transfer.proofs.PowerLaws.{over-width}
-use Rattle.fabric_check.proofs.RefusalLaws.{width-some, width-most, bytes-most}
+use Rattle.fabric_transfer.proofs.AccessLaws.{width-pos, width-le}
+use Rattle.fabric_check.proofs.RefusalLaws.{bytes-most}
 use Rattle.fabric_check.proofs.transfers.transfer_refusal_by.Statement.{statement}
 use Rattle.fabric_check.proofs.transfers.transfer_refusal_by.Tie as tie
 
@@ -32,7 +33,7 @@ unfolding transferRefusalBy wrongBeats
 returns c = rw (c .if1 .taken)
 
 sub-if2 : tie.Need-sub-if2
-sub-if2 c = width-some _ (start (c .before) .pre)
+sub-if2 c = width-pos _ (start (c .before) .pre)
 
 -- what is left of the definition behind the beats, the address, the lanes and the slave
 some-beats : (c : tie.Else1) → let a = start c .args in
@@ -69,7 +70,7 @@ returns-2 c =
     rw (some-beats some, ne-eqb _ _ (λ e. c .if2 .taken (over-width _ _ (start some .pre) ∙ e)))
 
 post-lanes-requires : tie.Need-post-lanes-requires
-post-lanes-requires c κs = width-most _ (start (counted (c .before)) .pre)
+post-lanes-requires c κs = width-le _ (start (counted (c .before)) .pre)
 
 returns-3 : tie.Need-returns-3
 unfolding wrongLanes
