@@ -209,9 +209,10 @@ module _ (b : Board) (k : Legal b) where
       (all-gather _ _ pair-writable)
       (default-writable (b .«default_line»))))
 
-  pub items-short : length (writeText b) ≤ longest
+  -- its text has at most `longest` bytes
+  pub text-short : length (writeText b) ≤ longest
   unfolding longest
-  items-short =
+  text-short =
       omega (
         arith,
         length-parts b,

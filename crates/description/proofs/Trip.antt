@@ -27,7 +27,7 @@ use Rattle.description.specs.Writer.{writeText, writeRefusal}
 use Rattle.description.specs.Longest.{longest}
 use Rattle.description.specs.OneText.{Taken, OneText}
 use Rattle.description.proofs.TextLengths.{reading-short}
-use Rattle.description.proofs.LineTrip.{items-read, items-writable, items-short}
+use Rattle.description.proofs.LineTrip.{items-read, items-writable, text-short}
 use Rattle.description.proofs.LineText.{items-text}
 
 -- a text may have 8,192 bytes (rule 1.2): no accepted board's text is near that
@@ -42,15 +42,11 @@ lines-answer t r e = ap (λ (q : Reading). record { number = q .number; board = 
 
 -- An accepted board.
 module _ (b : Board) (accepted : boardRefusal b ≡ 0) where
-  -- its text has at most `longest` bytes
-  pub text-short : length (writeText b) ≤ longest
-  text-short = items-short b (accepted-legal b accepted)
-
   -- its text is read to it, with zeros behind its counts
   pub read-written : readText (writeText b) ≡ record { number = 0; board = trimmed b }
   unfolding writeText allRead
   read-written =
-      let short : length (writeText b) ≤ mostBytes = omega (arith, text-short, longest-fits) in
+      let short : length (writeText b) ≤ mostBytes = omega (arith, text-short b (accepted-legal b accepted), longest-fits) in
       lines-answer (writeText b) _
       (reading-short (writeText b) short
       ∙ ap described (items-read (items b) (items-writable b (accepted-legal b accepted)))
@@ -70,7 +66,7 @@ text-room b out h = go (eqb (boardRefusal b) 0) refl
         → cond (not t) (boardRefusal b) (cond (ltb (length out) (length (writeText b))) 10 0) ≡ boardRefusal b
     go true e =
         let accepted = eqb-true _ _ e in
-        let g : length (writeText b) ≤ length out = omega (arith, text-short b accepted) in
+        let g : length (writeText b) ≤ length out = omega (arith, text-short b (accepted-legal b accepted)) in
         rw (le-ltb (length out) (length (writeText b)) g) (sym accepted)
     go false e = refl
 
