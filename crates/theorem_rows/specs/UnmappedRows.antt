@@ -119,8 +119,8 @@ abbrev pub writeEntry : ℕ → Entry
 writeEntry address = record { master = 1; address = address; write = true }
 
 -- a log
-abbrev pub logOf : ℕ → Bool → List Entry → Log
-logOf count lost entries = record { count = count; lost = lost; entries = entries }
+abbrev pub logBy : ℕ → Bool → List Entry → Log
+logBy count lost entries = record { count = count; lost = lost; entries = entries }
 
 -- a clock behind unmapped posts of master 2, of masters 1 and 0, and of all three, the highest first
 unfoldable pub clockLast : ℕ → World → World
@@ -142,20 +142,20 @@ eightEntries = sixEntries ++ (readEntry 0 88 ∷ writeEntry 88 ∷ [])
 
 -- the logs behind the second clock and behind the third
 unfoldable pub sixLog : Log
-sixLog = logOf 6 false (sixEntries ++ (noEntry ∷ noEntry ∷ []))
+sixLog = logBy 6 false (sixEntries ++ (noEntry ∷ noEntry ∷ []))
 
 unfoldable pub eightLog : Log
-eightLog = logOf 8 false eightEntries
+eightLog = logBy 8 false eightEntries
 
 -- that of eight with an entry dropped behind it, what a take leaves of this, and a count of nine, which no clock leaves
 unfoldable pub fullLog : Log
-fullLog = logOf 8 true eightEntries
+fullLog = logBy 8 true eightEntries
 
 unfoldable pub takenLog : Log
-takenLog = logOf 7 true (drop 1 eightEntries ++ (noEntry ∷ []))
+takenLog = logBy 7 true (drop 1 eightEntries ++ (noEntry ∷ []))
 
 unfoldable pub nineLog : Log
-nineLog = logOf 9 true eightEntries
+nineLog = logBy 9 true eightEntries
 
 -- the world after a reset, with another log
 unfoldable pub logged : Log → World
@@ -224,7 +224,7 @@ pub record UnmappedRows : Type 0 where
   pub zeros : take 10 (clockedOnce .store .buffer) ≡ 0 ∷ 0 ∷ 0 ∷ 0 ∷ 0 ∷ 0 ∷ 0 ∷ 0 ∷ 9 ∷ 9 ∷ []
   pub words : take 4 (drop 512 (clockedOnce .store .buffer)) ≡ 161 ∷ 162 ∷ 9 ∷ 9 ∷ []
   -- both are in the log, by master number
-  pub log : clockedOnce .state .log ≡ logOf 2 false (readEntry 0 60 ∷ writeEntry 64 ∷ replicate 6 noEntry)
+  pub log : clockedOnce .state .log ≡ logBy 2 false (readEntry 0 60 ∷ writeEntry 64 ∷ replicate 6 noEntry)
   -- they hold nothing and can post again, the third master cannot yet
   pub released : transferAt (clockedOnce .state) 0 ≡ noTransfer
   pub again : answersIn defaultBoard clockedOnce (readTo 0 60 2) ≡ 0
@@ -245,12 +245,12 @@ pub record UnmappedRows : Type 0 where
   pub moved : stateAfterTake defaultBoard (logged fullLog .state) ≡ logged takenLog .state
   pub next : takeAnswer defaultBoard (logged takenLog .state) ≡ record { number = 0; master = 1; address = 80; write = true }
   -- then there is space for one
-  pub space : clockLast 96 (logged takenLog) .state .log ≡ logOf 8 true (drop 1 eightEntries ++ (readEntry 2 96 ∷ []))
+  pub space : clockLast 96 (logged takenLog) .state .log ≡ logBy 8 true (drop 1 eightEntries ++ (readEntry 2 96 ∷ []))
   -- nothing is taken from an empty log (7.22)
   pub empty : takeAnswer defaultBoard (reset defaultBoard .state) ≡ record { number = 22; master = 0; address = 0; write = false }
   pub emptyStays : stateAfterTake defaultBoard (reset defaultBoard .state) ≡ reset defaultBoard .state
   -- a reset leaves no entry and no lost mark
-  pub cleared : reset defaultBoard .state .log ≡ logOf 0 false (replicate 8 noEntry)
+  pub cleared : reset defaultBoard .state .log ≡ logBy 0 false (replicate 8 noEntry)
   -- what a state may be (7.9): clock, take and post. An unmapped transfer that is held is none of its faults
   pub holds : numbersIn defaultBoard (holding 0) ≡ 0 ∷ 22 ∷ 12 ∷ []
   -- with a latency clock to pass, or on the board without `default`, it is; 9 comes before 22 and 12
