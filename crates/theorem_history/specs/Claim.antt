@@ -23,7 +23,7 @@ use Rattle.fabric_state.specs.declared.Line.{Line}
 use Rattle.fabric_state.specs.declared.Clocked.{Clocked}
 use Rattle.fabric_state.specs.Records.{noLine, noEntry}
 use Rattle.fabric_state.specs.Posting.{Request, transferOf}
-use Rattle.fabric_calls.specs.Calls.{World, reset, post, bufferAfterPost, clock, storeAfterClock}
+use Rattle.fabric_calls.specs.Calls.{World, reset, post, bufferAfterPost, afterPost, clock, storeAfterClock}
 use Rattle.fabric_calls.specs.Calls.{Take, takenOf, takeAnswer, stateAfterTake}
 use Rattle.wait_turns.specs.Waits.{quotedWait}
 use Rattle.description.specs.Writer.{writeText}
@@ -128,10 +128,6 @@ Unmapped b q = slaveFor b q ≡ b .«slave_count»
 -- the request is posted, and not refused, where w stands
 unfoldable pub Accepted : Board → World → Request → Type 0
 Accepted b w q = post b (w .state) (w .store .buffer) q .number ≡ 0
-
--- where w stands behind that post
-unfoldable pub afterPosting : Board → World → Request → World
-afterPosting b w q = leaves w (posts b (w .state) (w .store .buffer) q)
 
 -- rule 6.3: the wait w of the request's master at its slave, the same w in every part of the claim
 unfoldable pub waitFor : Board → Request → ℕ
@@ -310,7 +306,7 @@ pub record Exact (b : Board) (start : World) (m s : ℕ) : Type 0 where
   pub accepted : Accepted b (after start before) request
   pub master : request .master ≡ m
   pub slave : slaveFor b request ≡ s
-  pub later : History b (afterPosting b (after start before) request) calls
+  pub later : History b (afterPost b (after start before) request) calls
   pub clocks : length (answers calls) ≡ waitFor b request + 1
   pub waits : any (shows m) (take (waitFor b request) (answers calls)) ≡ false
   pub starts : any (shows m) (answers calls) ≡ true
@@ -347,12 +343,12 @@ pub record DecodeError (b : Board) (u : World) (q : Request) : Type 0 where
 pub record Demand3 (b : Board) : Type 0 where
   -- rule 6.3: the first cycle comes at clock w + 1 or before, where the history goes so far
   pub within : (w : World) (before : List Call) (q : Request) (calls : List Call) → Start b w → History b w before
-      → Accepted b (after w before) q → Mapped b q → History b (afterPosting b (after w before) q) calls
+      → Accepted b (after w before) q → Mapped b q → History b (afterPost b (after w before) q) calls
       → waitFor b q + 1 ≤ length (answers calls)
       → any (shows (q .master)) (take (waitFor b q + 1) (answers calls)) ≡ true
   -- rule 6.4: likewise the finish, at clock w + own length + latency or before
   pub finished : (w : World) (before : List Call) (q : Request) (calls : List Call) → Start b w → History b w before
-      → Accepted b (after w before) q → Mapped b q → History b (afterPosting b (after w before) q) calls
+      → Accepted b (after w before) q → Mapped b q → History b (afterPost b (after w before) q) calls
       → waitFor b q + lengthOf b q + lateFor b q ≤ length (answers calls)
       → any (names (q .master)) (take (waitFor b q + lengthOf b q + lateFor b q) (answers calls)) ≡ true
   -- rule 6.5: each connected pair has a transfer that waits exactly w
@@ -376,9 +372,9 @@ pub record Demand3 (b : Board) : Type 0 where
       × ((post b (u .state) (u .store .buffer) q .number ≡ 0) ⊎ (11 ≤ post b (u .state) (u .store .buffer) q .number))
   -- rule 6.12: an unmapped post that is taken is finished by the first clock behind it, with response 3 and, of a read, zeros
   pub unmapped : (w : World) (before : List Call) (q : Request) (calls : List Call) → Start b w → History b w before
-      → Accepted b (after w before) q → Unmapped b q → History b (afterPosting b (after w before) q) calls
+      → Accepted b (after w before) q → Unmapped b q → History b (afterPost b (after w before) q) calls
       → answers calls ≡ []
-      → let u = after (afterPosting b (after w before) q) calls in
+      → let u = after (afterPost b (after w before) q) calls in
       clock b (u .state) (u .store) .number ≡ 0 → DecodeError b u q
   -- rule 6.12: the response to a master whose last request is for a slave is 0
   pub okay : (w : World) (calls : List Call) (m : ℕ) → Start b w → History b w calls

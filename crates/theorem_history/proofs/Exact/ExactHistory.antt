@@ -20,7 +20,7 @@ use Rattle.fabric_state.proofs.StateLaws.{transfer-with, transfer-with-other, l
 use Rattle.wait_turns.specs.Waits.{quotedWait}
 use Rattle.theorem_bounds.proofs.Credit.{credit-zero}
 use Rattle.theorem_bounds.proofs.Potential.{quoted-between}
-use Rattle.theorem_history.specs.Claim.{Start, Lent, History, after, slaveFor, waitFor, Accepted, afterPosting, Exact}
+use Rattle.theorem_history.specs.Claim.{Start, Lent, History, after, slaveFor, waitFor, Accepted, Exact}
 use Rattle.theorem_history.proofs.OneClock.PairFigures.{sharesOf, singleOf, longestOf, turnsBetween}
 use Rattle.theorem_history.proofs.OneClock.PairFigures.{wait-quoted}
 use Rattle.theorem_history.proofs.OneClock.UsableGrants.{usableAt, usable-none}
@@ -99,7 +99,7 @@ module _
 
 pub exact-history : (b : Board) → Legal b → (w : World) (m s : ℕ) → Start b w → Lent b w → m < b .«master_count»
     → connected b m s ≡ true → Exact b w m s
-unfolding reset Accepted post afterPosting requestFor
+unfolding reset Accepted post requestFor
 exact-history b legal w m s x lent hm c =
     let p = connected-pair b m s c in
     let hs = p .0 in

@@ -22,7 +22,7 @@ use Rattle.fabric_state.specs.Control.{stateAfter, responsesOf, linesOf}
 use Rattle.fabric_state.specs.Logging.{withoutOldest, withLog}
 use Rattle.fabric_state.specs.Clocking.{clockedOf, refusedClock}
 use Rattle.fabric_state.specs.Carrying.{storeAfter}
-use Rattle.fabric_calls.specs.Calls.{World, postRefusal, post, bufferAfterPost, clockRefusal, clock, storeAfterClock}
+use Rattle.fabric_calls.specs.Calls.{World, postRefusal, post, bufferAfterPost, afterPost, clockRefusal, clock, storeAfterClock}
 use Rattle.fabric_calls.specs.Calls.{takeRefusal, takeAnswer}
 use Rattle.fabric_calls.proofs.RunOfClocks.{clock-is}
 use Rattle.fabric_calls.proofs.TakeLaws.{take-number, left-taken}
@@ -110,12 +110,12 @@ unfolding next
 taken-next w c e = rw (eq-eqb (numberAnswered c) 0 e)
 
 module _ (b : Board) (w : World) where
-  pub post-leaves : (q : Request) → TakesPost b w q → leaves w (postAt b w q) ≡ withPost w q
-  unfolding leaves post bufferAfterPost
+  pub post-leaves : (q : Request) → TakesPost b w q → afterPost b w q ≡ withPost w q
+  unfolding afterPost post bufferAfterPost
   post-leaves q e = rw (eq-eqb (postRefusal b (w .state) (w .store .buffer) q) 0 e)
 
   pub post-next : (q : Request) → TakesPost b w q → next w (postAt b w q) ≡ withPost w q
-  unfolding numberAnswered post
+  unfolding numberAnswered leaves post afterPost
   post-next q e = taken-next w (postAt b w q) e ∙ post-leaves q e
 
   pub clock-next : TakesClock b w → next w (clockAt b w) ≡ withClock b w

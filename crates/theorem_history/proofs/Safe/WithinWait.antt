@@ -11,8 +11,8 @@ use lib.ListN.{length, take}
 use Rattle.description_board.specs.declared.Board.{Board}
 use Rattle.description_board.specs.Legal.{Legal}
 use Rattle.fabric_state.specs.Posting.{Request, transferOf}
-use Rattle.fabric_calls.specs.Calls.{World, post}
-use Rattle.theorem_history.specs.Claim.{Call, Start, History, after, answers, shows, names, any, Accepted, afterPosting}
+use Rattle.fabric_calls.specs.Calls.{World, post, afterPost}
+use Rattle.theorem_history.specs.Claim.{Call, Start, History, after, answers, shows, names, any, Accepted}
 use Rattle.theorem_history.specs.Claim.{slaveFor, Mapped, waitFor, lengthOf, lateFor}
 use Rattle.theorem_history.proofs.Histories.CallCases.{TakesPost, withPost, post-leaves}
 use Rattle.theorem_history.proofs.Histories.LentLengths.{post-before, lent-before, counted-lent}
@@ -25,7 +25,7 @@ use Rattle.theorem_history.proofs.Safe.PostedWait.{fits, lasts, own-len
 module _
     (b : Board) (legal : Legal b) (w : World) (before : List Call) (q : Request) (calls : List Call) (start : Start b w)
     (history : History b w before) (accepted : Accepted b (after w before) q)
-    (mapped : Mapped b q) (later : History b (afterPosting b (after w before) q) calls)
+    (mapped : Mapped b q) (later : History b (afterPost b (after w before) q) calls)
   where
     -- where the request is posted
     abbrev here : World
@@ -39,7 +39,6 @@ module _
     taken = post-taken b here q takes
 
     behind : History b (withPost here q) calls
-    unfolding afterPosting
     behind = rw (post-leaves b here q takes) at later
 
     -- a history with a clock that counts was lent the exact lengths from its start

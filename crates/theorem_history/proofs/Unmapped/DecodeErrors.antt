@@ -19,7 +19,7 @@ use Rattle.fabric_state.specs.Posting.{Request, transferOf, unmapped, isUnmappe
 use Rattle.fabric_state.specs.Soundness.{unmappedAt}
 use Rattle.fabric_state.specs.Logging.{withLog}
 use Rattle.fabric_state.specs.Carrying.{carriedBy, storeAfter}
-use Rattle.fabric_calls.specs.Calls.{World, post, clock, storeAfterClock}
+use Rattle.fabric_calls.specs.Calls.{World, post, afterPost, clock, storeAfterClock}
 use Rattle.fabric_state.proofs.Sound.{Sound}
 use Rattle.fabric_state.proofs.StateLaws.{transfer-with, transfer-with-other, mask-bit, response-after}
 use Rattle.fabric_state.proofs.StateLaws.{finished-unmapped, response-unmapped}
@@ -30,7 +30,7 @@ use Rattle.fabric_state.proofs.ClearLaws.{clears-of, cleared-zeros}
 use Rattle.fabric_calls.proofs.RunOfClocks.{clock-is, store-is}
 use Rattle.fabric_calls.proofs.ClockLaws.{exact-lengths}
 use Rattle.theorem_history.specs.Claim.{Call, after, History, Start, answers, names, responseTo, slaveFor, Unmapped}
-use Rattle.theorem_history.specs.Claim.{Accepted, afterPosting, bytesIn, DecodeError}
+use Rattle.theorem_history.specs.Claim.{Accepted, bytesIn, DecodeError}
 use Rattle.theorem_history.proofs.Histories.CallCases.{TakesPost, TakesClock, withPost, withTake, post-leaves}
 use Rattle.theorem_history.proofs.Histories.CallCases.{clock-number, leads}
 use Rattle.theorem_history.proofs.Histories.OnePost.{post-taken}
@@ -108,10 +108,10 @@ module _ (b : Board) (legal : Legal b) (q : Request) where
 
 pub unmapped-right : (b : Board) → Legal b → (w : World) (before : List Call) (q : Request) (calls : List Call) → Start b w
     → History b w before → Accepted b (after w before) q → Unmapped b q
-    → History b (afterPosting b (after w before) q) calls → answers calls ≡ []
-    → let u = after (afterPosting b (after w before) q) calls in
+    → History b (afterPost b (after w before) q) calls → answers calls ≡ []
+    → let u = after (afterPost b (after w before) q) calls in
     clock b (u .state) (u .store) .number ≡ 0 → DecodeError b u q
-unfolding Accepted post afterPosting
+unfolding Accepted post
 unmapped-right b legal w before q calls start h accepted none later quiet free =
     let here = after w before in
     let sound = history-sound b legal w before start h in
