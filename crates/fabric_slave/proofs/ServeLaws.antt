@@ -21,7 +21,8 @@ use Rattle.fabric_state.specs.declared.Step.{Step}
 use Rattle.fabric_state.specs.Records.{noLine, transferAt}
 use Rattle.fabric_state.specs.Control.{slotAfterGrant, lineOf, waits}
 use Rattle.fabric_state.specs.Control.{slotWaiting, slotAccessed, slotFinished, served, stepOf}
-use Rattle.fabric_state.specs.Carrying.{carriesOut, carried}
+use Rattle.fabric_state.specs.Carrying.{carried}
+use Rattle.fabric_state.proofs.StepLaws.{carries-is}
 use Rattle.fabric_slave.specs.Code.Serving.{Placed, stepFrom, carriedFrom}
 
 -- a wait is a number of 32 bits, so that waits passed stay one
@@ -116,5 +117,5 @@ module _ (b : Board) (st : State) (s : ℕ) where
 
   pub carried-is : {x : Slot} → x ≡ slotAfterGrant b st s → (d : Store)
       → carriedFrom (masterAt b (x .owner)) (slaveAt b s) (transferAt st (x .owner)) x (startOf b s) d ≡ carried b st s d
-  unfolding carriedFrom carried carriesOut
-  carried-is e d = rw e
+  unfolding carriedFrom carried
+  carried-is e d = rw (e, carries-is b st s)

@@ -1,18 +1,20 @@
 -- One clock of one slave, by cases: the grant, and whether the slave rests, waits, carries out an access or its last one.
 -- Assumes nothing.
 use mathlib.Core.Path.{_≡_, refl, sym, _∙_}
-use mathlib.Core.Bool.{Bool, true, false, false≢true, true≢false}
+use mathlib.Core.Bool.{Bool, true, false, not, _&&_, false≢true, true≢false}
 use Prim.Native.Nat.{ℕ, _+_, _≤_, _<_}
 use lib.Dec.{ltb}
 use borrow.Author.Tests.{lt-ltb, le-ltb, ltb-true, ltb-false}
 use Rattle.description_board.specs.declared.Board.{Board}
 use Rattle.description_board.specs.Records.{masterAt, slaveAt}
 use Rattle.fabric_transfer.specs.Accesses.{accesses, waitOf}
+use Rattle.fabric_state.specs.declared.Slot.{Slot}
 use Rattle.fabric_state.specs.declared.State.{State}
 use Rattle.fabric_state.specs.declared.Line.{Line}
 use Rattle.fabric_state.specs.Records.{noLine, transferAt, slotAt}
 use Rattle.fabric_state.specs.Control.{grantAt, slotGranted, slotAfterGrant, lineOf, waits}
 use Rattle.fabric_state.specs.Control.{slotWaiting, slotAccessed, slotFinished, served, stepOf}
+use Rattle.fabric_state.specs.Carrying.{carriesOut}
 
 -- of the transfer in service after rule 1: its wait, its accesses, its line
 abbrev pub waitNow : Board → State → ℕ → ℕ
@@ -106,6 +108,21 @@ module _ (b : Board) (st : State) (s : ℕ) where
       go (waiting e h q) = rw q
       go (works e h l q) = rw q
       go (ends e h l q) = rw q
+
+  -- a slave carries out an access if it serves and does not wait
+  pub carries-is : let slot = slotAfterGrant b st s in
+      carriesOut b st s ≡ slot .serving && not (waits (slaveAt b s) (transferAt st (slot .owner)) slot)
+  unfolding carriesOut lineOf waits
+  carries-is = go outcome
+    where
+      slot : Slot
+      slot = slotAfterGrant b st s
+
+      go : Outcome b st s → carriesOut b st s ≡ slot .serving && not (waits (slaveAt b s) (transferAt st (slot .owner)) slot)
+      go (rests e q) = rw (q, e)
+      go (waiting e h q) = rw (q, e, lt-ltb (slotAfterGrant b st s .waited) (waitNow b st s) h)
+      go (works e h l q) = rw (q, e, le-ltb (slotAfterGrant b st s .waited) (waitNow b st s) h)
+      go (ends e h l q) = rw (q, e, le-ltb (slotAfterGrant b st s .waited) (waitNow b st s) h)
 
   -- a slave that carries out a last access has served
   pub last-serving : stepOf b st s .last ≡ true → slotAfterGrant b st s .serving ≡ true

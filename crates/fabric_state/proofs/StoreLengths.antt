@@ -21,7 +21,7 @@ SameLengths e d = (length (e .memory) ≡ length (d .memory)) × (length (e .buf
 
 carried-one : (b : Board) (st : State) (s : ℕ) (d : Store) → SameLengths (carried b st s d) d
 unfolding carried
-carried-one b st s d = go (carriesOut b st s (slotAfterGrant b st s))
+carried-one b st s d = go (carriesOut b st s)
   where
     slot : Slot
     slot = slotAfterGrant b st s

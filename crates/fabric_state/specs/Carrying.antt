@@ -3,19 +3,19 @@
 -- Assumes nothing.
 use mathlib.Core.Bool.{Bool, cond, not, _&&_}
 use Prim.Native.Nat.{ℕ, zero, suc, _*_}
+use lib.Dec.{eqb}
 use Rattle.description_board.specs.declared.Board.{Board}
 use Rattle.description_board.specs.Records.{masterAt, slaveAt, startOf}
 use Rattle.fabric_transfer.specs.Accesses.{accessNumber}
 use Rattle.fabric_transfer.specs.Bytes.{Store, clearedWords, carriedAccess}
-use Rattle.fabric_state.specs.declared.Slot.{Slot}
 use Rattle.fabric_state.specs.declared.State.{State}
 use Rattle.fabric_state.specs.Records.{transferAt}
 use Rattle.fabric_state.specs.Soundness.{unmappedAt}
-use Rattle.fabric_state.specs.Control.{slotAfterGrant, waits}
+use Rattle.fabric_state.specs.Control.{slotAfterGrant, stepOf}
 
--- rule 4.8: slave s, with its slot after rule 1, carries out an access in this clock
-unfoldable pub carriesOut : Board → State → ℕ → Slot → Bool
-carriesOut b st s slot = slot .serving && not (waits (slaveAt b s) (transferAt st (slot .owner)) slot)
+-- rule 4.8: slave s carries out an access in this clock: its line's phase is 2
+unfoldable pub carriesOut : Board → State → ℕ → Bool
+carriesOut b st s = eqb (stepOf b st s .line .phase) 2
 
 -- rules 4.8, 4.10: the lent bytes after the clock of slave s
 unfoldable pub carried : Board → State → ℕ → Store → Store
@@ -24,7 +24,7 @@ carried b st s d =
     let ma = masterAt b (slot .owner) in
     let sl = slaveAt b s in
     let t = transferAt st (slot .owner) in
-    cond (carriesOut b st s slot)
+    cond (carriesOut b st s)
     (carriedAccess ma sl t (slot .owner) (startOf b s) (accessNumber ma sl t (slot .done)) d)
     d
 

@@ -35,6 +35,7 @@ use Rattle.fabric_state.proofs.RequestLaws.{Accepted, accepted, accepted-posted
 use Rattle.fabric_state.proofs.RequestLaws.{target-mapped, mapped-of}
 use Rattle.fabric_state.proofs.StateLaws.{transfer-after-past, late-after, late-ends, late-less, held-after}
 use Rattle.fabric_state.proofs.StateLaws.{finished-now, finished-then}
+use Rattle.fabric_state.proofs.StepLaws.{carries-is}
 use Rattle.fabric_state.proofs.SoundLaws.{grant-sound}
 use Rattle.theorem_history.proofs.ReadBytes.TransferBytes.{accessesAt, accessAt, Lies}
 use Rattle.theorem_history.proofs.ReadBytes.SlaveBytes.{Wants}
@@ -179,15 +180,14 @@ module _ (b : Board) (legal : Legal b) (st : State) (sound : Sound b st) where
     some-left on = rw (owner-active on) (grant-sound b st legal sound k below .serving on .done)
 
     -- one of which it carries out, or none
-    pub carries-serving : carriesOut b st k (now k) ≡ true → now k .serving ≡ true
-    unfolding carriesOut
-    carries-serving e = both (now k .serving) _ e .0
+    pub carries-serving : carriesOut b st k ≡ true → now k .serving ≡ true
+    carries-serving e = both (now k .serving) _ (sym (carries-is b st k) ∙ e) .0
 
-    pub carried-access : (d : Store) → carriesOut b st k (now k) ≡ true
+    pub carried-access : (d : Store) → carriesOut b st k ≡ true
         → carried b st k d ≡ accessAt b k (now k .owner) (activeAt st (now k .owner)) (now k .done) d
     unfolding carried
     carried-access d e = rw (e, owner-active (carries-serving e))
 
-    pub carried-none : (d : Store) → carriesOut b st k (now k) ≡ false → carried b st k d ≡ d
+    pub carried-none : (d : Store) → carriesOut b st k ≡ false → carried b st k d ≡ d
     unfolding carried
     carried-none d e = rw e

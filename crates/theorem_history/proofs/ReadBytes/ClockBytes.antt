@@ -27,7 +27,7 @@ use Rattle.fabric_state.specs.Carrying.{carriesOut, carried, carriedBy, storeAf
 use Rattle.fabric_state.proofs.Sound.{Sound}
 use Rattle.fabric_state.proofs.StateLaws.{slot-after, late-after, late-after-past, late-none, ended-by, ended-here, finished-ended}
 use Rattle.fabric_state.proofs.StepLaws.{Outcome, rests, waiting, works, ends, outcome, waitNow, accessesNow, line-owner}
-use Rattle.fabric_state.proofs.StepLaws.{last-serving}
+use Rattle.fabric_state.proofs.StepLaws.{carries-is, last-serving}
 use Rattle.fabric_state.proofs.SoundLaws.{served-kept, served-free}
 use Rattle.theorem_history.specs.Claim.{Reference, bytesIn, Order, seenAll}
 use Rattle.theorem_history.proofs.ReadBytes.LineOrders.{steps, sweep, numbers, steps-none, steps-next, times-numbers}
@@ -49,7 +49,7 @@ pub record Agreed (b : Board) (st : State) (d : Store) (r : Reference) : Type 0 
 -- the slot of slave k where its access of this clock is carried out, and not yet judged whether it is the last
 unfoldable slotCarried : Board → State → ℕ → Slot
 slotCarried b st k =
-    cond (carriesOut b st k (slotAfterGrant b st k)) (slotAccessed (slotAfterGrant b st k)) (slotAfterGrant b st k)
+    cond (carriesOut b st k) (slotAccessed (slotAfterGrant b st k)) (slotAfterGrant b st k)
 
 carried-steps : (b : Board) (st : State) (n : ℕ) (d : Store) → carriedBy b st n d ≡ steps (carried b st) (numbers n) d
 unfolding carriedBy
@@ -67,9 +67,9 @@ module _ (b : Board) (legal : Legal b) (st : State) (sound : Sound b st) where
     access : (d : Store) (r : Reference) → Right b (activeAt st) d r k (now k)
         → Right b (activeAt st) (carried b st k d) r k (slotCarried b st k)
     unfolding slotCarried
-    access d r c = go (carriesOut b st k (now k)) refl
+    access d r c = go (carriesOut b st k) refl
       where
-        go : (p : Bool) → carriesOut b st k (now k) ≡ p
+        go : (p : Bool) → carriesOut b st k ≡ p
             → Right b (activeAt st) (carried b st k d) r k (slotCarried b st k)
         go false e = rw (carried-none b legal st sound k below d e, e) c
         go true e =
@@ -80,9 +80,9 @@ module _ (b : Board) (legal : Legal b) (st : State) (sound : Sound b st) where
 
     other-access : (d : Store) (r : Reference) (j : ℕ) → k ≢ j → (x : Slot) → Right b (activeAt st) d r j x
         → Right b (activeAt st) (carried b st k d) r j x
-    other-access d r j h x f = go (carriesOut b st k (now k)) refl
+    other-access d r j h x f = go (carriesOut b st k) refl
       where
-        go : (p : Bool) → carriesOut b st k (now k) ≡ p → Right b (activeAt st) (carried b st k d) r j x
+        go : (p : Bool) → carriesOut b st k ≡ p → Right b (activeAt st) (carried b st k d) r j x
         go false e = rw (carried-none b legal st sound k below d e) f
         go true e =
             let o = now k .owner in
@@ -110,16 +110,16 @@ module _ (b : Board) (legal : Legal b) (st : State) (sound : Sound b st) where
 
   module _ (k : ℕ) (below : k < b .«slave_count») where
     carried-rests : now k .serving ≡ false → slotCarried b st k ≡ now k
-    unfolding slotCarried carriesOut
-    carried-rests e = rw e
+    unfolding slotCarried
+    carried-rests e = rw (carries-is b st k, e)
 
     carried-waits : now k .serving ≡ true → now k .waited < waitNow b st k → slotCarried b st k ≡ now k
-    unfolding slotCarried carriesOut waits
-    carried-waits e h = rw (e, lt-ltb (now k .waited) (waitNow b st k) h)
+    unfolding slotCarried waits
+    carried-waits e h = rw (carries-is b st k, e, lt-ltb (now k .waited) (waitNow b st k) h)
 
     carried-out : now k .serving ≡ true → waitNow b st k ≤ now k .waited → slotCarried b st k ≡ slotAccessed (now k)
-    unfolding slotCarried carriesOut waits
-    carried-out e h = rw (e, le-ltb (now k .waited) (waitNow b st k) h)
+    unfolding slotCarried waits
+    carried-out e h = rw (carries-is b st k, e, le-ltb (now k .waited) (waitNow b st k) h)
 
     right-at : {d : Store} {r : Reference} {x y : Slot} → x ≡ y → Right b (activeAt st) d r k x
         → Right b (activeAt st) d r k y

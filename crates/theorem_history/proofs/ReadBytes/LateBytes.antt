@@ -103,12 +103,12 @@ module _
 
     brought-access : (k : ℕ) → k < b .«slave_count» → (d : Store) (r : Reference) → Brought b d r m
         → Brought b (carried b st k d) r m
-    brought-access k a d r c = go (carriesOut b st k (slotAfterGrant b st k)) refl
+    brought-access k a d r c = go (carriesOut b st k) refl
       where
         o : ℕ
         o = slotAfterGrant b st k .owner
 
-        go : (p : Bool) → carriesOut b st k (slotAfterGrant b st k) ≡ p → Brought b (carried b st k d) r m
+        go : (p : Bool) → carriesOut b st k ≡ p → Brought b (carried b st k d) r m
         go false e = rw (carried-none b legal st sound k a d e) c
         go true e =
             let on = carries-serving b legal st sound k a e in
