@@ -5,6 +5,7 @@ use mathlib.Core.List.{List, [], _∷_}
 use Prim.Native.Nat.{ℕ, _+_, _-_, _*_}
 use lib.Dec.{leb, ltb, eqb}
 use lib.ListN.{length, getD, set, replicate}
+use Rattle.common_numbers.specs.Numbers.{slaveLength}
 use Rattle.common_text.specs.declared.Number.{Number}
 use Rattle.common_text.specs.declared.Number.the-variants.{Malformed, Value}
 use Rattle.common_text.specs.declared.Numbers.{Numbers}
@@ -60,7 +61,7 @@ numberValue (Value n) = n
 
 -- the most numbers that a line has behind its word: those of a slave line (rule 1.3)
 abbrev pub mostNumbers : ℕ
-mostNumbers = 8
+mostNumbers = slaveLength
 
 -- no numbers
 unfoldable pub noNumbers : Numbers

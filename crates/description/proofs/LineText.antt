@@ -9,6 +9,7 @@ use lib.Dec.{eqb}
 use borrow.Author.Tests.{eqb-true}
 use Rattle.common_laws.specs.Lists.{same, gather, table}
 use Rattle.common_laws.proofs.TextLists.{same-true}
+use Rattle.common_numbers.specs.Numbers.{slaveLength}
 use Rattle.common_text.specs.Digits.{fieldsText, lineText}
 use Rattle.common_text.specs.Fields.{comma, lineFeed, split, mostNumbers, numbersOf}
 use Rattle.common_text.proofs.Spelling.{joined, joined-split, line-spelling}
@@ -44,7 +45,7 @@ module _ (line word : List ℕ) (fs : List (List ℕ)) (e : split comma line ≡
   unfolding itemOfFields masterLine slaveLine shareLine itemText table gather
   has-fields =
       has-chosen _ (same word masterWord) _ _ (has-numbers masterWord 2 _ (omega arith) (omega arith) refl)
-      (has-chosen _ (same word slaveWord) _ _ (has-numbers slaveWord mostNumbers _ (omega arith) (omega arith) refl)
+      (has-chosen _ (same word slaveWord) _ _ (has-numbers slaveWord slaveLength _ (omega arith) (omega arith) refl)
       (has-chosen _ (same word shareWord) _ _ (has-numbers shareWord 3 _ (omega arith) (omega arith) refl) (λ h. absurd h)))
 
 -- the line `default`

@@ -8,12 +8,13 @@ use lib.ListN.{length, getD, replicate, length-replicate}
 use Rattle.common_laws.specs.Lists.{table}
 use Rattle.common_laws.proofs.TableLaws.{length-table, getD-table, getD-replicate-all}
 use Rattle.common_laws.proofs.FillLaws.{table-is}
+use Rattle.common_numbers.specs.Numbers.{slaveLength}
 use Rattle.description_board.specs.declared.Master.{Master}
 use Rattle.description_board.specs.declared.Slave.{Slave}
 use Rattle.description_board.specs.declared.Board.{Board}
 use Rattle.description_board.specs.Records.{noMaster, noSlave, noBoard, masterAt, slaveAt, sharesAt}
 use Rattle.description_board.specs.Rules.{withShare}
-use Rattle.description_layout.specs.Layout.{slaveLength, sharesFrom, boardLength, masterFrom, slaveFrom, boardIn}
+use Rattle.description_layout.specs.Layout.{sharesFrom, boardLength, masterFrom, slaveFrom, boardIn}
 use Rattle.description_layout.specs.Code.Puts.{withShareAt}
 
 module _ (l : List ℕ) where

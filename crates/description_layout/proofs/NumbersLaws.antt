@@ -14,8 +14,9 @@ use Rattle.common_laws.proofs.TableLaws.{length-table, getD-table}
 use Rattle.common_laws.proofs.FrontLaws.{table-same}
 use Rattle.common_laws.proofs.FillLaws.{filled}
 use Rattle.common_laws.proofs.PartLaws.{part, part-whole, part-one, part-join, part-cons, part-gather}
+use Rattle.common_numbers.specs.Numbers.{slaveLength}
 use Rattle.description_board.specs.Records.{masterAt, slaveAt}
-use Rattle.description_layout.specs.Layout.{slaveLength, sharesFrom, defaultAt, boardLength, masterFrom, slaveFrom}
+use Rattle.description_layout.specs.Layout.{sharesFrom, defaultAt, boardLength, masterFrom, slaveFrom}
 use Rattle.description_layout.specs.Layout.{marked, markOf, numbersOfMaster, numbersOfSlave, boardIn, numbersOfBoard}
 use Rattle.description_layout.proofs.BoardLaws.{master-read, slave-read, share-found}
 use Rattle.description_layout.proofs.PutLaws.{board-same}

@@ -12,9 +12,10 @@ use Rattle.common_laws.proofs.FillLaws.{table-put, below-above}
 use Rattle.common_laws.proofs.FrontLaws.{table-same}
 use Rattle.common_laws.proofs.SetsLaws.{five, two-sets, six-sets, Agree, five-same, sets-apart}
 use Rattle.common_laws.proofs.SetsLaws.{counted-apart, counted-inside, records-apart}
+use Rattle.common_numbers.specs.Numbers.{slaveLength}
 use Rattle.description_board.specs.declared.Slave.{Slave}
 use Rattle.description_board.specs.Rules.{withMaster, withSlave, withDefault}
-use Rattle.description_layout.specs.Layout.{marked, slaveLength, sharesFrom, defaultAt, boardLength}
+use Rattle.description_layout.specs.Layout.{marked, sharesFrom, defaultAt, boardLength}
 use Rattle.description_layout.specs.Layout.{masterFrom, slaveFrom, numbersOfSlave, boardIn}
 use Rattle.description_layout.specs.Code.Puts.{withShareAt}
 

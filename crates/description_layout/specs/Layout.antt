@@ -7,6 +7,7 @@ use Prim.Native.Nat.{ℕ, _+_, _*_}
 use lib.Dec.{eqb}
 use lib.ListN.{getD}
 use Rattle.common_laws.specs.Lists.{gather, table}
+use Rattle.common_numbers.specs.Numbers.{slaveLength}
 use Rattle.description_board.specs.declared.Master.{Master}
 use Rattle.description_board.specs.declared.Slave.{Slave}
 use Rattle.description_board.specs.declared.Board.{Board}
@@ -24,11 +25,8 @@ markOf b = cond b 1 0
 unfoldable pub masterFrom : List ℕ → ℕ → Master
 masterFrom l p = record { width = getD l p 0; burst = getD l (p + 1) 0 }
 
--- rules 1.3, 1.10: how many numbers a slave has; where the shares begin, behind two counts, 8 masters and 16 slaves; where the mark of
--- the line `default` stands; how many numbers a board has. The code has them as constants of common_numbers.
-abbrev pub slaveLength : ℕ
-slaveLength = 8
-
+-- rule 1.10: where the shares begin, after two counts, 8 masters and 16 slaves; where the mark of the line `default` stands; how many
+-- numbers a board has. A slave has as many numbers as its line (rule 1.3). The code has all of them as constants of common_numbers.
 abbrev pub sharesFrom : ℕ
 sharesFrom = 18 + 16 * slaveLength
 

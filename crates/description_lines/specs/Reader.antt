@@ -7,7 +7,8 @@ use lib.Dec.{eqb}
 use lib.ListN.{getD}
 use Rattle.common_laws.specs.Bytes.{bytesOf}
 use Rattle.common_laws.specs.Lists.{same}
-use Rattle.common_text.specs.Fields.{split, comma, lineFeed, mostNumbers, numbersOf}
+use Rattle.common_numbers.specs.Numbers.{slaveLength}
+use Rattle.common_text.specs.Fields.{split, comma, lineFeed, numbersOf}
 use Rattle.common_text.specs.declared.Numbers.{Numbers}
 use Rattle.description_board.specs.declared.Item.{Item}
 use Rattle.description_board.specs.declared.Item.the-variants.{Malformed, MasterLine, SlaveLine, ShareLine, DefaultLine}
@@ -39,7 +40,7 @@ masterLine ns = cond (eqb (ns .count) 2) (MasterLine (value ns 0) (value ns 1)) 
 -- rules 1.3, 7.1: `slave,base,span,width,burst,readwait,writewait,native,latency`; no line has more numbers
 unfoldable pub slaveLine : Numbers → Item
 slaveLine ns =
-    cond (eqb (ns .count) mostNumbers)
+    cond (eqb (ns .count) slaveLength)
     (SlaveLine (record {
       base = value ns 0;
       span = value ns 1;
