@@ -102,10 +102,13 @@ impl Simulator {
         }
     }
 
+    /// A reset that is refused leaves the state.
     fn run_reset(&mut self, fields: &[&[u8]]) -> Option<String> {
         let [] = exactly(fields)?;
         let (number, state) = reset(&self.board);
-        self.state = state;
+        if number == 0 {
+            self.state = state;
+        }
         Some(format!("reset,{number}\n"))
     }
 

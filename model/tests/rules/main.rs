@@ -16,6 +16,7 @@ mod native;
 mod order;
 mod posts;
 mod programs;
+mod refused_resets;
 mod tally;
 mod unconnected;
 mod unmapped;

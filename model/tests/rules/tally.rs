@@ -124,7 +124,7 @@ pub fn tally(text: &[u8], script: &[u8]) -> Tally {
             let already = before.middles();
             let comes_in = |middle| !already.contains(middle);
             overwritten |= after.middles().iter().any(comes_in);
-        } else if printed.starts_with(b"clock,0,") || printed.starts_with(b"reset") {
+        } else if printed.starts_with(b"clock,0,") || printed == b"reset,0\n" {
             overwritten = false;
         }
     }
