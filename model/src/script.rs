@@ -338,7 +338,7 @@ fn low_first(bytes: &[u8]) -> u64 {
         .fold(0, |value, &byte| value * 256 + byte as u64)
 }
 
-/// Runs a whole script on the board of a text, up to its first malformed line.
+/// Runs a whole script on the board of a text, up to its first line that is malformed or lacks its line feed.
 pub fn simulate(text: &[u8], script: &mut impl BufRead, output: &mut impl Write) -> io::Result<()> {
     let mut simulator = match Simulator::new(text) {
         Err(number) => return writeln!(output, "refused,{number}"),
@@ -352,10 +352,12 @@ pub fn simulate(text: &[u8], script: &mut impl BufRead, output: &mut impl Write)
             return Ok(());
         }
         count += 1;
-        if line.last() == Some(&b'\n') {
-            line.pop();
-        }
-        if simulator.run_line(&line, output)?.is_none() {
+        // the rest of a line that lacks its line feed may be missing: it is not run, whatever it says
+        let result = match line.strip_suffix(b"\n") {
+            Some(whole) => simulator.run_line(whole, output)?,
+            None => None,
+        };
+        if result.is_none() {
             return writeln!(output, "error,{count}");
         }
     }

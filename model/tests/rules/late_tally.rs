@@ -1,5 +1,6 @@
 //! What a script does about cards with a latency.
 
+use crate::tally::ended_lines;
 use model::board::{Board, LATENCY_LIMIT, MASTER_LIMIT};
 use model::description::check_board;
 use model::fabric::{self, State, Transfer, BUFFER_LENGTH};
@@ -200,8 +201,8 @@ pub fn single_clocks(script: &[u8]) -> Vec<&[u8]> {
         Some(count) => String::from_utf8_lossy(count).parse().unwrap_or(1),
         None => 1,
     };
-    script
-        .split(|&byte| byte == b'\n')
+    ended_lines(script)
+        .into_iter()
         .flat_map(|line| {
             let line_of_one = if times(line) > 1 { b"clock,1" } else { line };
             vec![line_of_one; times(line)]

@@ -105,6 +105,14 @@ impl Tally {
     }
 }
 
+/// The lines of a script that have their line feed.
+pub fn ended_lines(script: &[u8]) -> Vec<&[u8]> {
+    script
+        .split_inclusive(|&byte| byte == b'\n')
+        .filter_map(|line| line.strip_suffix(b"\n"))
+        .collect()
+}
+
 /// Runs a script on the board of a text, up to a malformed line; one on a refused board does nothing.
 pub fn tally(text: &[u8], script: &[u8]) -> Tally {
     let mut tally = Tally::default();
@@ -112,7 +120,7 @@ pub fn tally(text: &[u8], script: &[u8]) -> Tally {
         return tally;
     };
     let mut overwritten = false;
-    for line in script.split(|&byte| byte == b'\n') {
+    for line in ended_lines(script) {
         let before = Moment::of(&simulator);
         let mut printed = Vec::new();
         let Ok(Some(())) = simulator.run_line(line, &mut printed) else {
