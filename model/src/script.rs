@@ -55,6 +55,7 @@ impl Store {
 }
 
 /// A board with all that a caller of the fabric lends. Board, state and lengths may be set to anything.
+#[derive(Clone)]
 pub struct Simulator {
     text: Vec<u8>,
     pub board: Board,

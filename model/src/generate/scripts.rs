@@ -9,6 +9,7 @@ mod malformed;
 mod native;
 mod partial;
 mod posts;
+mod refused;
 mod restore;
 mod slots;
 mod unconnected;
@@ -176,14 +177,17 @@ impl Author {
         }
     }
 
-    /// Sometimes transfers to unmapped addresses. They come beside the calls that are asked for, so that of all else there is as
-    /// much as without them.
+    /// Sometimes transfers to unmapped addresses, and resets that are refused. They come beside the calls that are asked for, so
+    /// that of all else there is as much as without them.
     fn beside(&mut self) {
+        let lines = self.lines;
         if self.random.chance(1, 2) {
-            let lines = self.lines;
             self.unmapped();
-            self.lines = lines;
         }
+        if self.random.chance(1, 4) {
+            self.refused_resets();
+        }
+        self.lines = lines;
     }
 
     fn closing(&mut self) {
@@ -206,7 +210,7 @@ impl Author {
     }
 }
 
-/// A script of about `calls` lines, and some about unmapped addresses, for the board of a text.
+/// A script of about `calls` lines, and some about unmapped addresses and refused resets, for the board of a text.
 pub fn write_script(
     seed: u64,
     calls: usize,

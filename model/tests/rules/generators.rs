@@ -4,10 +4,12 @@ use std::fs;
 use std::path::Path;
 
 use crate::late_tally::{late_tally, LateTally, FAULTS};
+use crate::reset_tally::{printed_if, reset_tally, ResetTally, RESET_CASES};
 use crate::tally::{tally, Tally};
 use crate::unmapped_tally::{unmapped_tally, UnmappedTally, CASES};
 use model::board::Board;
 use model::description::{read, write};
+use model::fabric::State;
 use model::generate::boards::{any_size, board, longest_board, write_boards, Size};
 use model::generate::random::Random;
 use model::generate::{scripts, texts};
@@ -142,7 +144,7 @@ fn generated_texts_often_have_share_lines_out_of_order() {
 }
 
 /// A board and a script for it.
-fn board_and_script(seed: u64, calls: usize) -> (String, Vec<u8>) {
+pub fn board_and_script(seed: u64, calls: usize) -> (String, Vec<u8>) {
     let mut random = Random::new(seed);
     let size = any_size(&mut random);
     let text = write(&board(&mut random, size));
@@ -390,5 +392,74 @@ fn generated_scripts_have_every_case_of_unmapped_transfers() {
     println!("{cases:#?}");
     for (case, scripts) in cases {
         assert!(scripts >= 24, "{case} only in {scripts} of 400");
+    }
+}
+
+/// Of 400 scripts of 100 calls, how many have each case of a refused reset.
+fn scripts_with_refused_resets() -> Vec<(&'static str, usize)> {
+    let tallies: Vec<ResetTally> = (0..400)
+        .map(|seed| board_and_script(seed, 100))
+        .map(|(text, script)| reset_tally(text.as_bytes(), &script))
+        .collect();
+    let has = |tally: &&ResetTally, case: &str| tally.get(case).is_some_and(|&count| count > 0);
+    let count = |case: &'static str| tallies.iter().filter(|tally| has(tally, case)).count();
+    RESET_CASES
+        .into_iter()
+        .map(|case| (case, count(case)))
+        .collect()
+}
+
+#[test]
+fn generated_scripts_have_every_case_of_a_refused_reset() {
+    let cases = scripts_with_refused_resets();
+    println!("{cases:#?}");
+    for (case, scripts) in cases {
+        assert!(scripts >= 24, "{case} only in {scripts} of 400");
+    }
+}
+
+/// What a wrong program does to the state at a refused reset.
+type Wrong = (&'static str, fn(&mut State));
+
+const WRONG: [Wrong; 8] = [
+    ("all is 0", |state| *state = State::default()),
+    ("no transfer is held", |state| {
+        state.transfers = State::default().transfers
+    }),
+    ("no latency is left", |state| {
+        state
+            .transfers
+            .iter_mut()
+            .for_each(|transfer| transfer.late = 0)
+    }),
+    ("no slot is left", |state| {
+        state.slots = State::default().slots
+    }),
+    ("no slave serves", |state| {
+        state.slots.iter_mut().for_each(|slot| slot.serving = false)
+    }),
+    ("no entry stands", |state| state.log.count = 0),
+    ("no entry has numbers", |state| {
+        state.log.entries = State::default().log.entries
+    }),
+    ("nothing is lost", |state| state.log.lost = false),
+];
+
+/// Which of the wrong programs print something else than the right one.
+fn told_apart(text: &[u8], script: &[u8]) -> [bool; WRONG.len()] {
+    let right = printed_if(text, script, |_| {});
+    WRONG.map(|(_, change)| right != printed_if(text, script, change))
+}
+
+#[test]
+fn generated_scripts_tell_what_a_refused_reset_changes() {
+    let told: Vec<[bool; WRONG.len()]> = (400..500)
+        .map(|seed| board_and_script(seed, 100))
+        .map(|(text, script)| told_apart(text.as_bytes(), &script))
+        .collect();
+    for (index, (name, _)) in WRONG.into_iter().enumerate() {
+        let scripts = told.iter().filter(|told| told[index]).count();
+        println!("{name}: {scripts} of 100");
+        assert!(scripts >= 8, "{name}: only {scripts} of 100");
     }
 }

@@ -17,6 +17,7 @@ mod order;
 mod posts;
 mod programs;
 mod refused_resets;
+mod reset_tally;
 mod tally;
 mod unconnected;
 mod unmapped;

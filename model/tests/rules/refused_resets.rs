@@ -1,7 +1,9 @@
 //! Resets that are refused: they leave the state, every number of it.
 
+use crate::generators::board_and_script;
+use crate::tally::ended_lines;
 use crate::{BOARD, MARKED};
-use model::script::simulate;
+use model::script::{simulate, Simulator};
 
 fn printed_on(text: &str, script: &str) -> String {
     let mut output = Vec::new();
@@ -156,4 +158,33 @@ fn an_accepted_reset_after_refused_ones_clears() {
     let printed = printed_on(BOARD, script);
     let expected = format!("reset,20\nreset,20\nreset,0\n{state}");
     assert!(printed.ends_with(&expected), "{printed}");
+}
+
+#[test]
+fn without_its_refused_resets_a_script_prints_the_same() {
+    let mut left_out = 0;
+    for seed in 0..100 {
+        let (text, script) = board_and_script(seed, 100);
+        let mut simulator = Simulator::new(text.as_bytes()).expect("a generated board is refused");
+        let mut without = simulator.clone();
+        for line in ended_lines(&script) {
+            let (mut printed, mut expected) = (Vec::new(), Vec::new());
+            let result = simulator
+                .run_line(line, &mut printed)
+                .expect("memory takes all");
+            if printed.starts_with(b"reset,") && printed != b"reset,0\n" {
+                left_out += 1;
+                continue;
+            }
+            let same = without
+                .run_line(line, &mut expected)
+                .expect("memory takes all");
+            assert_eq!((result, printed), (same, expected), "seed {seed}");
+            assert_eq!(simulator.state, without.state, "seed {seed}");
+            if result.is_none() {
+                break;
+            }
+        }
+    }
+    assert!(left_out > 50, "only {left_out}");
 }

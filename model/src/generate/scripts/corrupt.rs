@@ -109,7 +109,7 @@ impl Author {
         }
     }
 
-    fn corrupt_master(&mut self) {
+    pub fn corrupt_master(&mut self) {
         let index = self.any_master();
         let mut master = self.board.masters[index];
         if self.random.chance(1, 2) {
@@ -121,7 +121,7 @@ impl Author {
         self.put(&master_line(index, &master));
     }
 
-    fn corrupt_slave(&mut self) {
+    pub fn corrupt_slave(&mut self) {
         let index = self.any_slave();
         let mut slave = self.board.slaves[index];
         let other = self.board.slaves[self.random.below(self.slaves())];
@@ -160,7 +160,7 @@ impl Author {
     fn edge_base(&mut self, slave: &Slave, other: &Slave) -> u32 {
         let bases = [
             other.base,
-            slave.base + 1,
+            slave.base.wrapping_add(1),
             slave.base ^ (slave.span / 2),
             slave.base ^ slave.span,
         ];
@@ -169,12 +169,12 @@ impl Author {
 
     fn edge_span(&mut self, slave: &Slave, any: u32) -> u32 {
         let half = slave.span / 2;
-        let double = slave.span * 2;
+        let double = slave.span.wrapping_mul(2);
         let spans = [0, 4, 8, 12, 16, half, double, 65_536, 131_072, 1 << 31, any];
         self.random.pick(&spans)
     }
 
-    fn corrupt_share(&mut self) {
+    pub fn corrupt_share(&mut self) {
         let (masters, slaves) = match self.random.chance(1, 3) {
             true => (MASTER_LIMIT, SLAVE_LIMIT),
             false => (self.masters(), self.slaves()),
@@ -185,7 +185,7 @@ impl Author {
         self.put(&format!("share,{master},{slave},{shares}"));
     }
 
-    fn corrupt_count(&mut self) {
+    pub fn corrupt_count(&mut self) {
         let mut masters = self.board.master_count;
         let mut slaves = self.board.slave_count;
         if self.random.chance(1, 2) {

@@ -50,7 +50,7 @@ impl Author {
     }
 
     /// An entry that a clock could enter, or any numbers.
-    fn any_entry(&mut self) -> Entry {
+    pub fn any_entry(&mut self) -> Entry {
         let any = self.random.byte();
         let master = self.random.below(self.masters()) as u8;
         Entry {
@@ -61,7 +61,7 @@ impl Author {
     }
 
     /// Overwrites some places of the log, standing or not.
-    fn put_entries(&mut self) {
+    pub fn put_entries(&mut self) {
         for index in 0..LOG_LENGTH {
             if self.random.chance(1, 3) {
                 let entry = self.any_entry();
@@ -70,7 +70,7 @@ impl Author {
         }
     }
 
-    fn put_log_line(&mut self, count: u32) {
+    pub fn put_log_line(&mut self, count: u32) {
         let log = Log {
             count,
             lost: self.random.chance(1, 4),

@@ -107,7 +107,7 @@ impl Author {
     }
 
     /// Anything in a slot behind the board's slaves, which does not count.
-    fn corrupt_unused_slot(&mut self) {
+    pub fn corrupt_unused_slot(&mut self) {
         let slave = self.random.between(self.slaves(), SLAVE_LIMIT - 1);
         let slot = Slot {
             owner: self.random.byte(),
