@@ -13,6 +13,7 @@ mod refused;
 mod restore;
 mod slots;
 mod unconnected;
+mod unended;
 mod unmapped;
 
 use std::io::{self, Write};
@@ -205,7 +206,7 @@ impl Author {
             self.malformed();
         }
         if self.random.chance(1, 8) {
-            self.script.pop();
+            self.unended();
         }
     }
 }
@@ -217,12 +218,15 @@ pub fn write_script(
     text: &[u8],
     output: &mut impl Write,
 ) -> io::Result<()> {
+    let mut random = Random::new(seed);
     let Ok(simulator) = Simulator::new(text) else {
-        return output.write_all(b"reset\nclock,1\nstate\n");
+        // nothing of it is carried out, so that its end is not looked at
+        let end = random.pick(&["state\n", "state\n", "state\n", "state"]);
+        return write!(output, "reset\nclock,1\n{end}");
     };
     let board = simulator.board;
     let mut author = Author {
-        random: Random::new(seed),
+        random,
         simulator,
         script: Vec::new(),
         lines: 0,

@@ -3,6 +3,7 @@
 use std::fs;
 use std::path::Path;
 
+use crate::end_tally::{unended, words, Kind, Unended, KINDS};
 use crate::late_tally::{late_tally, LateTally, FAULTS};
 use crate::reset_tally::{printed_if, reset_tally, ResetTally, RESET_CASES};
 use crate::tally::{tally, Tally};
@@ -462,4 +463,63 @@ fn generated_scripts_tell_what_a_refused_reset_changes() {
         println!("{name}: {scripts} of 100");
         assert!(scripts >= 8, "{name}: only {scripts} of 100");
     }
+}
+
+#[test]
+fn about_one_generated_script_in_eight_lacks_its_last_line_feed() {
+    let ends: Vec<Unended> = (0..400)
+        .map(|seed| board_and_script(seed, 100))
+        .filter_map(|(text, script)| unended(text.as_bytes(), &script))
+        .collect();
+    assert!((24..=75).contains(&ends.len()), "{} of 400", ends.len());
+    for kind in KINDS {
+        let count = ends.iter().filter(|end| end.kind == kind).count();
+        println!("{kind:?}: {count} of 400");
+        assert!(count >= 4, "{kind:?} only in {count} of 400");
+    }
+}
+
+/// Boards with scripts that are only opened and closed.
+fn short_scripts() -> impl Iterator<Item = (String, Vec<u8>)> {
+    (0..6000).map(|seed| board_and_script(seed, 0))
+}
+
+#[test]
+fn unended_lines_of_every_word_are_whole_and_cut() {
+    let ends: Vec<Unended> = short_scripts()
+        .filter_map(|(text, script)| unended(text.as_bytes(), &script))
+        .collect();
+    for word in words() {
+        for kind in [Kind::Whole, Kind::Cut] {
+            let is_such = |end: &&Unended| end.kind == kind && end.words.contains(&word);
+            let count = ends.iter().filter(is_such).count();
+            println!("{word} {kind:?}: {count} of 6000");
+            assert!(count >= 2, "{word} {kind:?}: only {count} of 6000");
+        }
+    }
+    // clocks are generated with two digits or more
+    let is_clock_of_one = |end: &&Unended| end.line == b"clock,1";
+    let cut_clocks = ends.iter().filter(is_clock_of_one).count();
+    assert!(cut_clocks >= 4, "only {cut_clocks} of 6000");
+}
+
+#[test]
+fn some_generated_scripts_are_one_unended_line_or_empty() {
+    let scripts: Vec<Vec<u8>> = short_scripts().map(|(_, script)| script).collect();
+    let empty = scripts.iter().filter(|script| script.is_empty()).count();
+    let is_one_line = |script: &&Vec<u8>| !script.is_empty() && !script.contains(&b'\n');
+    let one_line = scripts.iter().filter(is_one_line).count();
+    assert!((8..=50).contains(&empty), "{empty} of 6000");
+    assert!((25..=80).contains(&one_line), "{one_line} of 6000");
+}
+
+#[test]
+fn scripts_for_refused_boards_end_with_and_without_a_line_feed() {
+    let is_ended = |seed: &u64| {
+        let mut script = Vec::new();
+        scripts::write_script(*seed, 100, b"master,4,8\n", &mut script).expect("memory takes all");
+        script.ends_with(b"\n")
+    };
+    let ended = (0..100).filter(is_ended).count();
+    assert!((50..=95).contains(&ended), "{ended} of 100");
 }

@@ -4,6 +4,7 @@ mod accesses;
 mod arbiter;
 mod default_line;
 mod description;
+mod end_tally;
 mod fabric;
 mod files;
 mod generators;

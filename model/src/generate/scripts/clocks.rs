@@ -73,9 +73,14 @@ impl Author {
         (self.random.between(0, lent - count), count)
     }
 
-    pub fn fill(&mut self, name: &str, start: usize, count: usize) {
+    pub fn fill_line(&mut self, name: &str, start: usize, count: usize) -> String {
         let data = hex(&self.random.bytes(count));
-        self.put(&format!("fill,{name},{start},{data}"));
+        format!("fill,{name},{start},{data}")
+    }
+
+    pub fn fill(&mut self, name: &str, start: usize, count: usize) {
+        let line = self.fill_line(name, start, count);
+        self.put(&line);
     }
 
     /// A wait call, mostly for a pair of the board.

@@ -85,19 +85,23 @@ const MALFORMED: [&str; 51] = [
 ];
 
 impl Author {
-    /// A malformed line, and lines that are never run.
-    pub fn malformed(&mut self) {
+    pub fn malformed_line(&mut self) -> String {
         let name = self.random.pick(&["memory", "buffer"]);
         let limit = self.lend_limit(name);
         let lent = self.lent(name);
-        let line = match self.random.below(12) {
+        match self.random.below(12) {
             0 => format!("lend,{name},{}", limit + 1),
             1 => format!("show,{name},{},2", lent - 1),
             2 => format!("show,{name},0,{}", lent + 1),
             3 => format!("fill,{name},{},0000", lent - 1),
             4..=7 => self.random.pick(&UNMAPPED).to_string(),
             _ => self.random.pick(&MALFORMED).to_string(),
-        };
+        }
+    }
+
+    /// A malformed line, and lines that are never run.
+    pub fn malformed(&mut self) {
+        let line = self.malformed_line();
         self.script.extend(line.as_bytes());
         self.script.extend(b"\nreset\nstate\n");
     }

@@ -132,7 +132,7 @@ impl Author {
         })
     }
 
-    pub fn put_post(&mut self, post: &Post) {
+    pub fn post_line(&mut self, post: &Post) -> String {
         let direction = if post.write { "write" } else { "read" };
         let data = hex(&self.random.bytes(post.length));
         let Post {
@@ -143,9 +143,12 @@ impl Author {
             ..
         } = post;
         let address = *address as u32;
-        self.put(&format!(
-            "post,{master},{direction},{address},{lanes},{beats},{data}"
-        ));
+        format!("post,{master},{direction},{address},{lanes},{beats},{data}")
+    }
+
+    pub fn put_post(&mut self, post: &Post) {
+        let line = self.post_line(post);
+        self.put(&line);
     }
 
     fn wrong_master(&mut self, master: u64) -> u64 {
