@@ -15,10 +15,10 @@ use Rattle.description_board.specs.Rules.{described, refused}
 use Rattle.description_board.specs.Items.{items, boardRefusal}
 use Rattle.description_board.specs.Legal.{Legal}
 use Rattle.description_board.specs.Rebuilt.{trimmed}
-use Rattle.description_board.proofs.Accepted.{accepted-legal}
+use Rattle.description_board.proofs.Accepted.{accepted-legal, rebuilt}
 use Rattle.description_board.proofs.AcceptedLines.{lines-own}
 use Rattle.description_board.proofs.OwnLines.{allRead}
-use Rattle.description_board.proofs.Rebuilt.{rebuilt, items-trimmed, described-accepted, described-trimmed}
+use Rattle.description_board.proofs.Rebuilt.{items-trimmed, described-accepted, described-trimmed}
 use Rattle.description_lines.specs.Reader.{itemsOf}
 use Rattle.description_lines.specs.Writer.{itemsText}
 use Rattle.description.specs.declared.Parsed.{Parsed}
@@ -50,7 +50,7 @@ module _ (b : Board) (accepted : boardRefusal b ≡ 0) where
       lines-answer (writeText b) _
       (reading-short (writeText b) short
       ∙ ap described (items-read (items b) (items-writable b (accepted-legal b accepted)))
-      ∙ rebuilt b accepted)
+      ∙ rebuilt b (accepted-legal b accepted))
 
   -- and that board has the same text
   pub written-trimmed : writeText (trimmed b) ≡ writeText b

@@ -146,9 +146,9 @@ module _ (b : Board) (k : Legal b) where
         share-carried b (trimmed b) m (omega (arith, k .fewMasters)) refl (λ i h. sym (trimmed-share b i h)) (k .connects m l);
   })
 
-  pub legal-described : described (items b) ≡ allRead b
+  pub rebuilt : described (items b) ≡ allRead b
   unfolding described finish allRead
-  legal-described =
+  rebuilt =
       rw (
         read-items (λ r. Unit {0}) (λ r xs e. tt) b (λ m l _. master-clear m l) (λ s l _. slave-clear s l)
             (λ i l z _. share-clear i l z) (λ d _. default-clear) tt,
@@ -157,4 +157,4 @@ module _ (b : Board) (k : Legal b) where
 
   pub legal-accepted : boardRefusal b ≡ 0
   unfolding boardRefusal allRead
-  legal-accepted = ap (λ (r : Reading). r .number) legal-described
+  legal-accepted = ap (λ (r : Reading). r .number) rebuilt

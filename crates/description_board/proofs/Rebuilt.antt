@@ -14,14 +14,10 @@ use Rattle.description_board.specs.Items.{masterItem, slaveItem, shareIt
 use Rattle.description_board.specs.Rebuilt.{trimmed}
 use Rattle.description_board.proofs.BoardSound.{Sound, described-sound, described-legal}
 use Rattle.description_board.proofs.ItemLaws.{line-same}
-use Rattle.description_board.proofs.OwnLines.{allRead}
 use Rattle.description_board.proofs.Accepted.{trimmed-master, trimmed-slave, trimmed-share}
-use Rattle.description_board.proofs.Accepted.{accepted-legal, legal-described, legal-accepted}
+use Rattle.description_board.proofs.Accepted.{accepted-legal, legal-accepted}
 
 module _ (b : Board) (e : boardRefusal b ≡ 0) where
-  pub rebuilt : described (items b) ≡ allRead b
-  rebuilt = legal-described b (accepted-legal b e)
-
   -- the trimmed board has the same lines
   pub items-trimmed : items (trimmed b) ≡ items b
   unfolding items trimmed masterItem slaveItem
