@@ -20,7 +20,7 @@ use Rattle.fabric_calls.specs.Calls.{clockRefusal}
 use Rattle.fabric_calls.specs.Code.Refusals.{clockRefusalBy}
 use Rattle.fabric_calls.proofs.ClockLaws.{refusal-found}
 use Rattle.fabric_calls.proofs.RunOfClocks.{accepted-board, keeps-rules}
-use Rattle.fabric_begin.specs.Code.Begins.{Begins}
+use Rattle.fabric_begin.specs.Code.Beginnings.{Beginning}
 
 -- what the check of board and state found is what the mask asks for
 decoded-of : (b : Board) (st : State) {ts : List ℕ} → boardRefusal b ≡ 0 → sound b st ≡ true → ts ≡ targetsIn b (st .transfers)
@@ -39,7 +39,7 @@ begin-number b st d {r} checked e = e ∙ refusal-found b st d (r .number) (r .s
 
 -- a clock that is refused
 pub begins-refused : (b : Board) (st : State) (d : Store) (masks : List ℕ) {n : ℕ} → n ≡ clockRefusal b st d → (n ≡ 0 → ⊥)
-    → Begins b st d masks (record { number = n; unmapped = 0 })
+    → Beginning b st d masks (record { number = n; unmapped = 0 })
 begins-refused b st d masks e h = record { number = e; holders = λ z. absurd (h z); unmapped = λ z. absurd (h z) }
 
 -- one that is not: the check has found the slave of each transfer
@@ -52,7 +52,7 @@ module _ (b : Board) (st : State) (d : Store) (free : clockRefusal b st d ≡ 0)
   begin-decoded = decoded-of b st (accepted-board b st d free) (keeps-rules b st d free) found
 
   pub begins-taken : {masks : List ℕ} {u : ℕ} → masks ≡ table (requestMask ts) 16 → u ≡ unmappedMask b st
-      → Begins b st d masks (record { number = 0; unmapped = u })
+      → Beginning b st d masks (record { number = 0; unmapped = u })
   begins-taken e f = record {
     number = sym free;
     holders = λ _. e ∙ ap (λ (l : List ℕ). table (requestMask l) 16) found;

@@ -14,7 +14,7 @@ ghost use Rattle.description_board.specs.Records.{memoryLength};
 ghost use Rattle.description_layout.specs.Layout.{boardIn};
 ghost use Rattle.fabric_layout.specs.Layout.{stateIn};
 ghost use Rattle.fabric_calls.specs.Code.Refusals.{clockRefusalBy};
-ghost use Rattle.fabric_begin.specs.Code.Begins.{Begins};
+ghost use Rattle.fabric_begin.specs.Code.Beginnings.{Beginning};
 
 // What a clock is refused for, or 0 (rules 7.8, 7.9, 8.4, 8.5): by the board's number, the state's check and the bytes lent.
 fn clock_refusal_by(
@@ -55,7 +55,7 @@ pub fn begin(
     holders: &mut [u32; SLAVES],
 ) -> Begun
     requires { ⌜ now holders ≡ replicate 16 0 ⌝ }
-    ensures { λ r. ⌜ Begins (boardIn (now (board .entry))) (stateIn (now (state .entry)))
+    ensures { λ r. ⌜ Beginning (boardIn (now (board .entry))) (stateIn (now (state .entry)))
         (record { memory = now (memory .entry); buffer = now (buffer .entry) }) (now (holders .exit)) r ⌝ }
 {
     let mut targets = [0u32; MASTERS];

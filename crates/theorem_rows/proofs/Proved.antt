@@ -53,7 +53,7 @@ use Rattle.wait.specs.Calls.{quoteRefusal, quoteOf}
 use Rattle.wait.specs.Answers.{bytes64, pairBytes, pairRefusal, waitRefusal, waitOutput}
 use Rattle.wait_table.specs.Tables.{heading, pairLine, pairLines, tableText, tableOf, printRefusal, refusedText, printed}
 use Rattle.wait_table.specs.Tables.{fileLine}
-use Rattle.wait_table.specs.Named.{firstField, someLine, names}
+use Rattle.wait_table.specs.Named.{firstField, someLine, namesMaster}
 use Rattle.theorem_rows.specs.RowCalls.{runs, started, lineNow, clockedFrom, shownFrom, phases, grants}
 use Rattle.theorem_rows.specs.Examples.{readAnswers, slaveAnswers, Examples}
 use Rattle.theorem_rows.specs.NativeRows.{nativeText, nativeBoard, nativeStart, clockedWith, shownWith, nativeAnswers}
@@ -104,7 +104,7 @@ unfolding
     quoted.longestAccess quoted.singleAccess quoted.mostBeats quoted.single quoted.serve quoted.turn quoted.otherTurn
     quoted.turnsOf quoted.quotedWait quoted.serveOf turnAt turnsAt
     quoteRefusal quoteOf bytes64 pairBytes pairRefusal waitRefusal waitOutput
-    heading pairLine pairLines tableText tableOf printRefusal refusedText printed fileLine firstField someLine names
+    heading pairLine pairLines tableText tableOf printRefusal refusedText printed fileLine firstField someLine namesMaster
     runs started lineNow clockedFrom shownFrom phases grants readAnswers slaveAnswers boardText sharesText tableOutput
     nativeText nativeBoard nativeStart clockedWith shownWith nativeAnswers joined
     withShares threeMasters lent world

@@ -16,7 +16,7 @@ use Rattle.fabric_calls.specs.Calls.{World, reset, post, clock}
 use Rattle.wait.specs.Answers.{waitRefusal}
 use Rattle.wait.specs.Calls.{quoteOf}
 use Rattle.wait_table.specs.Tables.{printed, printRefusal}
-use Rattle.wait_table.specs.Named.{names}
+use Rattle.wait_table.specs.Named.{namesMaster}
 use Rattle.theorem_rows.specs.RowCalls.{started}
 use Rattle.theorem_rows.specs.Rows.{boardText, wordRead}
 
@@ -61,9 +61,9 @@ pub record ConnectionRows : Type 0 where
   pub lower : refusedAt (threeMasters (bytesOf "share,0,0,2\n")) ≡ lacks 1
   -- rule 9.12: with their share lines all are taken, and the table names each, and no other
   pub taken : refusedAt (withShares (bytesOf "share,0,0,2\nshare,1,0,3\n")) ≡ record { number = 0; line = 0; master = 0 }
-  pub namesFirst : names 0 (printed boardText) ≡ true
-  pub namesLast : names 1 (printed boardText) ≡ true
-  pub namesThird : names 2 (printed boardText) ≡ false
+  pub namesFirst : namesMaster 0 (printed boardText) ≡ true
+  pub namesLast : namesMaster 1 (printed boardText) ≡ true
+  pub namesThird : namesMaster 2 (printed boardText) ≡ false
   -- rule 9.12: what is missing is judged behind all lines: 7 at the fourth, 2 for a text of masters alone
   pub line : refusedAt (withShares (bytesOf "share,2,0,2\n")) ≡ record { number = 7; line = 4; master = 0 }
   pub noSlave : refusedAt (bytesOf "master,4,8\nmaster,2,1\n") ≡ record { number = 2; line = 0; master = 0 }

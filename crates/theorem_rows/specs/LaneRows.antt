@@ -29,8 +29,8 @@ unfoldable pub laneBoard : Board
 laneBoard = readText laneText .board
 
 -- a write of the word a1 .. a8 (hex) at address 8, and a read there
-abbrev pub writeLanes : ℕ → Request
-writeLanes lanes = record {
+abbrev pub laneWrite : ℕ → Request
+laneWrite lanes = record {
   master = 0;
   write = true;
   address = 8;
@@ -70,21 +70,21 @@ nativeWith w u = record { base = 0; span = 4096; width = w; burst = u; «read_wa
 
 pub record LaneRows : Type 0 where
   -- lanes 00001100: one access, two bytes behind the address, with its wait
-  pub quarter : shownFrom laneBoard (lanePosted (writeLanes 0b00001100)) 3
+  pub quarter : shownFrom laneBoard (lanePosted (laneWrite 0b00001100)) 3
       ≡ waiting 10 0b11 1 0 ∷ access 10 0b11 1 0 ∷ noLine ∷ []
-  pub quarterEnds : phases laneBoard 2 (lanePosted (writeLanes 0b00001100)) ≡ (1, 0) ∷ (2, 1) ∷ []
-  pub quarterBytes : drop 8 (take 16 (clockedFrom laneBoard (lanePosted (writeLanes 0b00001100)) 2 .store .memory))
+  pub quarterEnds : phases laneBoard 2 (lanePosted (laneWrite 0b00001100)) ≡ (1, 0) ∷ (2, 1) ∷ []
+  pub quarterBytes : drop 8 (take 16 (clockedFrom laneBoard (lanePosted (laneWrite 0b00001100)) 2 .store .memory))
       ≡ 9 ∷ 10 ∷ 163 ∷ 164 ∷ 13 ∷ 14 ∷ 15 ∷ 16 ∷ []
   -- lanes 11110000: two accesses, four and six bytes behind it, in one run
-  pub half : shownFrom laneBoard (lanePosted (writeLanes 0b11110000)) 5
+  pub half : shownFrom laneBoard (lanePosted (laneWrite 0b11110000)) 5
       ≡ waiting 12 0b11 2 0 ∷ access 12 0b11 2 0 ∷ waiting 14 0b11 2 1 ∷ access 14 0b11 2 1 ∷ noLine ∷ []
-  pub halfBytes : drop 8 (take 16 (clockedFrom laneBoard (lanePosted (writeLanes 0b11110000)) 4 .store .memory))
+  pub halfBytes : drop 8 (take 16 (clockedFrom laneBoard (lanePosted (laneWrite 0b11110000)) 4 .store .memory))
       ≡ 9 ∷ 10 ∷ 11 ∷ 12 ∷ 165 ∷ 166 ∷ 167 ∷ 168 ∷ []
   -- a single lane: the access that has it, with the one lane of the card
-  pub single : shownFrom laneBoard (lanePosted (writeLanes 0b00100000)) 3
+  pub single : shownFrom laneBoard (lanePosted (laneWrite 0b00100000)) 3
       ≡ waiting 12 0b10 1 0 ∷ access 12 0b10 1 0 ∷ noLine ∷ []
   -- all lanes: four accesses
-  pub all : shownFrom laneBoard (lanePosted (writeLanes 0b11111111)) 9
+  pub all : shownFrom laneBoard (lanePosted (laneWrite 0b11111111)) 9
       ≡ waiting 8 0b11 4 0 ∷ access 8 0b11 4 0 ∷ waiting 10 0b11 4 1 ∷ access 10 0b11 4 1
       ∷ waiting 12 0b11 4 2 ∷ access 12 0b11 4 2 ∷ waiting 14 0b11 4 3 ∷ access 14 0b11 4 3 ∷ noLine ∷ []
   -- a read with lanes 00001100: four accesses, and all bytes
@@ -100,10 +100,10 @@ pub record LaneRows : Type 0 where
   -- the own length counts what is carried out (5.4)
   pub length : ownLength (masterWith 8) (slaveWith 1 2) (wordWith 0b00001100) ≡ 2
   -- the accesses done that a state may have are fewer than those (7.9)
-  pub oneLeft : servedAnswers (writeLanes 0b00001100) 0 ≡ 0
-  pub noneLeft : servedAnswers (writeLanes 0b00001100) 1 ≡ 9
-  pub halfLeft : servedAnswers (writeLanes 0b11110000) 1 ≡ 0
-  pub halfDone : servedAnswers (writeLanes 0b11110000) 2 ≡ 9
+  pub oneLeft : servedAnswers (laneWrite 0b00001100) 0 ≡ 0
+  pub noneLeft : servedAnswers (laneWrite 0b00001100) 1 ≡ 9
+  pub halfLeft : servedAnswers (laneWrite 0b11110000) 1 ≡ 0
+  pub halfDone : servedAnswers (laneWrite 0b11110000) 2 ≡ 9
   pub lastRead : servedAnswers (readLanes 0b00001100) 3 ≡ 0
   pub readDone : servedAnswers (readLanes 0b00001100) 4 ≡ 9
   -- the figures are those of all lanes (5.5)

@@ -24,7 +24,7 @@ use Rattle.description.specs.Reader.{readText}
 use Rattle.description.proofs.Trip.{read-accepted}
 use Rattle.wait_turns.specs.Waits.{quotedWait, serveOf}
 use Rattle.wait_table.specs.Tables.{heading, pairLine, pairLines, tableText, tableOf, printed}
-use Rattle.wait_table.specs.Named.{firstField, someLine, names}
+use Rattle.wait_table.specs.Named.{firstField, someLine, namesMaster}
 
 -- a field that is the first of a line of a text
 abbrev Found : List ℕ → List ℕ → Type 0
@@ -96,8 +96,8 @@ module _ (b : Board) (accepted : boardRefusal b ≡ 0) (m : ℕ) (there : m < b 
       found-gather (digits m) (pairLine b m) (whole-pair b (digits m) m) (h .0)
       (λ r. rw (h .2) (found-line m _ r)) (b .«slave_count») (connected-pair b m (h .0) (h .2) .0) rest
 
-  pub table-names : names m (tableText b) ≡ true
-  unfolding names tableText pairLines
+  pub table-names : namesMaster m (tableText b) ≡ true
+  unfolding namesMaster tableText pairLines
   table-names =
       let rows : Found (digits m) (pairLines b ++ []) =
       found-gather (digits m) (λ k. gather (pairLine b k) (b .«slave_count»))
@@ -107,6 +107,6 @@ module _ (b : Board) (accepted : boardRefusal b ≡ 0) (m : ℕ) (there : m < b 
 
 -- what is printed for a text that is not refused names every master of its board
 pub printed-names : (text : List ℕ) → readText text .number ≡ 0 → (m : ℕ) → m < readText text .board .«master_count»
-    → names m (printed text) ≡ true
+    → namesMaster m (printed text) ≡ true
 unfolding printed tableOf
 printed-names text e m there = rw (eq-eqb _ _ e) (table-names (readText text .board) (read-accepted text e) m there)

@@ -18,5 +18,5 @@ someLine field [] = false
 someLine field (line ∷ lines) = same (firstField line) field || someLine field lines
 
 -- rules 1.2, 5.9: a line of the text begins with the number of master m
-unfoldable pub names : ℕ → List ℕ → Bool
-names m text = someLine (digits m) (split lineFeed text)
+unfoldable pub namesMaster : ℕ → List ℕ → Bool
+namesMaster m text = someLine (digits m) (split lineFeed text)

@@ -12,7 +12,7 @@ use Rattle.fabric_calls.specs.Calls.{clockRefusal}
 use Rattle.fabric_begin.specs.declared.Begun.{Begun}
 
 -- what a clock is refused for; if nothing is, who holds a transfer for each slave, by masks, and who holds an unmapped one
-pub record Begins (b : Board) (st : State) (d : Store) (masks : List ℕ) (r : Begun) : Type 0 where
+pub record Beginning (b : Board) (st : State) (d : Store) (masks : List ℕ) (r : Begun) : Type 0 where
   pub number : r .number ≡ clockRefusal b st d
   pub holders : r .number ≡ 0 → masks ≡ table (requestMask (targetsIn b (st .transfers))) 16
   pub unmapped : r .number ≡ 0 → r .unmapped ≡ unmappedMask b st
