@@ -1,4 +1,4 @@
--- A board as an array of 275 numbers, one u32 for each field (rule 1.10).
+-- A board as an array of numbers, one u32 for each field (rule 1.10).
 -- Every list of numbers is read as a board: what is not there is 0, so that no call has to rule an array out.
 -- Assumes nothing.
 use mathlib.Core.Bool.{Bool, cond, not}
@@ -36,7 +36,7 @@ defaultAt = sharesFrom + 128
 abbrev pub boardLength : ℕ
 boardLength = defaultAt + 1
 
--- rule 1.10: eight numbers from index p on are a slave
+-- rule 1.10: `slaveLength` numbers from index p on are a slave
 unfoldable pub slaveFrom : List ℕ → ℕ → Slave
 slaveFrom l p = record {
   base = getD l p 0;
@@ -49,7 +49,7 @@ slaveFrom l p = record {
   latency = getD l (p + 7) 0;
 }
 
--- rule 1.10: the board in 275 numbers: its counts, 8 masters, 16 slaves, the shares of master m at slave s at 146 + 16 * m + s, the mark
+-- rule 1.10: the board: its counts, 8 masters, 16 slaves, the shares of master m at slave s at sharesFrom + 16 * m + s, the mark
 -- of the line `default`
 unfoldable pub boardIn : List ℕ → Board
 boardIn l = record {
@@ -69,7 +69,7 @@ abbrev pub numbersOfSlave : Slave → List ℕ
 numbersOfSlave s =
     s .base ∷ s .span ∷ s .width ∷ s .burst ∷ s .«read_wait» ∷ s .«write_wait» ∷ s .native ∷ s .latency ∷ []
 
--- rules 1.10, 2.4: the 275 numbers that a call puts for a board; the mark is 0 or 1
+-- rules 1.10, 2.4: the numbers that a call puts for a board; the mark is 0 or 1
 unfoldable pub numbersOfBoard : Board → List ℕ
 numbersOfBoard b =
     b .«master_count» ∷ b .«slave_count» ∷ gather (λ m. numbersOfMaster (masterAt b m)) 8

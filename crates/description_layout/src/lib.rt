@@ -1,4 +1,4 @@
-// A board in a lent array of 275 numbers (rule 1.10): each record is read and put at its index.
+// A board in a lent array of numbers (rule 1.10): each record is read and put at its index.
 // specs/Layout.antt says what the numbers mean.
 use common_numbers::BOARD_NUMBERS;
 use common_numbers::DEFAULT_AT;

@@ -46,7 +46,7 @@ logFrom l p = record {
   entries = table (λ i. entryFrom l (p + 2 + 3 * i)) 8;
 }
 
--- rule 2.4: the state in 154 numbers: 8 transfers, then 16 slots, then 8 masters' latency clocks to pass, then the log
+-- rule 2.4: the state: 8 transfers, then 16 slots, then 8 masters' latency clocks to pass, then the log
 unfoldable pub stateIn : List ℕ → State
 stateIn l = record {
   transfers = table (λ m. transferFrom l (5 * m)) 8;

@@ -27,7 +27,7 @@ numbersOfSlot x = x .owner ∷ x .remaining ∷ markOf (x .serving) ∷ x .done 
 abbrev pub numbersOfEntry : Entry → List ℕ
 numbersOfEntry e = e .master ∷ e .address ∷ markOf (e .write) ∷ []
 
--- rule 2.4: the 154 numbers of a state
+-- rule 2.4: the numbers of a state
 unfoldable pub numbersOfState : State → List ℕ
 numbersOfState st =
     gather (λ m. numbersOfTransfer (transferAt st m)) 8

@@ -1,6 +1,7 @@
 // Lines of the simulator's script. A line is a word and its fields, parted by commas.
 use common_numbers::BUFFER_BYTES;
 use common_numbers::MASTERS;
+use common_numbers::SLAVE_FIELDS;
 use common_numbers::SLAVES;
 ghost use Prim.Native.Nat.{_≤_, _<_};
 ghost use lib.ListN.{length};
@@ -47,8 +48,9 @@ pub const LEND: usize = 17;
 // How many kinds there are; the kind of a line that is none of them.
 pub const KINDS: usize = 18;
 
-// The room for what a line has after its word. A slave line has the most, its card's index and eight numbers.
-pub const FIELD_COUNT: usize = 10;
+// The room for what a line has after its word. A slave line has the most, its card's index and the numbers of a description's slave
+// line; one field more is seen to be one too many.
+pub const FIELD_COUNT: usize = SLAVE_FIELDS + 2;
 
 // The most bytes of a word, and the letters of a kind: one for each field, and one more that ends them.
 const WORD_BYTES: usize = 8;
