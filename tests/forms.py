@@ -5,7 +5,8 @@ usage: tests/forms.py
 
 Each entry of FORMS names a function, texts that its head or its body has, and words that its body has not. A text stands as often
 as the entry says, or at least once. Each row of the document's table "Named forms" has an entry by its rule; the row "all", of answers
-that are enums, names each enum of the code with its definition.
+that are enums, names each enum of the code with its definition. The entries of rule 8.4 are of no row: by them a clock and a run of
+clocks begin by one function.
 
 Prints a line for each complaint; exit status 0 if there is none, else 1.
 """
@@ -33,6 +34,7 @@ class Form:
 
 
 WORDS = ('b"master"', 'b"slave"', 'b"share"')
+BEGINNING = ("ready", "request_masks", "unmapped_mask")
 PART = ("PART_BYTES * m", ("&mut buffer[start..end]", 1))
 FORMS = [
     Form("2.2", "fabric_bytes/src/lib.rt", "read_access", has=PART),
@@ -51,6 +53,8 @@ FORMS = [
     Form("4.3 to 4.6", "fabric_grant/src/lib.rt", "arbitrate", has=[("arbitrate_record(&mut a,", 1)], lacks=BRANCHES),
     Form("4.3 to 4.6", "fabric_grant/src/lib.rt", "slot_asked", has=[("arbitrate(arbiter_of(slot),", 1)]),
     Form("4.3 to 4.6", "fabric_cycle/src/lib.rt", "clock_slave", has=[("fabric_grant::slot_asked(", 1)]),
+    Form("8.4", "fabric/src/lib.rt", "clock", has=[("fabric_begin::begin(", 1)], lacks=BEGINNING),
+    Form("8.4", "fabric/src/lib.rt", "run", has=[("fabric_begin::begin(", 1)], lacks=BEGINNING),
     Form("5.7", "wait_turns/src/lib.rt", "slave_turns", has=[("longest_access(", 1), ("single_access(sl, v)", 1), ("turns_at(", 1)],
          lacks=BRANCHES),
     Form("5.7", "wait_table/src/lib.rt", "add_turns", has=[("slave_turns(", 1)], lacks=["longest_access", "single_access", "read_wait"]),

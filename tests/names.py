@@ -9,6 +9,7 @@ usage: tests/names.py [--write]
 - each label of a must-fail edit is named in docs/PROMISES.md, and those of rules 10.1 to 10.12 have files of their own;
 - the constants of include/fabric.h are those of crate common_numbers;
 - each row of a document's table has as many cells as the table's heading;
+- no two definitions that docs/READING.md lists for the fabric have the same name, and no two laws the same statement;
 - a figure that changes with the product stands in one document: how long the gate takes, how many numbers a board and a state are, and
   no decision is a version;
 - docs/READING.md lists every file of definitions that is to be believed, with its number of lines (--write puts the numbers);
@@ -27,6 +28,8 @@ from edits import all_edits
 ROOT = Path(__file__).resolve().parent.parent
 # What a document may name in backquotes and this repository does not have: programs and words of the language or of the kit.
 FOREIGN = set("io libc os std check rt gcc cargo python3 valgrind antt".split())
+# Laws of one statement whose modules ask for different things, of which neither follows from the other.
+APART = ["legal-accepted (description_board/proofs/Accepted.antt)", "accepted-board (fabric_calls/proofs/RunOfClocks.antt)"]
 
 
 def tracked():
@@ -244,6 +247,54 @@ def reading_complaints(write):
         yield "docs/READING.md: numbers of lines have changed: tests/names.py --write puts them"
 
 
+def twice(places):
+    """What stands in more than one place, with the places."""
+    return {what: where for what, where in places.items() if len(where) > 1}
+
+
+def definition_complaints():
+    """Definitions of one name, in the files to be believed but for the programs', whose words are their own."""
+    places = {}
+    page = text_of(ROOT / "docs/READING.md").split("## Programs")[0]
+    for crate, name in re.findall(r"^\| `(\w+)/(\w+)` \| \d+ \|", page, re.M):
+        path = ROOT / "crates" / crate / "specs" / f"{name}.antt"
+        text = text_of(path) if path.exists() else ""
+        for defined in re.findall(r"^(?:(?:abbrev|unfoldable) )?pub (?:record |data )?([^\s:(]+)", text, re.M):
+            places.setdefault(defined, []).append(f"{crate}/{name}")
+    for defined, where in twice(places).items():
+        yield f"{defined} is defined in {' and in '.join(where)}"
+
+
+def statement(lines):
+    """A law's type, with its variables by their order, so that two laws that differ in names are the same."""
+    text = re.sub(r"\s+", " ", " ".join(lines)).strip()
+    variables = {}
+    for group in re.findall(r"[({]([^():{}]+) : ", text):
+        for name in group.split():
+            variables.setdefault(name, f"v{len(variables)}")
+    return re.sub(r"[\w′]+", lambda found: variables.get(found.group(0), found.group(0)), text)
+
+
+def laws_of(path):
+    """Name and statement of each public law of a file; parts of a record are none."""
+    block = re.compile(r"^( *)((?:(?:abbrev|unfoldable) )?pub )([^\s:(]+) :((?:.*)(?:\n\1 +(?!unfolding).*)*)", re.M)
+    text = re.sub(r"^pub record .*\n(?: +.*\n|\n(?= ))*", "", text_of(path), flags=re.M)
+    for _, mark, name, type_ in block.findall(text):
+        if mark == "pub " and re.search("[≡≤<]", type_):
+            yield name, statement(type_.split("\n"))
+
+
+def law_complaints():
+    places = {}
+    for path in sorted((ROOT / "crates").glob("*/proofs/**/*.antt")):
+        if path.name != "Proof.antt":
+            for name, said in laws_of(path):
+                places.setdefault(said, []).append(f"{name} ({path.relative_to(ROOT / 'crates')})")
+    for where in twice(places).values():
+        if where != APART:
+            yield f"the same law: {' and '.join(where)}"
+
+
 def sections(text):
     """The parts of a document by their headings of the second order."""
     return {part.split("\n")[0]: part for part in re.split(r"^## ", text, flags=re.M)[1:]}
@@ -348,6 +399,7 @@ def main(arguments):
     complaints = list(reading_complaints(arguments == ["--write"]))
     complaints += list(rule_complaints(files)) + list(order_complaints()) + list(name_complaints(files))
     complaints += list(constant_complaints()) + list(figure_complaints())
+    complaints += list(definition_complaints()) + list(law_complaints())
     complaints += list(table_complaints()) + sorted(set(believed_complaints()))
     for complaint in complaints or ["names: all that is cited exists"]:
         print(complaint)
