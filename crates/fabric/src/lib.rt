@@ -182,16 +182,9 @@ pub fn clock(
             mask: 0,
         };
     }
-    fabric_layout::put_responses(responses, begun.unmapped);
-    let mask = fabric_cycle::cycle(
-        board,
-        state,
-        &holders,
-        begun.unmapped,
-        lines,
-        memory,
-        buffer,
-    );
+    let unmapped = begun.unmapped;
+    fabric_layout::put_responses(responses, unmapped);
+    let mask = fabric_cycle::cycle(board, state, &holders, unmapped, lines, memory, buffer);
     Answer {
         number: 0,
         mask: mask,

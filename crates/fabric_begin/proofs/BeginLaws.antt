@@ -1,6 +1,6 @@
 -- What a clock begins with, by what the check of board and state found.
 -- Assumes nothing.
-use mathlib.Core.Path.{_≡_, sym, ap, _∙_}
+use mathlib.Core.Path.{_≡_, refl, sym, ap, _∙_}
 use mathlib.Core.Bool.{true, _&&_}
 use mathlib.Core.List.{List}
 use Prim.Native.Nat.{ℕ}
@@ -40,7 +40,8 @@ begin-number b st d {r} checked e = e ∙ refusal-found b st d (r .number) (r .s
 -- a clock that is refused
 pub begins-refused : (b : Board) (st : State) (d : Store) (masks : List ℕ) {n : ℕ} → n ≡ clockRefusal b st d → (n ≡ 0 → ⊥)
     → Beginning b st d masks (record { number = n; unmapped = 0 })
-begins-refused b st d masks e h = record { number = e; holders = λ z. absurd (h z); unmapped = λ z. absurd (h z) }
+begins-refused b st d masks e h =
+    record { number = e; holders = λ z. absurd (h z); unmapped = λ z. absurd (h z); refused = λ _. refl }
 
 -- one that is not: the check has found the slave of each transfer
 module _ (b : Board) (st : State) (d : Store) (free : clockRefusal b st d ≡ 0) {r : Checked} {ts : List ℕ}
@@ -51,10 +52,11 @@ module _ (b : Board) (st : State) (d : Store) (free : clockRefusal b st d ≡ 0)
   pub begin-decoded : Decoded b st ts
   begin-decoded = decoded-of b st (accepted-board b st d free) (keeps-rules b st d free) found
 
-  pub begins-taken : {masks : List ℕ} {u : ℕ} → masks ≡ table (requestMask ts) 16 → u ≡ unmappedMask b st
+  pub begins-accepted : {masks : List ℕ} {u : ℕ} → masks ≡ table (requestMask ts) 16 → u ≡ unmappedMask b st
       → Beginning b st d masks (record { number = 0; unmapped = u })
-  begins-taken e f = record {
+  begins-accepted e f = record {
     number = sym free;
     holders = λ _. e ∙ ap (λ (l : List ℕ). table (requestMask l) 16) found;
     unmapped = λ _. f;
+    refused = λ h. absurd (h refl);
   }

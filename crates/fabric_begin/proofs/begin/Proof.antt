@@ -8,7 +8,7 @@ use Rattle.fabric_transfer.specs.Bytes.{Store}
 use Rattle.fabric_state.specs.declared.State.{State}
 use Rattle.fabric_layout.specs.Layout.{stateIn}
 use Rattle.fabric_calls.specs.Calls.{clockRefusal}
-use Rattle.fabric_begin.proofs.BeginLaws.{begin-number, begins-refused, begin-decoded, begins-taken}
+use Rattle.fabric_begin.proofs.BeginLaws.{begin-number, begins-refused, begin-decoded, begins-accepted}
 use Rattle.fabric_begin.proofs.begin.Statement.{statement}
 use Rattle.fabric_begin.proofs.begin.Tie as tie
 
@@ -56,7 +56,7 @@ returns-2 : tie.Need-returns-2
 returns-2 c =
     let masks = c .before .before in
     let e = free masks in
-    begins-taken _ _ _ (none e) (e .before .before .ready .ensures) (masks .request-masks .ensures) (c .unmapped-mask .ensures)
+    begins-accepted _ _ _ (none e) (e .before .before .ready .ensures) (masks .request-masks .ensures) (c .unmapped-mask .ensures)
 
 pub begin-spec : {M : Type 1} → statement M
 begin-spec =
