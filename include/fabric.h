@@ -38,7 +38,7 @@ extern "C" {
 #endif
 
 /* The version of this header and of the library. */
-#define FABRIC_VERSION "1.7"
+#define FABRIC_VERSION "1.7.1"
 
 /* The most masters and slaves of a board (rule 1.1), and the most bytes of its description (rule 1.2). */
 #define FABRIC_MASTERS 8
