@@ -1,5 +1,7 @@
 // What the benchmark calls of the library beside the calls for C: traffic made in Rattle, so that the calls can be inlined, and the
 // table.
+#![tactic(auto)]
+
 ghost use Rattle.std.specs.Prelude.{◌<◌};
 
 use common_numbers::{BOARD_NUMBERS, LINES_NUMBERS, MASTERS, STATE_NUMBERS};
@@ -26,7 +28,7 @@ fn slave_for(count: u32, m: u32, index: u32) -> usize
 }
 
 // A transfer to post: all but its master, its one beat, and its words, which are zeros.
-#[derive(Drop)]
+#[derive(Clone, Copy)]
 pub struct Next {
     pub write: bool,
     pub address: u32,

@@ -1,5 +1,6 @@
 // The numbers that the rules (docs/RULES.md) fix, each once: refusals, limits, and the lengths of what is lent.
 // include/fabric.h has those that C needs, under the same names with FABRIC_ in front; tests/names.py compares the two.
+#![tactic(auto)]
 
 // Refusal k is rule 7.k; 0: not refused.
 pub const TAKEN: u32 = 0;

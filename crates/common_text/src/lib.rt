@@ -1,4 +1,6 @@
 // Bytes to fields and decimal numbers (rules 1.2, 1.5), and back.
+#![tactic(auto)]
+
 ghost use Rattle.std.specs.Prelude.{◌≡◌, [], ◌∷◌, ◌≤◌, ◌<◌, ◌+◌, length};
 ghost use Rattle.common_laws.specs.Lists.{same};
 ghost use Rattle.common_text.specs.Fields.{comma, line_feed, split, scan};
@@ -12,7 +14,7 @@ use common_numbers::LINE_NUMBERS;
 const FULL: u8 = LINE_NUMBERS as u8;
 
 // What a field spells (rule 1.5).
-#[derive(Drop)]
+#[derive(Clone, Copy)]
 pub enum Number {
     Malformed,
     Value(u64),
@@ -20,7 +22,7 @@ pub enum Number {
 
 // The numbers of a line's fields behind the first; none where a field is malformed or there are more than any line has (rules
 // 1.3, 7.1).
-#[derive(Drop)]
+#[derive(Clone, Copy)]
 pub struct Numbers {
     pub count: u8,
     pub values: [u64; LINE_NUMBERS],

@@ -1,4 +1,6 @@
 // Descriptions: a text to a board in a lent array, and a board to its text (rules 1.2 to 1.10).
+#![tactic(auto)]
+
 ghost use Rattle.std.specs.Prelude.{◌≡◌, cond, ◌≤◌, eqb, length, replicate};
 ghost use Rattle.common_text.specs.Code.Scanning.{Put};
 ghost use Rattle.description_board.specs.Items.{board_refusal};
@@ -17,7 +19,7 @@ use description_board::{Board, Item};
 pub const LONGEST: usize = 8 * 12 + 16 * 41 + 128 * 15 + 8;
 
 // What the definitions say a text is read to: a refusal's number with the zero board, or 0 and the board (rule 8.1).
-#[derive(Drop)]
+#[derive(Clone, Copy)]
 pub struct Parsed {
     pub number: u32,
     pub board: Board,
@@ -25,7 +27,7 @@ pub struct Parsed {
 
 // A refusal's number and the line charged with it, from 1; the line is 0 where none is charged (rule 8.3). With NO_SHARE the master
 // is the lowest that has no share line, with any other number it is 0.
-#[derive(Drop)]
+#[derive(Clone, Copy)]
 pub struct Refusal {
     pub number: u32,
     pub line: usize,
@@ -33,7 +35,7 @@ pub struct Refusal {
 }
 
 // A refusal's number and 0, or 0 and the count of bytes written (rule 8.1).
-#[derive(Drop)]
+#[derive(Clone, Copy)]
 pub struct Written {
     pub number: u32,
     pub length: usize,

@@ -1,13 +1,15 @@
 // A board, the lines of its description, and what has been read of one; specs/Rules.antt has their rules (7.1 to 7.7, 7.19 to
 // 7.21).
 // The numbers of a master and of a slave are those of their lines (rules 1.3, 1.6).
-#[derive(Drop)]
+#![tactic(auto)]
+
+#[derive(Clone, Copy)]
 pub struct Master {
     pub width: u32,
     pub burst: u32,
 }
 
-#[derive(Drop)]
+#[derive(Clone, Copy)]
 pub struct Slave {
     pub base: u32,
     pub span: u32,
@@ -33,7 +35,7 @@ pub const NO_SLAVE: Slave = Slave {
 
 // The shares of master m at slave s stand at index 16 * m + s; 0: not connected (rule 1.8). default_line: the board has the line
 // `default` (rule 1.11).
-#[derive(Drop)]
+#[derive(Clone, Copy)]
 pub struct Board {
     pub master_count: u32,
     pub slave_count: u32,
@@ -44,7 +46,7 @@ pub struct Board {
 }
 
 // The numbers of a slave line (rule 1.3), not yet checked.
-#[derive(Drop)]
+#[derive(Clone, Copy)]
 pub struct SlaveNumbers {
     pub base: u64,
     pub span: u64,
@@ -57,7 +59,7 @@ pub struct SlaveNumbers {
 }
 
 // One line of a description (rule 1.3): the numbers of its fields, or a line that is none of the four kinds (rule 7.1).
-#[derive(Drop)]
+#[derive(Clone, Copy)]
 pub enum Item {
     Malformed,
     MasterLine(u64, u64),
@@ -68,7 +70,7 @@ pub enum Item {
 
 // What has been read of a description (rule 8.2): the refusal's number or 0, the rank of the pair on the line above, from 1, and 0
 // where that is no share line, the board so far.
-#[derive(Drop)]
+#[derive(Clone, Copy)]
 pub struct Reading {
     pub number: u32,
     pub above: u64,

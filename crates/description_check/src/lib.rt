@@ -1,5 +1,7 @@
 // What a board that no reader made is refused for (rules 7.2 to 7.7, 7.19, 7.20, 8.5).
 // Tests are joined by & and |, not by && and ||: each part is safe by itself, and a proof meets the whole as one test.
+#![tactic(auto)]
+
 ghost use Rattle.std.specs.Prelude.{◌≡◌, true, ℕ, ◌≤◌, ◌<◌, ◌+◌, ◌-◌, ◌%◌};
 ghost use Rattle.common_laws.specs.Lists.{member};
 ghost use Rattle.description_board.specs.Records.{slave_at};
@@ -218,7 +220,7 @@ fn clear_of(board: &[u32; BOARD_NUMBERS], n: usize, base: u32, span: u32, last: 
 }
 
 // What is found of a board's slaves: whether they are legal, and a number that is 0 where none of them is native.
-#[derive(Drop)]
+#[derive(Clone, Copy)]
 struct Slaves {
     legal: bool,
     native: u32,

@@ -1,5 +1,7 @@
 // A board in a lent array of numbers (rule 1.10): each record is read and put at its index.
 // specs/Layout.antt says what the numbers mean.
+#![tactic(auto)]
+
 ghost use Rattle.std.specs.Prelude.{◌≡◌, ◌<◌, get_or, length, replicate};
 ghost use Rattle.description_board.specs.Records.{master_at, slave_at, shares_at};
 ghost use Rattle.description_board.specs.Rules.{with_master, with_slave, with_default};

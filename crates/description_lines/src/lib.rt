@@ -1,4 +1,6 @@
 // The lines of a description (rules 1.2, 1.3): the item that a line of a text says, and an item's line.
+#![tactic(auto)]
+
 ghost use Rattle.std.specs.Prelude.{◌≡◌, ◌+◌, ◌≤◌, ◌<◌, length};
 ghost use Rattle.common_text.specs.Code.Scanning.{Put};
 ghost use Rattle.description_lines.specs.Reader.{master_line, slave_line, share_line, item_of};
@@ -10,7 +12,7 @@ use common_text::Numbers;
 use description_board::{Item, SlaveNumbers};
 
 // A line that was read, and the position in its text where the next one starts (rule 1.2).
-#[derive(Drop)]
+#[derive(Clone, Copy)]
 pub struct LineRead {
     pub item: Item,
     pub next: usize,

@@ -1,5 +1,7 @@
 // What has been read of a description, line by line (rule 8.2): the fold that the reader and the check of a board share.
 // The board so far is a lent array of numbers, to which each line that is not refused is added.
+#![tactic(auto)]
+
 mod refusals;
 
 ghost use Rattle.std.specs.Prelude.{◌≡◌, true, ◌+◌, ◌*◌, ltb, replicate};
@@ -13,7 +15,7 @@ use description_board::{Item, Slave, SlaveNumbers};
 pub use refusals::{memory_length, overlaps, share_or_none, without_share};
 
 // The refusal's number or 0, and the rank of the pair on the line above, from 1; 0 where that is no share line (rules 1.4, 8.2).
-#[derive(Drop)]
+#[derive(Clone, Copy)]
 pub struct Progress {
     pub number: u32,
     pub above: u64,

@@ -1,4 +1,6 @@
 // The public calls on a board's fabric: reset, post, clock, a run of clocks and take, on lent arrays of numbers.
+#![tactic(auto)]
+
 ghost use Rattle.std.specs.Prelude.{◌≡◌, cond, ◌*◌, ◌<◌, length};
 ghost use Rattle.description_board.specs.Items.{board_refusal};
 ghost use Rattle.description_layout.specs.Layout.{board_in};
@@ -15,7 +17,7 @@ use fabric_state::{Entry, NO_ENTRY};
 use fabric_transfer::Transfer;
 
 // The answer of clock beside its responses and lines (rules 4.13, 8.1): a refusal's number and 0, or 0 and the mask of masters finished.
-#[derive(Drop)]
+#[derive(Clone, Copy)]
 pub struct Answer {
     pub number: u32,
     pub mask: u32,
@@ -23,7 +25,7 @@ pub struct Answer {
 
 // The answer of a run of clocks beside its responses and lines (rules 4.15, 8.1): a refusal's number and zeros, or 0, the clocks passed and the
 // last one's mask.
-#[derive(Drop)]
+#[derive(Clone, Copy)]
 pub struct Ran {
     pub number: u32,
     pub clocks: u32,
@@ -31,7 +33,7 @@ pub struct Ran {
 }
 
 // The answer of take (rules 4.19, 8.1): a refusal's number and zeros, or 0 and the oldest entry of the log.
-#[derive(Drop)]
+#[derive(Clone, Copy)]
 pub struct Taken {
     pub number: u32,
     pub master: u32,

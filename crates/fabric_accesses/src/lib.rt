@@ -1,5 +1,7 @@
 // One pair of master and slave: accesses, lanes, runs; address decoding (rules 3.6, 4.10 to 4.14).
 // Widths, bursts and spans are powers of two (rule 1.6), so that shifts and masks do what divisions would.
+#![tactic(auto)]
+
 ghost use Rattle.std.specs.Prelude.{◌≡◌, true, ◌*◌, ◌-◌, ◌/◌, ◌%◌, ◌≤◌, ◌<◌};
 ghost use Rattle.common_laws.specs.Lists.{member};
 ghost use Rattle.description_board.specs.Rules.{widths, bursts};

@@ -1,4 +1,6 @@
 // Arbitration by shares at one slave: rule 1, the grant (rules 4.3 to 4.6).
+#![tactic(auto)]
+
 ghost use Rattle.std.specs.Prelude.{◌≡◌, ◌-◌};
 ghost use Rattle.common_laws.specs.Bits.{bit};
 ghost use Rattle.fabric_arbiter.specs.Choosing.{next_master, first_requester};
@@ -6,14 +8,14 @@ ghost use Rattle.fabric_arbiter.specs.Granting.{kept, arbiter_after};
 ghost use Rattle.fabric_arbiter.specs.Code.Winning.{winner_of, grant_by};
 
 // What a slave remembers of its grants (rule 4.1): the last owner, and the grants that remain to it.
-#[derive(Drop)]
+#[derive(Clone, Copy)]
 pub struct Arbiter {
     pub owner: u32,
     pub remaining: u32,
 }
 
 // The first requester, or that none requests (rules 4.3, 4.5).
-#[derive(Drop)]
+#[derive(Clone, Copy)]
 pub enum Choice {
     Requester(u32),
     Nobody,
@@ -21,7 +23,7 @@ pub enum Choice {
 
 // Who is granted, before shares and beats are read: the last owner by a grant that remains to it (rule 4.4), the first requester
 // by its shares (rule 4.5), nobody (rule 4.3).
-#[derive(Drop)]
+#[derive(Clone, Copy)]
 pub enum Winner {
     Again,
     First(u32),
@@ -29,7 +31,7 @@ pub enum Winner {
 }
 
 // The master granted with the grants that then remain to it, or no grant (rules 4.3 to 4.6).
-#[derive(Drop)]
+#[derive(Clone, Copy)]
 pub enum Grant {
     Granted(u32, u32),
     Silent,

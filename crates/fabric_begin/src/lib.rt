@@ -1,5 +1,7 @@
 // What a clock begins with: what it is refused for, who requests each slave, and who holds an unmapped transfer. A run of clocks begins
 // with the same, once.
+#![tactic(auto)]
+
 ghost use Rattle.std.specs.Prelude.{◌≡◌, replicate};
 ghost use Rattle.description_board.specs.Records.{memory_length};
 ghost use Rattle.description_layout.specs.Layout.{board_in};
@@ -35,7 +37,7 @@ fn clock_refusal_by(
 
 // What a clock begins with: what it is refused for, or 0 (rule 8.4); if that is 0, the mask of masters that hold an unmapped transfer
 // (rule 4.17), else 0.
-#[derive(Drop)]
+#[derive(Clone, Copy)]
 pub struct Begun {
     pub number: u32,
     pub unmapped: u32,

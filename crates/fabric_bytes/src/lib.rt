@@ -1,5 +1,7 @@
 // The bytes of a post, of an access and of an unmapped read (rules 3.2, 4.11, 4.17).
 // The functions that move bytes are lent their master's part of the buffer alone (rule 2.2).
+#![tactic(auto)]
+
 ghost use Rattle.std.specs.Prelude.{◌≡◌, ◌+◌, ◌≤◌, ◌<◌, length, get_or};
 ghost use Rattle.common_laws.specs.Bits.{bit};
 ghost use Rattle.fabric_transfer.specs.Moving.{all, bytes_from, index_from, move};

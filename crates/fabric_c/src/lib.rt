@@ -1,5 +1,7 @@
 // The calls for C, as include/fabric.h declares them: each is the library's call of that name, on the same arrays.
 // What a call answers beside its number goes to numbers that C lends for it.
+#![tactic(auto)]
+
 ghost use Rattle.std.specs.Prelude.{◌≡◌, ◌≤◌, get_or, length};
 ghost use Rattle.description_layout.specs.Layout.{board_in, marked};
 ghost use Rattle.description.specs.Lent.{Read};

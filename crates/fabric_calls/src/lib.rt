@@ -1,14 +1,16 @@
 // What the calls on a board's fabric answer (rules 3.3, 4.2, 4.13, 4.15, 4.19).
+#![tactic(auto)]
+
 use fabric_state::State;
 
 // What the definitions of reset and post answer. The calls are lent the state, and answer the number alone (rules 3.3, 4.2).
-#[derive(Drop)]
+#[derive(Clone, Copy)]
 pub struct Started {
     pub number: u32,
     pub state: State,
 }
 
-#[derive(Drop)]
+#[derive(Clone, Copy)]
 pub struct Posted {
     pub number: u32,
     pub state: State,

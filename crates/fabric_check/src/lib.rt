@@ -1,5 +1,7 @@
 // Whether a state breaks a rule (rule 7.9), and what a call finds of a board and a state before it acts.
 // Tests are joined by & and |, not by && and ||: each part is safe by itself, and a proof meets the whole as one test.
+#![tactic(auto)]
+
 mod transfers;
 
 ghost use Rattle.std.specs.Prelude.{◌≡◌, true, ◌<◌};
@@ -182,7 +184,7 @@ pub fn unmapped_mask(
 
 // What a call finds of a board and a state before it acts: the board's refusal, or 0 (rule 8.5); where it is 0, whether the state
 // breaks no rule (rule 7.9). Where the board is refused, false.
-#[derive(Drop)]
+#[derive(Clone, Copy)]
 pub struct Checked {
     pub number: u32,
     pub sound: bool,

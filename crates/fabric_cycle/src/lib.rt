@@ -1,6 +1,8 @@
 // One clock of an accepted board in a state that breaks no rule, slave by slave (rules 4.3 to 4.9, 4.11, 4.16), and then the masters
 // that hold unmapped transfers (rules 4.17, 4.18).
 // The state is changed where it stands.
+#![tactic(auto)]
+
 ghost use Rattle.std.specs.Prelude.{◌≡◌, ◌*◌, ◌≤◌, ◌<◌, length};
 ghost use Rattle.common_laws.specs.Lists.{table, sum};
 ghost use Rattle.description_board.specs.Records.{master_at, memory_length};
@@ -22,7 +24,7 @@ use fabric_state::{Entry, NO_LINE, Slot};
 use fabric_transfer::{NO_TRANSFER, Transfer};
 
 // Who has no latency clocks to pass, and who passes its last one in a clock (rule 4.16): bit m for master m.
-#[derive(Drop)]
+#[derive(Clone, Copy)]
 pub struct Latent {
     pub free: u32,
     pub finished: u32,

@@ -1,4 +1,6 @@
 // Rule 1 at one slave of a lent board and a lent state (rules 4.3 to 4.7): the grant, the slave's arbiter after it, and its slot.
+#![tactic(auto)]
+
 ghost use Rattle.std.specs.Prelude.{◌≡◌, ◌<◌};
 ghost use Rattle.description_layout.specs.Layout.{board_in};
 ghost use Rattle.fabric_arbiter.specs.Granting.{arbiter_after};
@@ -12,7 +14,7 @@ use fabric_arbiter::{Arbiter, Grant, Winner};
 use fabric_state::Slot;
 
 // A slave's arbiter after rule 1, and its grant (rules 4.3 to 4.6).
-#[derive(Drop)]
+#[derive(Clone, Copy)]
 pub struct Arbitrated {
     pub arbiter: Arbiter,
     pub grant: Grant,

@@ -1,4 +1,6 @@
 // The lanes of a word: which of them a post may have (rules 3.4, 3.5).
+#![tactic(auto)]
+
 ghost use Rattle.std.specs.Prelude.{◌≡◌, ◌≤◌};
 ghost use Rattle.fabric_lanes.specs.Lanes.{all_lanes, legal_lanes, post_lanes};
 

@@ -1,4 +1,6 @@
 // A state, a clock's responses and its lines in lent arrays of numbers (rules 2.4, 4.13): each record is read and put at its index.
+#![tactic(auto)]
+
 ghost use Rattle.std.specs.Prelude.{◌≡◌, cond, ◌≢◌, ◌+◌, ◌*◌, ◌≤◌, ◌<◌, set, replicate};
 ghost use Rattle.std.proofs.lemmas.List.Edits.{sets};
 ghost use Rattle.fabric_transfer.specs.Accesses.{no_transfer};

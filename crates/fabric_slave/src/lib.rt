@@ -1,4 +1,6 @@
 // One slave's clock after rule 1: the wait or the access, and the line that it shows (rules 4.8, 4.9, 4.13).
+#![tactic(auto)]
+
 ghost use Rattle.std.specs.Prelude.{◌≡◌, true};
 ghost use Rattle.fabric_transfer.specs.Accesses.{accesses, access_number};
 ghost use Rattle.fabric_transfer.specs.Code.Reaching.{Reached};

@@ -1,8 +1,10 @@
 // The state of a board's fabric, and what a clock shows of it (rules 4.1, 4.13, 4.18).
+#![tactic(auto)]
+
 use fabric_transfer::Transfer;
 
 // One slave (rule 4.1): last owner, grants that remain to it, whether it serves, accesses done, waits passed.
-#[derive(Drop)]
+#[derive(Clone, Copy)]
 pub struct Slot {
     pub owner: u32,
     pub remaining: u32,
@@ -21,7 +23,7 @@ pub const NO_SLOT: Slot = Slot {
 };
 
 // An unmapped transfer in the log (rule 4.18): its master, its address, its direction.
-#[derive(Drop)]
+#[derive(Clone, Copy)]
 pub struct Entry {
     pub master: u32,
     pub address: u32,
@@ -36,7 +38,7 @@ pub const NO_ENTRY: Entry = Entry {
 };
 
 // The log of unmapped transfers (rule 4.18): how many entries stand, whether one was dropped, the entries, the oldest first.
-#[derive(Drop)]
+#[derive(Clone, Copy)]
 pub struct Log {
     pub count: u32,
     pub lost: bool,
@@ -45,7 +47,7 @@ pub struct Log {
 
 // The transfer of each master (rule 3.3), the slot of each slave (rule 4.1), the latency clocks that each master still has to pass
 // (rule 4.16), and the log (rule 4.18).
-#[derive(Drop)]
+#[derive(Clone, Copy)]
 pub struct State {
     pub transfers: [Transfer; 8],
     pub slots: [Slot; 16],
@@ -54,7 +56,7 @@ pub struct State {
 }
 
 // What one slave shows in one clock (rule 4.13): phase, owner, byte offset, lanes, length of the run, place in the run.
-#[derive(Drop)]
+#[derive(Clone, Copy)]
 pub struct Line {
     pub phase: u32,
     pub owner: u32,
@@ -75,7 +77,7 @@ pub const NO_LINE: Line = Line {
 };
 
 // One slave's clock: the slot after it, its line, whether it carries out its owner's last access (rules 4.3 to 4.9, 4.13).
-#[derive(Drop)]
+#[derive(Clone, Copy)]
 pub struct Step {
     pub slot: Slot,
     pub line: Line,
@@ -83,7 +85,7 @@ pub struct Step {
 }
 
 // The answer of clock (rule 4.13): bit m of the mask is 1 where master m is finished; each master's response, each slave's line.
-#[derive(Drop)]
+#[derive(Clone, Copy)]
 pub struct Clocked {
     pub number: u32,
     pub state: State,

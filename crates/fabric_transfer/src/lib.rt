@@ -1,9 +1,10 @@
 // A transfer at the slave that it is for: its accesses, their lanes, runs, waits and bytes; address decoding (rules 3.6, 4.8, 4.10 to
 // 4.16).
+#![tactic(auto)]
 
 // What a master posted (rule 3.1). Where `held` is false the master holds nothing and the other fields say nothing; a reset and a
 // finish leave the zero record (rules 4.2, 4.9).
-#[derive(Drop)]
+#[derive(Clone, Copy)]
 pub struct Transfer {
     pub held: bool,
     pub write: bool,

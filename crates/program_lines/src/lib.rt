@@ -1,5 +1,7 @@
 // Lines in and lines out, for a program that obeys a text from standard input line by line. What it prints gathers in a buffer,
 // and bytes are spelled by hex digits. What a line says and does is for whoever obeys it.
+#![tactic(auto)]
+
 mod hex;
 mod input;
 mod output;
@@ -11,7 +13,7 @@ pub use input::{line_of, next_line};
 pub use output::{ROOM, flush, put_hex, put_line};
 
 // How far a program has come with the text.
-#[derive(Drop)]
+#[derive(Clone, Copy)]
 pub struct Session {
     // What is read of the text and not obeyed yet stands in the input from `from` to `end`.
     pub from: usize,

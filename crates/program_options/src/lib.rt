@@ -1,5 +1,7 @@
 // What the programs have in common: what the words behind a program's name ask for, the version, and the line on standard error
 // that tells of output that could not be written.
+#![tactic(auto)]
+
 ghost use Rattle.std.specs.Prelude.{◌≡◌, ◌<◌, length};
 ghost use Rattle.io.specs.Counts.{IsPrefixLen};
 ghost use Rattle.program_options.specs.Options.{option_of, operands_from, lone_option, mode_by, mode_of, Asked};
@@ -8,7 +10,7 @@ use libc::STDOUT_FILENO;
 
 // What a program is asked for: its help, its version, or its work on the operands, the words from an index on. Wrong: none of
 // these.
-#[derive(Drop)]
+#[derive(Clone, Copy)]
 pub enum Mode {
     Help,
     Version,
@@ -17,7 +19,7 @@ pub enum Mode {
 }
 
 // An option, the end of the options, or a word that is neither.
-#[derive(Drop)]
+#[derive(Clone, Copy)]
 enum Word {
     Help,
     Version,

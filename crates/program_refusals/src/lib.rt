@@ -1,6 +1,8 @@
 // What each refusal means, in a few words (section 7 of docs/RULES.md has them whole), for programs that explain one on standard
 // error. Each line is put together in an array and written by one call (program_streams::tell); what can be asked for on standard
 // output too answers whether all of it was written.
+#![tactic(auto)]
+
 use common_numbers::{
     BAD_ADDRESS, BAD_BASE, BAD_BEATS, BAD_LANES, BAD_LENGTH, BAD_ORDER, BAD_SHARE, BAD_STATE,
     BAD_TEXT, BAD_VALUE, BAD_WORDS, EMPTY_LOG, HELD, NO_MASTER, NO_SHARE, NOT_CONNECTED, OVERLAP,

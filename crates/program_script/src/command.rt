@@ -115,7 +115,7 @@ pub const TOO_MANY_BYTES: u8 = 4;
 
 // What a line says: its kind and what its fields say in their order, a name as 0 or 1, and bytes by their count; the last field
 // starts at `last`. A line with a problem has no kind.
-#[derive(Drop)]
+#[derive(Clone, Copy)]
 pub struct Command {
     pub problem: u8,
     pub kind: usize,
@@ -142,7 +142,7 @@ pub fn number_at(c: Command, i: usize) -> u32 {
 }
 
 // What a field says, if its problem is 0.
-#[derive(Drop)]
+#[derive(Clone, Copy)]
 struct Field {
     pub problem: u8,
     pub value: u64,

@@ -14,7 +14,7 @@ pub const MEMORY_ROOM: usize = MEMORY_BYTES as usize + BYTES_OVER;
 pub const BUFFER_ROOM: usize = BUFFER_BYTES + BYTES_OVER;
 
 // The most that can be lent of the memory, and what is lent of it and of the buffer.
-#[derive(Drop)]
+#[derive(Clone, Copy)]
 pub struct Lending {
     pub memory_most: usize,
     pub memory_lent: usize,

@@ -1,5 +1,7 @@
 // A line of a script: what it says, what it overwrites of a lent board or state, and how much of the memory and of the buffer it
 // lends. What else a line does is for whoever obeys it.
+#![tactic(auto)]
+
 mod command;
 mod lending;
 mod overwriting;

@@ -1,5 +1,7 @@
 // Reading a file descriptor up to its end, writing all bytes, and telling why a call of the operating system failed. Only the
 // answer 0 of a read is the end of an input: a read that fails has read nothing, and says nothing of what is still to come.
+#![tactic(auto)]
+
 ghost use Rattle.std.specs.Prelude.{◌≡◌};
 ghost use Rattle.program_streams.specs.Calls.{judged, Call};
 ghost use Rattle.program_streams.specs.Reading.{outcome_of, Gathered};
@@ -10,7 +12,7 @@ use program_messages::ROOM;
 
 // How a reading went: the bytes stand in front of `end`. `ended`: a read answered 0, the end of the input. `failed`: a read
 // failed for good, and errno says why. Neither: the room is full.
-#[derive(Drop)]
+#[derive(Clone, Copy)]
 pub struct Got {
     pub end: usize,
     pub ended: bool,
@@ -19,7 +21,7 @@ pub struct Got {
 
 // What one call of read or write did: it moved bytes, or none; it was interrupted, and is tried again at once; it could not go on
 // without waiting, and is tried again later; or it failed for good.
-#[derive(Drop)]
+#[derive(Clone, Copy)]
 enum Told {
     Bytes(usize),
     Nothing,

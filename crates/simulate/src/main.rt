@@ -1,5 +1,7 @@
 // Simulates a bus fabric clock by clock: `simulate BOARD < SCRIPT`. BOARD names a description's file, the script's lines say
 // what to do. `simulate --help` lists what the refusals' numbers mean.
+#![tactic(auto)]
+
 mod obey;
 mod world;
 

@@ -64,7 +64,7 @@ fn left_after(left: u64, broken: bool) -> u64
 }
 
 // A clock whose answer is printed: its number, and the session after it.
-#[derive(Drop)]
+#[derive(Clone, Copy)]
 pub struct Clocked {
     pub number: u32,
     pub session: Session,

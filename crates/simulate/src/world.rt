@@ -6,7 +6,7 @@ use program_lines::Session;
 use program_script::Lending;
 
 // How far a script has come: with its lines, and with what it lends.
-#[derive(Drop)]
+#[derive(Clone, Copy)]
 pub struct Progress {
     pub session: Session,
     pub lending: Lending,

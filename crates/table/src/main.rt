@@ -1,5 +1,7 @@
 // Prints the table of a description, or its refusal, on standard output: of standard input, or of each file that is named, behind
 // a line with its name. What a refusal means goes to standard error: standard output is read by other programs.
+#![tactic(auto)]
+
 ghost use Rattle.std.specs.Prelude.{◌+◌, ◌≤◌, ◌<◌, length};
 ghost use Rattle.description.specs.Reader.{most_bytes};
 ghost use Rattle.wait_table.specs.Tables.{file_line, Begins};
@@ -28,7 +30,7 @@ fn help() {
 
 // How many bytes of the text were read, and how many of the page are to be printed. `failed`: the input cannot be read, and errno
 // says why.
-#[derive(Drop)]
+#[derive(Clone, Copy)]
 struct Prepared {
     read: usize,
     length: usize,

@@ -1,6 +1,8 @@
 // Reads records from standard input, each a decimal length, a line feed and that many bytes of a description. Prints for
 // each the number that the reader answers and, where that is 0, the writer's text of the board. A damaged record ends it. Where
 // the input cannot be read, or the answers cannot be printed, standard error says so.
+#![tactic(auto)]
+
 ghost use Rattle.std.specs.Prelude.{◌+◌, ◌≤◌, length};
 
 use common_numbers::{BOARD_NUMBERS, TEXT_ROOM};
@@ -9,7 +11,7 @@ use libc::STDIN_FILENO;
 
 // What is still to be taken of a piece of the input: its bytes from `at` up to `end`. Whether no further piece is to be read,
 // since the input has ended or cannot be read.
-#[derive(Drop)]
+#[derive(Clone, Copy)]
 struct Input {
     at: usize,
     end: usize,
@@ -17,14 +19,14 @@ struct Input {
 }
 
 // What a record's first line says, and the input behind it.
-#[derive(Drop)]
+#[derive(Clone, Copy)]
 struct Head {
     length: Number,
     input: Input,
 }
 
 // Whether the input had the whole of a text, how many bytes of it were kept, and the input behind it.
-#[derive(Drop)]
+#[derive(Clone, Copy)]
 struct Body {
     whole: bool,
     kept: usize,
@@ -32,14 +34,14 @@ struct Body {
 }
 
 // Where the next answer goes, and whether what stood there before could be printed.
-#[derive(Drop)]
+#[derive(Clone, Copy)]
 struct Room {
     made: bool,
     at: usize,
 }
 
 // Whether there can be a further record, how many bytes of the output are filled, and the input behind the last record.
-#[derive(Drop)]
+#[derive(Clone, Copy)]
 struct Progress {
     going: bool,
     filled: usize,

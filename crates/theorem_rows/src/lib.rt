@@ -1,1 +1,2 @@
 // The examples of docs/RULES.md, section 9, proved about the definitions.
+#![tactic(auto)]

@@ -1,4 +1,6 @@
 // Reads one word on a board of one master and one card, and says that the transfer is finished.
+#![tactic(auto)]
+
 use common_numbers::{BOARD_NUMBERS, BUFFER_BYTES, LINES_NUMBERS, MASTERS, STATE_NUMBERS};
 
 fn main() {

@@ -1,4 +1,6 @@
 // The calls that look up wait and serve of a pair: one on a board, one on a text (rules 5.5, 5.7, 5.8).
+#![tactic(auto)]
+
 ghost use Rattle.std.specs.Prelude.{◌≡◌, ◌++◌, ◌≤◌, length};
 ghost use Rattle.common_text.specs.Code.Scanning.{Put};
 ghost use Rattle.description_board.specs.Legal.{Legal};
@@ -10,7 +12,7 @@ use common_numbers::{BOARD_NUMBERS, NO_MASTER, NOT_CONNECTED, SHORT_OUTPUT};
 use wait_turns::Quote;
 
 // A refusal's number and zeros, or 0 with wait and serve of a pair, in clocks (rules 5.5, 5.7, 8.1).
-#[derive(Drop)]
+#[derive(Clone, Copy)]
 pub struct Quoted {
     pub number: u32,
     pub wait: u64,

@@ -1,4 +1,6 @@
 // The table of a board: one line for each connected pair (rule 5.9).
+#![tactic(auto)]
+
 ghost use Rattle.std.specs.Prelude.{◌≡◌, ◌+◌, ◌≤◌, ◌<◌, length};
 ghost use Rattle.common_text.specs.Code.Scanning.{Put};
 ghost use Rattle.description_board.specs.Legal.{Legal};
@@ -13,7 +15,7 @@ use common_numbers::{BOARD_NUMBERS, SLAVES};
 use wait_turns::{Quote, Turns};
 
 // A refusal's number and 0, or 0 and the count of bytes written (rule 8.1).
-#[derive(Drop)]
+#[derive(Clone, Copy)]
 pub struct Printed {
     pub number: u32,
     pub length: usize,

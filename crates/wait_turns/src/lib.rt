@@ -1,4 +1,6 @@
 // Wait and serve of a pair: singles, longest transfers, turns and their sum (rules 5.1 to 5.7).
+#![tactic(auto)]
+
 ghost use Rattle.std.specs.Prelude.{◌≡◌, ◌≤◌, ◌<◌};
 ghost use Rattle.description_board.specs.Legal.{LegalMaster, LegalSlave, Legal};
 ghost use Rattle.description_layout.specs.Layout.{board_in};
@@ -10,14 +12,14 @@ use common_numbers::BOARD_NUMBERS;
 use description_board::{Master, Slave};
 
 // Wait and serve of a pair, in clocks (rules 5.5, 5.7).
-#[derive(Drop)]
+#[derive(Clone, Copy)]
 pub struct Quote {
     pub wait: u64,
     pub serve: u64,
 }
 
 // The clocks of a single's access at a slave, its v, and the turns of all masters there (rules 5.1, 5.6, 5.7).
-#[derive(Drop)]
+#[derive(Clone, Copy)]
 pub struct Turns {
     pub single: u32,
     pub v: u32,
