@@ -1,2 +1,1 @@
 pub mod AskingLaws
-pub mod HandedOn

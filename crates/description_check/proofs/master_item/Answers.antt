@@ -1,0 +1,20 @@
+-- `description_check::master_item` meets its contract. Past the array `get_or` gives the record of zeros too.
+-- Assumes nothing.
+use native.Mathlib.Omega.{arith}
+use lib.ListN.{get_or-eq_default}
+use Rattle.description_board.specs.Records.{no_master}
+use Rattle.description_board.specs.Items.{master_item}
+use Rattle.description_layout.proofs.BoardLaws.{masters_length}
+use Rattle.description_layout.specs.Layout.{board_in}
+use Rattle.description_check.proofs.master_item.Goals as goal
+
+pub returns-then-i-lt8 : goal.returns-then-i-lt8
+unfolding master_item
+returns-then-i-lt8 c = rw c.master_at-m.ensures
+
+pub returns : goal.returns
+unfolding master_item
+returns c =
+    let a = c.args in
+    let g = masters_length a.board.now in
+    rw (get_or-eq_default (board_in a.board.now).masters no_master {n = a.i} (omega arith))

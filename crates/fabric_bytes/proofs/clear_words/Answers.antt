@@ -1,0 +1,29 @@
+-- `fabric_bytes::clear_words` meets its contract. The loop's invariant: the first k bytes are 0.
+-- Assumes nothing.
+use mathlib.Core.Path.{refl, ap, ◌∙◌}
+use Prim.Native.Nat.{ℕ, ◌-◌}
+use native.Mathlib.Omega.{arith}
+use lib.ListN.{length-set}
+use Rattle.fabric_transfer.specs.Moving.{all, index_from, move}
+use Rattle.fabric_transfer.proofs.MoveLaws.{move_none, move_put}
+use Rattle.fabric_bytes.proofs.clear_words.Goals as goal
+
+pub loop-k-init : goal.loop-k-init
+loop-k-init c = (omega arith, refl, move_none all (λ i. 0) (index_from c.args.at) _)
+
+pub loop-k-preserved : goal.loop-k-preserved
+loop-k-preserved c =
+    let l = c.loop-k in
+    let at = c.args.at in (
+      omega arith,
+      length-set l.part _ _ ∙ l.invariant.1,
+      move_put all (λ i. 0) (index_from at) l.k _ _ _ l.invariant.2 refl refl refl,
+    )
+
+pub shape_of-part : goal.shape_of-part
+shape_of-part c = c.loop-k.invariant.1
+
+pub returns : goal.returns
+returns c =
+    let a = c.args in
+    c.loop-k.invariant.2 ∙ ap (λ (k : ℕ). move all (λ i. 0) (index_from a.at) 0 k a.part.now) (omega arith)

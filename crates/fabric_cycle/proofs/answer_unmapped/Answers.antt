@@ -1,0 +1,60 @@
+-- `fabric_cycle::answer_unmapped` meets its contract. The loop's invariant: the unmapped transfers of the first m masters are answered.
+-- Assumes nothing.
+use mathlib.Core.Path.{◌≡◌, ap, ◌∙◌}
+use mathlib.Core.Bool.{true}
+use mathlib.Core.Logic.{⊎_elim}
+use Prim.Native.Nat.{◌-◌}
+use native.Mathlib.Omega.{arith}
+use borrow.Author.Tests.{eq-eqb, ne_eqb}
+use Rattle.common_laws.specs.Bits.{bit}
+use Rattle.fabric_layout.specs.Layout.{state_in}
+use Rattle.fabric_layout.proofs.MarkLaws.{marks_same, marks_then}
+use Rattle.fabric_layout.proofs.StatePutLaws.{transfers_length}
+use Rattle.fabric_cycle.proofs.UnmappedLaws.{answered_begin, answered_next, answered_skip, answered_length}
+use Rattle.fabric_cycle.proofs.UnmappedLaws.{answer_count, answer_room, answer_fits}
+use Rattle.fabric_cycle.proofs.answer_unmapped.Goals.{Then-mask-m-eq1}
+use Rattle.fabric_cycle.proofs.answer_unmapped.Goals as goal
+
+-- the bit that was tested
+on : (c : Then-mask-m-eq1) → bit c.args.mask c.loop-m.m ≡ true
+unfolding bit
+on c = eq-eqb _ 1 c.if-mask-m-eq1.true
+
+pub loop-m-init : goal.loop-m-init
+loop-m-init c = (omega arith, answered_begin _ _ _ (transfers_length _) _, marks_same _)
+
+pub answer_at-requires : goal.answer_at-requires
+answer_at-requires c =
+    (
+      c.loop-m-test.true,
+      answer_count _ _ _ c.loop-m.invariant.1 c.loop-m-test.true c.requires.count,
+      answer_room _ _ _ c.loop-m.invariant.1 c.loop-m-test.true c.requires.room,
+      answer_fits _ _ _ c.loop-m.invariant.1 c.loop-m-test.true
+          (c.requires.fits _ c.loop-m-test.true (on (goal.at.answer_at-requires c).Then-mask-m-eq1)),
+    )
+
+pub loop-m-preserved : goal.loop-m-preserved
+unfolding bit
+loop-m-preserved c =
+    (
+      omega (arith, c.loop-m-test.true),
+      ⊎_elim
+          (λ w.
+          answered_next _ _ _ c.loop-m.invariant.1 c.loop-m-test.true (eq-eqb _ 1 w.0.taken)
+          (ap state_in w.6 ∙ w.3.ensures.0.state) (w.7 ∙ w.3.ensures.1))
+          (λ w.
+          rw (w.1, w.2)
+          (answered_skip _ _ _ c.loop-m.invariant.1 c.loop-m-test.true (ne_eqb _ 1 w.0.left)))
+          c.if-mask-m-eq1.branch,
+      ⊎_elim (λ w. rw w.6 (marks_then c.loop-m.invariant.2 w.3.ensures.0.marks))
+          (λ w. rw w.1 c.loop-m.invariant.2) c.if-mask-m-eq1.branch,
+    )
+
+pub shape_of-buffer : goal.shape_of-buffer
+shape_of-buffer c = answered_length _ _ _ c.loop-m.invariant.1
+
+pub returns : goal.returns
+returns c =
+    let i = c.loop-m.invariant in
+    let e : c.loop-m.m ≡ 8 = omega (arith, c.loop-m-test.false, i.0) in
+    (rw e at i.1, i.2)

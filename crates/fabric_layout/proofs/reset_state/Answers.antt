@@ -1,0 +1,41 @@
+-- `fabric_layout::reset_state` meets its contract.
+-- The loop's invariant: no transfer is held, no latency clocks are to pass, the log is empty, and the first s slots are those of a
+-- reset.
+-- Assumes nothing.
+use mathlib.Core.Path.{◌∙◌}
+use Prim.Native.Nat.{◌-◌}
+use native.Mathlib.Omega.{arith}
+use borrow.Author.Rules.{rules}
+use Rattle.common_laws.proofs.FillLaws.{filled_next, filled_all}
+use Rattle.fabric_layout.specs.Code.Puts.{reset_slot}
+use Rattle.fabric_layout.proofs.StatePutLaws.{slots_begin, slots_put, transfers_left, lates_left, log_left, reset_end}
+use Rattle.fabric_layout.proofs.StatePutLaws.{log_put, transfers_logged, lates_logged}
+use Rattle.fabric_layout.proofs.NumbersLaws.{reset_spelled}
+use Rattle.fabric_layout.proofs.reset_state.Goals as goal
+
+pub loop-s-init : goal.loop-s-init
+loop-s-init c =
+    let e = c.before.before.clear_masters.ensures in
+    let g = c.clear_log.ensures in (
+      omega arith,
+      transfers_logged _ _ _ g ∙ e.0,
+      lates_logged _ _ _ g ∙ e.1,
+      log_put _ _ _ g,
+      slots_begin _ _,
+    )
+
+pub loop-s-preserved : goal.loop-s-preserved
+loop-s-preserved c =
+    let i = c.before.before.before.before.loop-s.invariant in
+    let e = c.put_slot.ensures.state in (
+      omega arith,
+      transfers_left _ _ _ _ e ∙ i.1,
+      lates_left _ _ _ _ e ∙ i.2,
+      log_left _ _ _ _ e ∙ i.3,
+      slots_put _ _ _ _ e ∙ filled_next _ _ 16 _ i.4 c.before.reset_slot.ensures,
+    )
+
+pub returns : goal.returns
+returns c =
+    let i = c.before.before.before.before.loop-s.invariant in
+    reset_spelled _ _ _ (reset_end _ _ _ i.1 (filled_all _ _ 16 _ (omega arith) i.4) i.2 i.3) (search rules)

@@ -1,0 +1,66 @@
+-- `wait_table::print_table` meets its contract: refused for the text, refused for the room, or the table that was made aside.
+-- Assumes nothing.
+use Prim.Native.Nat.{◌≤◌}
+use native.Mathlib.Omega.{arith}
+use lib.ListN.{length, length-take}
+use borrow.Author.Rules.{rules}
+use Rattle.wait_table.specs.Longest.{longest_table}
+use Rattle.wait_table.proofs.PrintLaws.{promised, text_refused, board_legal, table_fits}
+use Rattle.wait_table.proofs.PrintLaws.{page_within, room_refused, table_printed}
+use Rattle.wait_table.proofs.print_table.Goals.{After-put_table-n}
+use Rattle.wait_table.proofs.print_table.Goals as goal
+
+pub returns-then-refused-ne0 : goal.returns-then-refused-ne0
+unfolding longest_table
+returns-then-refused-ne0 c =
+    promised _ _ _ (omega arith) (text_refused _ c.read-refused.ensures.number _ c.if-refused-ne0.true)
+
+pub put_table-n-requires : goal.put_table-n-requires
+unfolding longest_table
+put_table-n-requires c =
+    let x = c.read-refused.ensures in
+    let none = c.if-refused-ne0.false in
+    record {
+      legal = board_legal _ x.number none (x.board none);
+      board_in_bounds = omega (arith, table_fits _ x.number none (x.board none));
+    }
+
+-- the page has room for the longest table, so that what is printed lies within it
+room : (t : After-put_table-n) → longest_table ≤ length t.put_table-n.new.out
+unfolding longest_table
+room t = search rules
+
+within : (t : After-put_table-n) → t.put_table-n.result ≤ length t.put_table-n.new.out
+within t =
+    let x = t.read-refused.ensures in
+    let none = t.if-refused-ne0.false in
+    page_within _ x.number none (x.board none) t.put_table-n.ensures (room t)
+
+pub returns-then-out-n : goal.returns-then-out-n
+unfolding longest_table
+returns-then-out-n c =
+    let x = c.read-refused.ensures in
+    let none = c.if-refused-ne0.false in
+    promised _ _ _ (omega arith)
+    (room_refused _ x.number none (x.board none) c.put_table-n.ensures (room (goal.at.returns-then-out-n c).After-put_table-n) _ c.if-out-n.true)
+
+pub slice_bounds-page-end : goal.slice_bounds-page-end
+slice_bounds-page-end c = within (goal.at.slice_bounds-page-end c).After-put_table-n
+
+pub slice_bounds-put_bytes-end : goal.slice_bounds-put_bytes-end
+slice_bounds-put_bytes-end c =
+    omega (arith, within (goal.at.slice_bounds-put_bytes-end c).After-put_table-n, length-take c.put_table-n.result c.put_table-n.new.out)
+
+pub put_bytes-requires : goal.put_bytes-requires
+put_bytes-requires c =
+    let t = c.put_table-n in
+    omega (arith, length-take t.result t.new.out)
+
+pub returns : goal.returns
+unfolding longest_table
+returns c =
+    let x = c.read-refused.ensures in
+    let none = c.if-refused-ne0.false in
+    promised _ _ _ (omega arith)
+    (table_printed _ x.number none (x.board none) c.put_table-n.ensures (room (goal.at.returns c).After-put_table-n) _ c.if-out-n.false
+    c.put_bytes.ensures)
