@@ -39,6 +39,7 @@ class Function:
             self.parent[norm(place)] = norm(parent) if parent else None
             if norm(place).startswith("at-loop"):
                 self.loop_steps.add(norm(step[0]))
+        self.params = names["params"]
         self.arms = {}
         for arm in names["arms"]:
             if arm:
@@ -94,11 +95,23 @@ class Function:
         if first == "requires" or first == "pre":
             return ["requires"] + self.clause(self.own, "requires", rest)
         if first in self.steps:
-            rest = [("requires" if f == "pre" else f) for f in rest]
+            rest = [("requires" if f == "pre" else "auto" if f == "kept" else f) for f in rest]
+            if rest and rest[0] in ("new", "auto"):
+                rest = [rest[0]] + self.parameter(self.callee.get(first), rest[1:])
             if rest[:1] == ["ensures"]:
                 rest = ["ensures"] + self.clause(self.callee.get(first), "ensures", rest[1:])
             return [self.steps[first]] + rest
         return [FIELDS.get(fields[0], fields[0])] + fields[1:]
+
+    def parameter(self, function, rest):
+        """A parameter by its name, that was k times 1 and then 0."""
+        k = 0
+        while k < len(rest) and rest[k] == "1":
+            k += 1
+        names = self.params.get(function, [])
+        if k < len(rest) and rest[k] == "0" and k < len(names):
+            return [names[k]] + rest[k + 1 :]
+        return rest
 
     def clause(self, function, kind, rest):
         names = self.clauses.get(function, {}).get(kind, [])
@@ -129,7 +142,7 @@ class Function:
                     continue
                 if m[1] in env:
                     del env[m[1]]
-            got = self.expression(text, i, env)
+            got = None if re.compile(NAME + r" = ").match(text, i) and re.search(r"[{;]\s*$", text[:i]) else self.expression(text, i, env)
             if got:
                 place, root, j = got
                 m = re.compile(r"((?:\." + NAME + r")+)").match(text, j)
@@ -154,7 +167,9 @@ class Function:
                 continue
             out.append(text[i])
             i += 1
-        made = re.sub(r"\.inv(?![\w'-])", ".invariant", "".join(out))
+        made = re.sub(r" κs\)", ")", "".join(out))
+        made = re.sub(r"not-(?:false|true) _ (c\.if-not-[A-Za-z0-9_-]+\.(?:false|true))", r"\1", made)
+        made = re.sub(r"\.inv(?![\w'-])", ".invariant", made)
         return re.sub(r"(?: (?:invariant|decreases)-loop\d*)+(?=[\s()]|$)", "", made)
 
     def argument(self, place, root, env, goal):
@@ -401,7 +416,8 @@ def shared(answers, invariants):
         for a in list(answers):
             comments, body = split(a)
             name = declared(body.split("\n"))
-            if name and not body.startswith("pub ") and used(name, "\n".join(invariants)):
+            cited = re.search(r"(?<![^\s(){}\[\],;])" + re.escape(name or "-") + r"(?![^\s(){}\[\].,;])", "\n".join(invariants))
+            if name and not body.startswith("pub ") and cited:
                 body = re.sub(r"^((?:abbrev |unfoldable )*)", r"\1pub ", body)
                 answers.remove(a)
                 invariants.insert(len(moved) - len(moved), "\n".join(comments + [body]))
