@@ -1,35 +1,44 @@
 #!/usr/bin/env python3
 """Holds each must-fail edit to the reason for which it is refused.
 
-usage: tests/edits.py [--list | --forms | --try]
+usage: tests/edits.py [--said FILE] [CRATE..]
+       tests/edits.py --list | --forms | --try
 
 A file crates/CRATE/must-fail/NAME.edit holds one edit, whose label is NAME, or several of different functions of the crate, each
 after a line `label: LABEL`. One check refuses them all, so that the kit's word on the file does not say that each is refused. What
 each has to break stands in a line of its own, `refused: WHERE`: a function of the crate, a law of its proofs, or a part of a law that
 is a record, `refused: LAW PART`.
 
-`rt ci` leaves the log of each file's check in target/must-fail. There each label needs an error in the proof of its function, or in
-its law, that is the edit's own: not one that follows from another refusal (a name that was not admitted, a function that calls one
-that is not proved), nor a need that the changed code no longer has.
+Each label needs an error in the proof of its function, or in its law, that is the edit's own: not one that follows from another
+refusal (a name that was not admitted, a function that calls one that is not proved), nor a goal that the changed code no longer has.
 
-  --list   prints each label with its file and what it breaks, and reads no log
-  --forms  says whether each label stands once and names what it breaks, and reads no log
+`rt ci` and `rt must-fail` print of each file the first error alone. --said FILE is what `rt ci` printed: a label that this first error
+is about needs nothing more. Each other file is checked once more here, in a copy of its crate outside the repository, where all that
+the check says is read. Without --said that is each file, or each of the crates that are named.
+
+  --list   prints each label with its file and what it breaks, and checks nothing
+  --forms  says whether each label stands once and names what it breaks, and checks nothing
   --try    puts a harmless edit into a group of a copy of one crate, and finds it
 
 Exit status 0 if every label has such an error, else 1, with a line for each that has none.
 """
+import os
 import re
 import shutil
 import subprocess
 import sys
 import tempfile
+from concurrent.futures import ThreadPoolExecutor
 from pathlib import Path
 
 ROOT = Path(__file__).resolve().parent.parent
 # What an error says that follows from another refusal, or from the code's new shape.
-FOLLOWS = re.compile(r"was not admitted|has no (?:`Need-|field )|which is not proved")
+FOLLOWS = re.compile(r"was not admitted|was rejected|is not in scope|has no (?:`|field )|which is not proved")
 # The file and line of an error, the declaration that has it, and what it says.
-ERROR = re.compile(r"((?:specs|proofs)/\S+\.antt):(\d+):\d+: error: `([^`]+)`: (.*)")
+ERROR = re.compile(r"(?:\./)?((?:specs|proofs)/\S+\.antt):(\d+):\d+: error: `([^`]+)`: (.*)")
+PARTS = ("src", "specs", "proofs")
+# The memory in KB that a check may take.
+MEMORY = 3_000_000
 
 
 class Edit:
@@ -80,42 +89,146 @@ def form_complaints(edits):
         broken.add(place)
 
 
-def own_errors(log):
-    """What fails by itself in a log: functions, laws, and of a law that is a record its parts too, as `rows fourteen`."""
-    found = set()
-    for line in log.read_text(errors="replace").split("\n"):
-        error = ERROR.match(line.removeprefix(f"{log.parent}/"))
-        if error and not FOLLOWS.search(error.group(4)):
-            place, number, name, _ = error.groups()
-            proof = re.search(r"proofs/(?:.*/)?([^/]+)/Proof\.antt$", place)
+def line_at(path, number):
+    lines = path.read_text().split("\n") if path.is_file() else []
+    return lines[number - 1] if number <= len(lines) else ""
+
+
+def function_at(path, number):
+    """The function whose text a line of a source file is in."""
+    lines = path.read_text().split("\n")[:number] if path.is_file() else []
+    heads = [re.match(r'\s*(?:pub(?:\(\w+\))? )?(?:unsafe )?(?:extern "C" )?(?:const )?fn (\w+)', line) for line in lines]
+    return next((head.group(1) for head in reversed(heads) if head), None)
+
+
+def own_errors(said, crate):
+    """What fails by itself in what a check of a crate says: functions, laws, and of a law that is a record its parts too, as `rows
+    fourteen`. The crate is the folder that was checked: lines are read there."""
+    found, changed, opened = set(), set(), set()
+    for line in said.split("\n"):
+        error = ERROR.match(line)
+        if error:
+            place, number, name, reason = error.groups()
+            proof = re.search(r"proofs/(?:.*/)?([^/]+)/(?:Answers|Invariants|Proof)\.antt$", place)
+            if FOLLOWS.search(reason):
+                changed |= {proof.group(1)} if proof else set()
+                continue
             found.add(proof.group(1) if proof else name)
-            part = re.match(r"\s+(\w+) =", (log.parent / place).read_text().split("\n")[int(number) - 1])
+            part = re.match(r"\s+(\w+) =", line_at(crate / place, int(number)))
             if part:
                 found.add(f"{name} {part.group(1)}")
-        # a function without a proof file: the proof that the kit makes is not closed
-        made = re.match(r"fn \w+(?:::\w+)*::(\w+): no proof: .*`search` does not close", line)
+        # a goal that is open, at values that the check knows
+        false = re.match(r"note: (?:\./)?(src/\S+\.rt):(\d+):\d+: it is not proved .* allow values at which this goal is false", line)
+        if false:
+            found.add(function_at(crate / false.group(1), int(false.group(2))))
+        # a goal that has no answer, and that the check does not close
+        made = re.match(r"fn \w+(?:::\w+)*::(\w+): no proof: .*`search` did not prove", line)
         if made:
-            found.add(made.group(1))
+            opened.add(made.group(1))
+    # Where the edit took away what the function's own files name, a goal without an answer may be another form of one that had it.
+    return found | (opened - changed)
+
+
+def needed(root, crate):
+    """A crate and all that it uses of the repository."""
+    lines = [line.partition("#")[0] for line in (root / "crates.txt").read_text().split("\n")]
+    uses = {line.split(":")[0].split()[0]: line.partition(":")[2].split() for line in lines if line.strip()}
+    found, left = set(), [crate]
+    while left:
+        name = left.pop()
+        if name in uses and name not in found:
+            found.add(name)
+            left += uses[name]
+    return sorted(found)
+
+
+def copy_of(root, crate, to):
+    """A repository of one crate and what it uses, without its edits."""
+    (to / ".git").mkdir(parents=True)
+    names = needed(root, crate)
+    lines = (root / "crates.txt").read_text().split("\n")
+    kept = [line for line in lines if line.partition(":")[0].split()[:1] and line.partition(":")[0].split()[0] in names]
+    (to / "crates.txt").write_text("\n".join(kept) + "\n")
+    for name in names:
+        for part in PARTS:
+            if (root / "crates" / name / part).is_dir():
+                shutil.copytree(root / "crates" / name / part, to / "crates" / name / part)
+    return to / "crates" / crate
+
+
+def apply(path, crate):
+    """Makes the changes of an edit's file in a copy of its crate."""
+    place = old = None
+    for line in path.read_text().split("\n"):
+        key, _, value = line.partition(": ")
+        if key == "file":
+            place = crate / value
+        elif key == "old":
+            old = value
+        elif line.startswith("new:"):
+            text = place.read_text()
+            if text.count(old) != 1:
+                raise ValueError(f"{path.name}: {old!r} stands {text.count(old)} times")
+            place.write_text(text.replace(old, line[len("new:"):].removeprefix(" ")))
+
+
+def checked(root, crate, files):
+    """What fails by itself with each of these files of a crate's edits, and what the check said, by the file's name."""
+    found = {}
+    with tempfile.TemporaryDirectory(prefix="edits-") as folder:
+        copy = copy_of(root, crate, Path(folder).resolve() / "copy")
+        for file in files:
+            for part in PARTS:
+                shutil.rmtree(copy / part, ignore_errors=True)
+                if (root / "crates" / crate / part).is_dir():
+                    shutil.copytree(root / "crates" / crate / part, copy / part)
+            try:
+                apply(root / "crates" / crate / "must-fail" / f"{file}.edit", copy)
+            except (ValueError, OSError) as error:
+                found[file] = set(), str(error)
+                continue
+            words = ["rt", "check", "--jobs", "1"]
+            ran = subprocess.run(words, cwd=copy, stdin=subprocess.DEVNULL, stdout=subprocess.PIPE, stderr=subprocess.STDOUT, text=True, errors="replace")
+            found[file] = own_errors(ran.stdout, copy) if ran.returncode == 1 else set(), ran.stdout
     return found
 
 
-def log_complaints(root, edits):
-    logs = {}
+def at_once():
+    """How many checks the machine bears side by side."""
+    free = re.search(r"MemAvailable:\s+(\d+)", Path("/proc/meminfo").read_text())
+    return max(1, min(len(os.sched_getaffinity(0)), int(free.group(1)) // MEMORY if free else 1))
+
+
+def settled_by(said, root):
+    """What `rt ci` says that each file's first error is about, by crate and file."""
+    found = {}
+    for crate, file, text in re.findall(r"^(?:rt: )?must-fail (\w+)/(\S+)\.edit: refused, as it must be: (.*)$", said, re.M):
+        found[crate, file] = own_errors(text, root / "crates" / crate)
+    return found
+
+
+def reason_complaints(root, edits, said=""):
+    """The labels that have no error of their own, and how many files were checked once more."""
+    first = settled_by(said, root)
+    left = {}
     for edit in edits:
-        log = root / "target" / "must-fail" / edit.crate / edit.file / ".log"
-        if log not in logs:
-            logs[log] = own_errors(log) if log.is_file() else None
-        if logs[log] is None:
-            yield f"{edit}: {edit.file}.edit has not been tried (rt ci, rt must-fail {edit.crate})"
-        elif edit.where not in logs[log]:
-            yield f"{edit}: {edit.where} is not refused by itself"
-
-
-def judge(root):
-    """The complaints about a repository whose edits have been tried, and how many labels and files it has."""
-    edits = all_edits(root)
-    complaints = list(form_complaints(edits)) or list(log_complaints(root, edits))
-    return complaints, len(edits), len({(edit.crate, edit.file) for edit in edits})
+        if edit.where not in first.get((edit.crate, edit.file), ()):
+            left.setdefault(edit.crate, []).append(edit)
+    tried = {}
+    with ThreadPoolExecutor(at_once()) as pool:
+        jobs = {crate: pool.submit(checked, root, crate, sorted({it.file for it in its})) for crate, its in left.items()}
+        for crate, job in jobs.items():
+            for file, (errors, text) in job.result().items():
+                tried[crate, file] = errors, text
+    complaints = []
+    for edit in [it for its in left.values() for it in its]:
+        errors, text = tried[edit.crate, edit.file]
+        if edit.where not in errors:
+            names = ", ".join(sorted(it for it in errors if it)) or "nothing"
+            complaints.append(f"{edit}: {edit.where} is not refused by itself; what is: {names}")
+            if not errors:
+                complaints += text.rstrip("\n").split("\n")[-8:]
+    return complaints, len(tried)
 
 
 # A change that keeps every promise of `less_one`, in place of the one that breaks it, in a group of the crate.
@@ -128,31 +241,35 @@ new:     if n < 1 { 0 } else { n - 1 }
 """
 
 
-def tried_copy(copy):
-    """A repository of one crate and what it uses, as far as it is proved, whose one group has the harmless edit."""
-    lines = (ROOT / "crates.txt").read_text().split("\n")
-    used = next(line for line in lines if line.startswith(f"{TRIED}:"))
-    names = used.replace(":", "").split()
-    (copy / "crates.txt").write_text("\n".join([used] + [f"{name}:" for name in names[1:]]) + "\n")
-    for name in names:
-        shutil.copytree(ROOT / "crates" / name, copy / "crates" / name, ignore=shutil.ignore_patterns("must-fail"))
-        shutil.copytree(ROOT / "target/rlib" / f"{name}.rlib", copy / "target/rlib" / f"{name}.rlib")
-        (copy / "target/stamp").mkdir(parents=True, exist_ok=True)
-        shutil.copy(ROOT / "target/stamp" / name, copy / "target/stamp")
-    kept = (ROOT / "crates" / TRIED / "must-fail/group-1.edit").read_text().split("\n\n")[0]
-    (copy / "crates" / TRIED / "must-fail").mkdir()
-    (copy / "crates" / TRIED / "must-fail/group-1.edit").write_text(f"{kept}\n\n{HARMLESS}")
-
-
 def try_harmless():
-    with tempfile.TemporaryDirectory() as folder:
-        copy = Path(folder).resolve()
-        tried_copy(copy)
-        said = subprocess.run(["rt", "must-fail", TRIED], cwd=copy, capture_output=True, text=True)
-        complaints, labels, _ = judge(copy)
-    if said.returncode == 0 and complaints == [f"{TRIED}/harmless: less_one is not refused by itself"] and labels == 2:
+    with tempfile.TemporaryDirectory(prefix="edits-") as folder:
+        copy = Path(folder).resolve() / "tried"
+        crate = copy_of(ROOT, TRIED, copy)
+        kept = (ROOT / "crates" / TRIED / "must-fail/group-1.edit").read_text().split("\n\n")[0]
+        (crate / "must-fail").mkdir()
+        (crate / "must-fail/group-1.edit").write_text(f"{kept}\n\n{HARMLESS}")
+        said = subprocess.run(["rt", "must-fail", TRIED], cwd=copy, stdin=subprocess.DEVNULL, capture_output=True, text=True)
+        edits = all_edits(copy)
+        complaints, _ = reason_complaints(copy, edits, said.stdout)
+    found = [line for line in complaints if line.startswith(f"{TRIED}/harmless: less_one is not refused by itself")]
+    if said.returncode == 0 and complaints == found and len(found) == 1 and len(edits) == 2:
         return [f"edits: a harmless edit in a group of {TRIED} is found"], 0
     return [f"edits: a harmless edit in a group of {TRIED} is not found:", said.stdout, said.stderr, *complaints], 1
+
+
+def judge(arguments):
+    said = ""
+    if arguments[:1] == ["--said"] and len(arguments) > 1:
+        said, arguments = Path(arguments[1]).read_text(errors="replace"), arguments[2:]
+    edits = all_edits(ROOT)
+    complaints = list(form_complaints(edits))
+    edits = [edit for edit in edits if not arguments or edit.crate in arguments]
+    files = len({(edit.crate, edit.file) for edit in edits})
+    again = 0
+    if not complaints:
+        complaints, again = reason_complaints(ROOT, edits, said)
+    done = f"edits: {len(edits)} labels in {files} files, each refused by an error of its own; {again} files were checked once more"
+    return complaints or [done], 1 if complaints else 0
 
 
 def main(arguments):
@@ -163,13 +280,11 @@ def main(arguments):
         lines, status = complaints or ["edits: each label stands once and names what it breaks"], len(complaints) and 1
     elif arguments == ["--try"]:
         lines, status = try_harmless()
-    elif arguments:
+    elif arguments and arguments[0] != "--said" and arguments[0].startswith("-"):
         print(__doc__, end="", file=sys.stderr)
         return 2
     else:
-        complaints, labels, files = judge(ROOT)
-        status = 1 if complaints else 0
-        lines = complaints or [f"edits: {labels} labels in {files} files, each refused by an error of its own"]
+        lines, status = judge(arguments)
     print("\n".join(lines))
     return status
 
