@@ -1,4 +1,4 @@
-//! Links the archives that `rt staticlib` wrote of fabric_c and bench_entries.
+//! Links the archives that `tools/build` wrote of fabric_c and bench_entries.
 
 use std::env;
 use std::path::Path;

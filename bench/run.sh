@@ -7,7 +7,7 @@ case ${1-} in
     '') ;;
     *)
         echo "usage: bench/run.sh
-Proves and builds the library's archives (rt staticlib fabric_c, bench_entries), then times its
+Proves and builds the library's archives (tools/build fabric_c bench_entries), then times its
 calls for C and the model's code by turns: a line for each call, with the ratio of the times.
 Those for read, fabric_wait and print_table begin with a description's text. Those for clock and run
 are one clock with its posts; a run of clocks goes on until a master finishes. The last lines are
@@ -18,9 +18,6 @@ the same traffic made in Rattle, the reading of its board included."
         esac
         ;;
 esac
-mkdir -p target
-for archive in fabric_c bench_entries; do
-    rt staticlib "$archive" > target/bench.log 2>&1 || { cat target/bench.log >&2; exit 1; }
-done
+tools/build fabric_c bench_entries >&2
 cargo build --release --offline --quiet --manifest-path bench/Cargo.toml --target-dir target/bench
 exec target/bench/release/bench boards

@@ -1,7 +1,7 @@
 /*
  * An Avalon-MM fabric for C and C++: a board's description read, the fabric clock by clock, and the quoted wait.
  *
- * Link with libfabric_c.a, which `rt staticlib fabric_c` writes to target/staticlib/ (x86-64 Linux).
+ * Link with libfabric_c.a, which `tools/build fabric_c` writes to target/staticlib/ (x86-64 Linux).
  *
  *   fabric_read                            a description's text to a board
  *   fabric_refused_at, _refused_master     the line that is to blame for a refusal; the master that 20 names

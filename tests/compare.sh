@@ -6,7 +6,7 @@ usage() {
     cat <<'END'
 usage: tests/compare.sh [SEED] [COUNT]
 
-Compares what the programs that `rt check` built in target/bin print with what the model prints,
+Compares what the programs in target/bin (tools/build) print with what the model prints,
 byte for byte, on input that the model generates from SEED (2 where it is not given):
 
   texts        COUNT descriptions, good and damaged (2000 where it is not given)
@@ -131,7 +131,7 @@ report() {
 # differences.
 begin() {
     program=${1%-files}
-    [ -x "$root/target/bin/$program" ] || fail "$program is not built: rt check $program"
+    [ -x "$root/target/bin/$program" ] || fail "$program is not built: tools/build $program"
     rm -rf "${folder:?}/$1"
     mkdir -p "$folder/$1"
 }
@@ -167,7 +167,7 @@ compare_texts() {
     report texts "$count records" "$differences"
 }
 
-# The stored records are those of tests/texts.py, and their stored answers are the model's: rt checks only that the program
+# The stored records are those of tests/texts.py, and their stored answers are the model's: rt ci checks only that the program
 # prints what is stored.
 compare_stored() {
     "$root/tests/texts.py" --check || fail "the stored records are not those of tests/texts.py"

@@ -9,7 +9,7 @@ work=$(mktemp -d)
 trap 'rm -rf "$work"' EXIT
 for program in table simulate; do
     [ -x "$root/target/bin/$program" ] || {
-        echo "explain: $program is not built (rt check $program)" >&2
+        echo "explain: $program is not built (tools/build $program)" >&2
         exit 2
     }
 done

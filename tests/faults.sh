@@ -9,12 +9,12 @@ library=$root/target/staticlib/libfabric_c.a
 work=$(mktemp -d)
 trap 'rm -rf "$work"' EXIT
 [ -f "$library" ] || {
-    echo "faults: no $library (rt staticlib fabric_c)" >&2
+    echo "faults: no $library (tools/build fabric_c)" >&2
     exit 2
 }
 for program in table simulate texts; do
     [ -x "$root/target/bin/$program" ] || {
-        echo "faults: $program is not built (rt check $program)" >&2
+        echo "faults: $program is not built (tools/build $program)" >&2
         exit 2
     }
     ln -s "$root/target/bin/$program" "$work/$program"

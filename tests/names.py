@@ -29,7 +29,7 @@ ROOT = Path(__file__).resolve().parent.parent
 # What a document may name in backquotes and this repository does not have: programs and words of the language or of the kit.
 FOREIGN = set("io libc os std check rt gcc cargo python3 valgrind antt".split())
 # Laws of one statement whose modules ask for different things, of which neither follows from the other.
-APART = ["legal-accepted (description_board/proofs/Accepted.antt)", "accepted-board (fabric_calls/proofs/RunOfClocks.antt)"]
+APART = ["legal_accepted (description_board/proofs/Accepted.antt)", "accepted_board (fabric_calls/proofs/RunOfClocks.antt)"]
 
 
 def tracked():
@@ -38,7 +38,11 @@ def tracked():
 
 
 def text_of(path):
-    return path.read_text(errors="replace")
+    """A file's text; an import that goes over several lines, as one line."""
+    text = path.read_text(errors="replace")
+    if path.suffix in (".antt", ".rt"):
+        text = re.sub(r"^((?:pub )?(?:ghost )?use [^{};]*\{)([^{}]*)\}", lambda m: m[1] + " ".join(m[2].split()).rstrip(",") + "}", text, flags=re.M)
+    return text
 
 
 def rules():
@@ -85,7 +89,8 @@ class Names:
         self.in_crate = {}
         for path in files:
             if path.suffix in (".antt", ".rt", ".h", ".c", ".sh", ".rs", ".py", ".toml") or path.name == "run":
-                words = set(re.findall(r"[\w′]+(?:-[\w′]+)*", text_of(path)))
+                words = {word.removesuffix("'s").strip("'") for word in re.findall(r"[\w']+(?:-[\w']+)*", text_of(path))}
+                words |= set(re.findall(r"\w[\w']*(?:-[\w']+)*", text_of(path)))
                 self.words |= words | set(re.findall(r"\w+", text_of(path)))
                 parts = path.relative_to(ROOT).parts
                 if parts[0] == "crates":
@@ -116,7 +121,7 @@ class Names:
             crate, name, what = placed.groups()
             if not self.file_exists(crate, name):
                 return "no such file or edit"
-            missing = [w for w in re.findall(r"[\w′]+(?:-[\w′]+)*", what or "") if w not in self.in_crate[crate]]
+            missing = [w for w in re.findall(r"[\w']+(?:-[\w']+)*", what or "") if w not in self.in_crate[crate]]
             return f"crate {crate} has no {missing[0]}" if missing else None
         labelled = re.match(r"(\w+)/([\w-]+)$", cited)
         if labelled and labelled.group(1) in self.crates:
@@ -213,7 +218,7 @@ def figure_complaints():
 
 def lines_to_read(path):
     """Lines that are neither blank nor an import."""
-    return sum(1 for line in text_of(path).split("\n") if line.strip() and not line.startswith("use "))
+    return sum(1 for line in text_of(path).split("\n") if line.strip() and not line.startswith(("use ", "pub use ")))
 
 
 def numbered(part, seen):
@@ -272,7 +277,7 @@ def statement(lines):
     for group in re.findall(r"[({]([^():{}]+) : ", text):
         for name in group.split():
             variables.setdefault(name, f"v{len(variables)}")
-    return re.sub(r"[\w′]+", lambda found: variables.get(found.group(0), found.group(0)), text)
+    return re.sub(r"[\w']+", lambda found: variables.get(found.group(0), found.group(0)), text)
 
 
 def laws_of(path):
@@ -287,7 +292,7 @@ def laws_of(path):
 def law_complaints():
     places = {}
     for path in sorted((ROOT / "crates").glob("*/proofs/**/*.antt")):
-        if path.name != "Proof.antt":
+        if path.name not in ("Answers.antt", "Invariants.antt", "Proof.antt"):
             for name, said in laws_of(path):
                 places.setdefault(said, []).append(f"{name} ({path.relative_to(ROOT / 'crates')})")
     for where in twice(places).values():
@@ -330,9 +335,9 @@ def head_of(crate, name):
     return None
 
 
-USE = r"^(?:ghost )?use Rattle·(\w+?)(?:·specs)?\.(specs|proofs)\.([\w′·.-]+?)(?:\.\{(.*)\}| as (\w+))?;?$"
+USE = r"^(?:pub )?(?:ghost )?use Rattle\.(\w+)\.(specs|proofs)\.([\w'.-]+?)(?:\.\{(.*)\}| as ([\w'-]+))?;?$"
 # a name in full, outside an import: its last part is the definition
-FULL = r"^(?!(?:ghost )?use |\s*--).*?Rattle·(\w+?)(?:·specs)?\.(specs|proofs)\.([\w′·.-]+)\.[\w′-]+"
+FULL = r"^(?!(?:pub )?(?:ghost )?use |\s*--).*?Rattle\.(\w+)\.(specs|proofs)\.([\w'.-]+)\.[\w'-]+"
 
 
 def imported(text, among=None):
@@ -359,7 +364,7 @@ def named_by_files(listed):
 def named_by_call(crate, name):
     """What the head of a public call names: its contract, and a record that it answers."""
     path, head = head_of(crate, name)
-    found = list(imported(text_of(path), set(re.findall(r"[\w′·]+", head)))) + re.findall(FULL, head, re.M)
+    found = list(imported(text_of(path), set(re.findall(r"[\w']+", head)))) + re.findall(FULL, head, re.M)
     return found + ([(crate, "specs", "declared")] if re.search(r"-> [A-Z]", head) else [])
 
 

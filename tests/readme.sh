@@ -1,7 +1,7 @@
 #!/bin/sh
 # Compares the examples of README.md, and those of docs/SIMULATE.md, byte for byte with the files that they show and with what the
 # programs print. An example of README.md that begins with `$ ` is a command, with what it prints below it: each is tried, so that a
-# new one needs no line here. Wants the programs (rt check) and the archive (rt staticlib fabric_c).
+# new one needs no line here. Wants the programs and the archive (tools/build).
 set -eu
 
 root=$(CDPATH= cd -- "$(dirname -- "$0")/.." && pwd)
@@ -61,7 +61,7 @@ same 'README.md, the description: boards/document01.txt is another'
 
 # The table, by README.md's own command behind that which builds the program.
 example README.md 'master,slave,wait,serve' > shown
-sh -c "$(sed -n 's/^rt check table && //p' "$root/README.md")" > is
+sh -c "$(sed -n 's/^tools\/build table && //p' "$root/README.md")" > is
 same 'README.md, the table: another is printed'
 
 # What is built for C, by README.md's own commands, and the lines of C, in a program of their own on a board of one card.

@@ -12,7 +12,7 @@ table=$root/target/bin/table
 work=$(mktemp -d)
 trap 'rm -rf "$work"' EXIT
 [ -x "$table" ] || {
-    echo "tables: table is not built (rt check table)" >&2
+    echo "tables: table is not built (tools/build table)" >&2
     exit 2
 }
 mkdir "$work/pages" "$work/said" "$work/boards"

@@ -1,5 +1,5 @@
 #!/bin/sh
-# Builds the C clients against target/staticlib/libfabric_c.a (rt staticlib fabric_c) and tries them: the planning tool, also
+# Builds the C clients against target/staticlib/libfabric_c.a (tools/build fabric_c) and tries them: the planning tool, also
 # against the model; what the calls do to what they are lent; texts with share lines in order and out of order, and with the line
 # default; the accesses of every pair of widths; the clock and the log beside a simulator of its own, and mistakes of that
 # simulator, each against a rule of docs/RULES.md. What is lent is watched by valgrind where the machine has it.
@@ -12,7 +12,7 @@ work=$(mktemp -d)
 trap 'rm -r "$work"' EXIT
 
 if [ ! -f "$library" ]; then
-    echo "test.sh: no $library (rt staticlib fabric_c)" >&2
+    echo "test.sh: no $library (tools/build fabric_c)" >&2
     exit 2
 fi
 
