@@ -137,7 +137,7 @@ class Names:
 
 def documents():
     found = [ROOT / "README.md", ROOT / "CONTRIBUTING.md", ROOT / "clients/c/README.md"]
-    found += [path for path in sorted((ROOT / "docs").glob("*.md")) if path.name != "LANDINGS.md"]
+    found += [path for path in sorted((ROOT / "docs").glob("*.md")) if not path.name.startswith(("LANDINGS", "PORT"))]
     return [path for path in found if path.exists()]
 
 
