@@ -11,6 +11,8 @@ is a record, `refused: LAW PART`.
 
 Each label needs an error in the proof of its function, or in its law, that is the edit's own: not one that follows from another
 refusal (a name that was not admitted, a function that calls one that is not proved), nor a goal that the changed code no longer has.
+Goals and facts are named after the code, `if-n-eq0` after `n == 0`. Where an edit turns such a name, the function's proof is tried again
+with the name that the check has in its place, so that what is refused is a fact.
 
 `rt ci` and `rt must-fail` print of each file the first error alone. --said FILE is what `rt ci` printed: a label that this first error
 is about needs nothing more. Each other file is checked once more here, in a copy of its crate outside the repository, where all that
@@ -22,6 +24,7 @@ the check says is read. Without --said that is each file, or each of the crates 
 
 Exit status 0 if every label has such an error, else 1, with a line for each that has none.
 """
+import difflib
 import os
 import re
 import shutil
@@ -33,10 +36,12 @@ from pathlib import Path
 
 ROOT = Path(__file__).resolve().parent.parent
 # What an error says that follows from another refusal, or from the code's new shape.
-FOLLOWS = re.compile(r"was not admitted|was rejected|is not in scope|has no (?:`|field )|which is not proved")
+FOLLOWS = re.compile(r"was not admitted|was rejected|is not in scope|has no (?:`|field )|is already declared|which is not proved")
 # The file and line of an error, the declaration that has it, and what it says.
 ERROR = re.compile(r"(?:\./)?((?:specs|proofs)/\S+\.antt):(\d+):\d+: error: `([^`]+)`: (.*)")
 PARTS = ("src", "specs", "proofs")
+# How often names that an edit turned are followed.
+ROUNDS = 4
 # The memory in KB that a check may take.
 MEMORY = 3_000_000
 
@@ -129,6 +134,48 @@ def own_errors(said, crate):
     return found | (opened - changed)
 
 
+def alike(name, others, has):
+    """The name among others that is most like one: of the same kind, of the same branch, and not in the files that have this text."""
+    def kind(of):
+        parts = of.split("-")
+        return parts[0], "then" in parts, "else" in parts
+
+    near = [it for it in others if kind(it) == kind(name) and not re.search(rf"(?<![\w'-]){re.escape(it)}(?![\w'-])", has)]
+    close = difflib.get_close_matches(name, near, 1, 0.7)
+    return close[0] if close else None
+
+
+def turned_names(said, crate):
+    """The names that functions' proofs cite and that the changed code has in another form, by the folder of the proof."""
+    asked = {}
+    for name, rest in re.findall(r"^help: `\w+` has no `([^`]+)`; rattle asks for ([^;\n]*)", said, re.M):
+        asked.setdefault(name, []).extend(re.findall(r"`([^`]+)`", rest))
+    found = {}
+    for line in said.split("\n"):
+        error = ERROR.match(line)
+        proof = error and re.search(r"^(proofs/.*)/(?:Answers|Invariants)\.antt$", error.group(1))
+        if not proof:
+            continue
+        goal = re.search(r"has no `([^`]+)` that can be named from here", error.group(4))
+        field = re.search(r"has no field `([^`]+)` \(nearest: ([^)]*)\)", error.group(4))
+        name = goal or field
+        if name:
+            others = asked.get(goal.group(1), re.findall(r"`([^`]+)`", error.group(4)[goal.end():])) if goal else re.findall(r"\.([\w'-]+)", field.group(2))
+            has = "".join(path.read_text() for path in sorted((crate / proof.group(1)).glob("*.antt"))) if goal else ""
+            new = alike(name.group(1), others, has)
+            if new:
+                found.setdefault(proof.group(1), {})[name.group(1)] = new
+    return found
+
+
+def follow(names, crate):
+    """Puts names in the place of others in the proofs of a copy of a crate."""
+    for folder, turned in names.items():
+        for path in sorted((crate / folder).glob("*.antt")):
+            one = re.compile("(?<![\\w'-])(?:" + "|".join(map(re.escape, turned)) + ")(?![\\w'-])")
+            path.write_text(one.sub(lambda found: turned[found.group(0)], path.read_text()))
+
+
 def needed(root, crate):
     """A crate and all that it uses of the repository."""
     lines = [line.partition("#")[0] for line in (root / "crates.txt").read_text().split("\n")]
@@ -172,8 +219,23 @@ def apply(path, crate):
             place.write_text(text.replace(old, line[len("new:"):].removeprefix(" ")))
 
 
+def refused(copy, wanted):
+    """What fails by itself in a changed copy of a crate, and what the last check said."""
+    found = set()
+    for _ in range(ROUNDS):
+        words = ["rt", "check", "--jobs", "1"]
+        ran = subprocess.run(words, cwd=copy, stdin=subprocess.DEVNULL, stdout=subprocess.PIPE, stderr=subprocess.STDOUT, text=True, errors="replace")
+        found |= own_errors(ran.stdout, copy) if ran.returncode == 1 else set()
+        names = turned_names(ran.stdout, copy)
+        if wanted <= found or not names:
+            break
+        follow(names, copy)
+    return found, ran.stdout
+
+
 def checked(root, crate, files):
-    """What fails by itself with each of these files of a crate's edits, and what the check said, by the file's name."""
+    """What fails by itself with each of these files of a crate's edits, and what the check said, by the file's name. The files are
+    given with what is wanted of each."""
     found = {}
     with tempfile.TemporaryDirectory(prefix="edits-") as folder:
         copy = copy_of(root, crate, Path(folder).resolve() / "copy")
@@ -187,9 +249,7 @@ def checked(root, crate, files):
             except (ValueError, OSError) as error:
                 found[file] = set(), str(error)
                 continue
-            words = ["rt", "check", "--jobs", "1"]
-            ran = subprocess.run(words, cwd=copy, stdin=subprocess.DEVNULL, stdout=subprocess.PIPE, stderr=subprocess.STDOUT, text=True, errors="replace")
-            found[file] = own_errors(ran.stdout, copy) if ran.returncode == 1 else set(), ran.stdout
+            found[file] = refused(copy, files[file])
     return found
 
 
@@ -216,7 +276,8 @@ def reason_complaints(root, edits, said=""):
             left.setdefault(edit.crate, []).append(edit)
     tried = {}
     with ThreadPoolExecutor(at_once()) as pool:
-        jobs = {crate: pool.submit(checked, root, crate, sorted({it.file for it in its})) for crate, its in left.items()}
+        wanted = {crate: {it.file: {its.where for its in edits if (its.crate, its.file) == (crate, it.file)} for it in its} for crate, its in left.items()}
+        jobs = {crate: pool.submit(checked, root, crate, files) for crate, files in wanted.items()}
         for crate, job in jobs.items():
             for file, (errors, text) in job.result().items():
                 tried[crate, file] = errors, text
