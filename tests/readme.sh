@@ -49,7 +49,7 @@ same() {
 }
 
 # Files of the repository.
-example README.md 'fn main() {' > shown
+example README.md 'fn main(' > shown
 cp "$root/crates/tiny/src/main.rt" is
 same 'README.md, the program: crates/tiny/src/main.rt is another'
 example README.md 'tiny:' > shown
