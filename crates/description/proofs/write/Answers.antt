@@ -15,19 +15,30 @@ use Rattle.description.specs.declared.Written.{Written}
 use Rattle.description_layout.specs.Layout.{board_in}
 use Rattle.description.proofs.write.Goals as goal
 
+-- the promises, for an output of at least so many bytes
+record Promised (b : Board) (out : List ℕ) (most : ℕ) (r : Written) (after : List ℕ) : Type 0 where
+  answer : r ≡ write_answer b out
+  output : after ≡ write_output b out
+  room : most ≤ length out → r.number ≡ board_refusal b
+
 -- the third promise follows from the first, for an output of at least `longest` bytes
 promised : (b : Board) (out : List ℕ) (most : ℕ) {r : Written} {after : List ℕ} → longest ≤ most → Writes b out r after
-    → (r ≡ write_answer b out) × ((after ≡ write_output b out) × (most ≤ length out → r.number ≡ board_refusal b))
+    → Promised b out most r after
 unfolding write_answer
-promised b out most l w =
-    (w.0, (w.1, λ h. ap (λ (r : Written). r.number) w.0 ∙ text_room b out (omega arith)))
+promised b out most l w = record {
+  answer = w.0;
+  output = w.1;
+  room = λ h. ap (λ (r : Written). r.number) w.0 ∙ text_room b out (omega arith);
+}
 
 pub returns-then-number-ne0 : goal.returns-then-number-ne0
 unfolding longest
 returns-then-number-ne0 c =
     let a = c.args in
     let b = board_in a.board.now in
-    promised b a.out.now _ (omega arith) (board_refused b _ _ c.board_refusal-number.ensures c.if-number-ne0.true)
+    let w = promised b a.out.now _ (omega arith)
+        (board_refused b _ _ c.board_refusal-number.ensures c.if-number-ne0.true) in
+    record { answer = w.answer; output = w.output; room = w.room }
 
 pub returns-then-out-length : goal.returns-then-out-length
 unfolding longest
@@ -35,8 +46,9 @@ returns-then-out-length c =
     let a = c.args in
     let b = board_in a.board.now in
     let accepted = sym c.board_refusal-number.ensures ∙ c.if-number-ne0.false in
-    promised b a.out.now _ (omega arith)
-    (room_refused b _ accepted (omega (arith, c.board_length-length.ensures, c.if-out-length.true)))
+    let w = promised b a.out.now _ (omega arith)
+        (room_refused b _ accepted (omega (arith, c.board_length-length.ensures, c.if-out-length.true))) in
+    record { answer = w.answer; output = w.output; room = w.room }
 
 pub returns : goal.returns
 unfolding longest
@@ -44,9 +56,10 @@ returns c =
     let a = c.args in
     let b = board_in a.board.now in
     let accepted = sym c.board_refusal-number.ensures ∙ c.if-number-ne0.false in
-    promised b a.out.now _ (omega arith)
-    (text_written b _ accepted _ _ (omega (
+    let w = promised b a.out.now _ (omega arith)
+        (text_written b _ accepted _ _ (omega (
       arith,
       c.board_length-length.ensures,
       c.if-out-length.false,
-    )) c.put_board-end.ensures)
+    )) c.put_board-end.ensures) in
+    record { answer = w.answer; output = w.output; room = w.room }

@@ -41,7 +41,7 @@ pub returns : goal.returns
 returns c =
     λ e. parts_accepted _ _ _ c.master_count-m.ensures c.slave_count-s.ensures
     (counted _ 8 c.if-m.false) (counted _ 16 c.if-s.false)
-    (c.masters_fit.ensures (not-false _ c.if-not-masters_fit.false))
+    (c.masters_fit.ensures (c.if-not-masters_fit.false))
     (c.slaves_fit-slaves.ensures (not-false _ c.if-not-slaves.false))
-    (c.natives_fit.ensures (not-false _ c.if-not-natives_fit.false))
-    (c.shares_fit.ensures (not-false _ c.if-not-shares_fit.false)) c.without_share.ensures e
+    (c.natives_fit.ensures (c.if-not-natives_fit.false))
+    (c.shares_fit.ensures (c.if-not-shares_fit.false)) c.without_share.ensures e

@@ -1,6 +1,7 @@
 -- `description_check::masters_fit` meets its contract. The loop's invariant: each master passed is legal.
 -- Assumes nothing.
-use mathlib.Core.Bool.{false≢true}
+use mathlib.Core.Path.{ap}
+use mathlib.Core.Bool.{not, false≢true}
 use Prim.Native.Nat.{◌-◌}
 use native.Mathlib.Omega.{arith}
 use borrow.Author.Count.{below_none}
@@ -18,7 +19,7 @@ loop-i-preserved c =
     (
   omega arith,
   master_next _ _ _ _ _ c.master_at-m.ensures c.width_fits.ensures
-      c.burst_fits.ensures c.if-not-width_fits-burst_fits.false c.loop-i.invariant.1,
+      c.burst_fits.ensures (ap not c.if-not-width_fits-burst_fits.false) c.loop-i.invariant.1,
 )
 
 pub returns : goal.returns

@@ -22,7 +22,7 @@ loop-i-preserved c =
     (
       omega arith,
       natives_next _ _ _ _ _ c.slave_at-s.ensures c.requires.n_bound.1 c.narrowest-least.ensures c.loop-i.invariant.1
-          (c.wide_enough.ensures (not-false _ c.if-not-wide_enough.false)),
+          (c.wide_enough.ensures (c.if-not-wide_enough.false)),
     )
 
 pub returns : goal.returns

@@ -19,7 +19,7 @@ loop-m-preserved c =
   omega arith,
   record {
     row = below_more _ _ c.loop-m.invariant.1.row
-        (c.row_passes.ensures (not-false _ c.if-not-row_passes.false));
+        (c.row_passes.ensures (c.if-not-row_passes.false));
   },
 )
 

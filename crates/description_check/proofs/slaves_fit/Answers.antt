@@ -6,7 +6,6 @@ use Prim.Native.Nat.{◌-◌}
 use native.Mathlib.Omega.{arith}
 use borrow.Author.Tests.{not-false}
 use Rattle.description_check.proofs.AcceptLaws.{so_far_start, so_far_next, so_far_end}
-use Rattle.description_check.proofs.slaves_fit.Goals.{Else-not-clear_of, Else-not-slave_fits}
 use Rattle.description_check.proofs.slaves_fit.Goals as goal
 
 pub loop-i-init : goal.loop-i-init
@@ -31,9 +30,9 @@ loop-i-preserved c =
       omega arith,
       so_far_next _ _ _ _ _ _ _ c.slave_at-s.ensures c.loop-i.invariant.1
           (record {
-            (goal.at.loop-i-preserved c).Else-not-slave_fits = c.slave_fits.ensures (not-false _ c.if-not-slave_fits.false);
+            fits = c.slave_fits.ensures (c.if-not-slave_fits.false);
             small = omega arith;
-            (goal.at.loop-i-preserved c).Else-not-clear_of = c.clear_of.ensures (not-false _ c.if-not-clear_of.false);
+            clear = c.clear_of.ensures (c.if-not-clear_of.false);
             behind = c.later-last.ensures;
           }),
     )

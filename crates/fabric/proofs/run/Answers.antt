@@ -7,6 +7,8 @@ use mathlib.Core.List.{List}
 use Prim.Native.Nat.{ℕ}
 use native.Mathlib.Omega.{arith}
 use borrow.Author.Rules.{rules}
+use Rattle.description_board.specs.declared.Board.{Board}
+use Rattle.description_layout.specs.Layout.{board_in}
 use Rattle.fabric_transfer.specs.Bytes.{Store}
 use Rattle.fabric_layout.specs.Layout.{state_in}
 use Rattle.fabric_layout.proofs.StatePutLaws.{first_none}
@@ -15,14 +17,7 @@ use Rattle.fabric_calls.specs.Calls.{clock_refusal}
 use Rattle.fabric.proofs.PassingLaws.{run_refused, passing_begin, passing_accepts, passing_lengths}
 use Rattle.fabric.proofs.PassingLaws.{passing_spent, passing_next, passing_finished}
 use Rattle.fabric.proofs.run.Goals.{Else-begun-ne0, Start}
-use Rattle.fabric.proofs.run.Invariants.{board}
 use Rattle.fabric.proofs.run.Goals as goal
-
-abbrev before : Start → List ℕ
-before c = c.args.state.now
-
-abbrev bytes : Start → Store
-bytes c = record { memory = c.args.memory.now; buffer = c.args.buffer.now }
 
 pub returns-then-begun-ne0 : goal.returns-then-begun-ne0
 returns-then-begun-ne0 c =
@@ -32,7 +27,7 @@ returns-then-begun-ne0 c =
 
 -- nothing is refused
 taken : (c : Else-begun-ne0)
-    → clock_refusal (board c.before.before.before.before.before.before.before.before.before.before) (state_in (before c.before.before.before.before.before.before.before.before.before.before)) (bytes c.before.before.before.before.before.before.before.before.before.before) ≡ 0
+    → clock_refusal (board_in c.args.board.now) (state_in (c.args.state.now)) (record { memory = c.args.memory.now; buffer = c.args.buffer.now }) ≡ 0
 taken c = sym c.begin-begun.ensures.number ∙ c.if-begun-ne0.false
 
 pub loop-left-init : goal.loop-left-init

@@ -4,15 +4,11 @@
 -- Assumes nothing.
 use mathlib.Core.Path.{◌≡◌}
 use lib.ListN.{length, replicate}
-use Rattle.description_board.specs.declared.Board.{Board}
 use Rattle.description_layout.specs.Layout.{board_in}
 use Rattle.fabric_layout.specs.Layout.{state_in}
 use Rattle.fabric_calls.specs.Calls.{clock_refusal}
 use Rattle.fabric.proofs.PassingLaws.{Passing}
 use Rattle.fabric.proofs.run.Given as goal
-
-abbrev pub board : Start → Board
-board c = board_in c.args.board.now
 
 abbrev pub invariant-loop-left : goal.invariant-loop-left
 invariant-loop-left l =

@@ -1,7 +1,7 @@
 -- `fabric::take_refusal` meets its contract.
 -- Assumes nothing.
-use mathlib.Core.Path.{sym, ◌∙◌}
 use borrow.Author.Tests.{not-true, not-false}
+use mathlib.Core.Path.{sym, ◌∙◌}
 use Rattle.fabric_calls.proofs.TakeLaws.{take_board, take_state, take_empty, take_free}
 use Rattle.fabric.proofs.take_refusal.Goals as goal
 

@@ -11,17 +11,8 @@ use Rattle.fabric_begin.proofs.BeginLaws.{begin_number, begins_refused, begin_de
 use Rattle.fabric_begin.proofs.begin.Goals.{After-clock_refusal_by-number, Else-number-ne0, Start}
 use Rattle.fabric_begin.proofs.begin.Goals as goal
 
-abbrev board : Start → Board
-board c = board_in c.args.board.now
-
-abbrev state : Start → State
-state c = state_in c.args.state.now
-
-abbrev bytes : Start → Store
-bytes c = record { memory = c.args.memory.now; buffer = c.args.buffer.now }
-
 found : (c : After-clock_refusal_by-number)
-    → c.clock_refusal_by-number.result ≡ clock_refusal (board c.before.before.before.before.before) (state c.before.before.before.before.before) (bytes c.before.before.before.before.before)
+    → c.clock_refusal_by-number.result ≡ clock_refusal (board_in c.args.board.now) (state_in c.args.state.now) (record { memory = c.args.memory.now; buffer = c.args.buffer.now })
 found c = begin_number _ _ _ c.ready-checked.ensures c.clock_refusal_by-number.ensures
 
 pub returns-then-number-ne0 : goal.returns-then-number-ne0
@@ -29,8 +20,8 @@ returns-then-number-ne0 c =
     begins_refused _ _ _ _ (found (goal.at.returns-then-number-ne0 c).After-clock_refusal_by-number) c.if-number-ne0.true
 
 -- nothing is refused
-none : (c : Else-number-ne0) → clock_refusal (board c.before.before.before.before.before.before) (state c.before.before.before.before.before.before) (bytes c.before.before.before.before.before.before) ≡ 0
-none c = sym (found c.before) ∙ c.if-number-ne0.false
+none : (c : Else-number-ne0) → clock_refusal (board_in c.args.board.now) (state_in c.args.state.now) (record { memory = c.args.memory.now; buffer = c.args.buffer.now }) ≡ 0
+none c = sym (begin_number _ _ _ c.ready-checked.ensures c.clock_refusal_by-number.ensures) ∙ c.if-number-ne0.false
 
 pub unmapped_mask-unmapped-requires : goal.unmapped_mask-unmapped-requires
 unmapped_mask-unmapped-requires c =

@@ -4,17 +4,20 @@ use mathlib.Core.Bool.{true}
 use mathlib.Core.Path.{◌≡◌, refl, sym, ◌∙◌}
 use Prim.Native.Nat.{◌<◌, ◌-◌}
 use native.Mathlib.Omega.{arith}
-use borrow.Author.Tests.{not-true, not-false}
 use Rattle.common_laws.specs.Lists.{every}
 use Rattle.description_board.proofs.Accepted.{accepted_legal}
+use Rattle.description_board.specs.declared.Board.{Board}
+use Rattle.description_layout.specs.Layout.{board_in}
 use Rattle.fabric_state.specs.Soundness.{sound_slot}
 use Rattle.fabric_state.specs.declared.State.{State}
 use Rattle.fabric_layout.proofs.StatePutLaws.{transfers_length}
 use Rattle.fabric_layout.specs.Layout.{state_in}
 use Rattle.fabric_check.proofs.CheckLaws.{every_next, every_not, slot_stranger, slot_parts, slot_posted}
-use Rattle.fabric_check.proofs.sound_slots.Goals.{After-shares_at-share, After-sound_slot_by, After-struct_known-in-loop-s-1, In-loop-s, Start}
-use Rattle.fabric_check.proofs.sound_slots.Invariants.{board}
+use Rattle.fabric_check.proofs.sound_slots.Goals.{After-sound_slot_by, After-struct_known-in-loop-s-1, In-loop-s, Start}
 use Rattle.fabric_check.proofs.sound_slots.Goals as goal
+
+abbrev board : Start → Board
+board c = board_in c.args.board.now
 
 abbrev state : Start → State
 state c = state_in c.args.st.now
@@ -34,12 +37,12 @@ owner_known : (c : After-struct_known-in-loop-s-1) → c.slot_at-slot.result.own
 owner_known c = omega (arith, owner_in c, (accepted_legal _ c.requires.board).few_masters)
 
 -- what the code tests is the slot's rule
-tested : (c : After-sound_slot_by) → c.sound_slot_by.result ≡ sound_slot (board c.before.before.before.before.before.before.before.before.before.before.before.before.before.before.before.before) (state c.before.before.before.before.before.before.before.before.before.before.before.before.before.before.before.before) c.loop-s.s
+tested : (c : After-sound_slot_by) → c.sound_slot_by.result ≡ sound_slot (board_in c.args.board.now) (state_in c.args.st.now) c.loop-s.s
 tested c =
     c.sound_slot_by.ensures
-    ∙ slot_parts (board c.before.before.before.before.before.before.before.before.before.before.before.before.before.before.before.before) (state c.before.before.before.before.before.before.before.before.before.before.before.before.before.before.before.before) _ c.slot_at-slot.ensures
+    ∙ slot_parts (board_in c.args.board.now) (state_in c.args.st.now) _ c.slot_at-slot.ensures
     c.master_count-masters.ensures c.args.targets.now c.requires (transfers_length _)
-    (slave_in c.before.before.before.before.before.before.before.before.before.before.before.before) c.if-masters-slot.false c.shares_at-share.ensures c.master_at-ma.ensures
+    (slave_in c.before.before.before.before.before.before.before.before.before.before.before.before.before) c.if-masters-slot.false c.shares_at-share.ensures c.master_at-ma.ensures
     c.slave_at-sl.ensures c.transfer_at-t.ensures c.late_at-late.ensures
 
 pub loop-s-init : goal.loop-s-init
@@ -74,18 +77,18 @@ offset_bounds-targets-owner c =
     omega (arith, owner_known (goal.at.offset_bounds-targets-owner c).After-struct_known-in-loop-s-1)
 
 pub bounds-targets-owner : goal.bounds-targets-owner
-bounds-targets-owner c = owner_known (goal.at.bounds-targets-owner c).After-shares_at-share
+bounds-targets-owner c = owner_known (goal.at.bounds-targets-owner c).After-struct_known-in-loop-s-1
 
 pub sound_slot_by-requires : goal.sound_slot_by-requires
 sound_slot_by-requires c =
     λ q.
     slot_posted (board (goal.at.sound_slot_by-requires c).Start) (state (goal.at.sound_slot_by-requires c).Start) c.args.targets.now c.requires (transfers_length _) _ _ c.late_at-late.result
     (slave_in (goal.at.sound_slot_by-requires c).In-loop-s)
-    (owner_in (goal.at.sound_slot_by-requires c).After-shares_at-share) q c.master_at-ma.ensures c.slave_at-sl.ensures c.transfer_at-t.ensures
+    (owner_in (goal.at.sound_slot_by-requires c).After-struct_known-in-loop-s-1) q c.master_at-ma.ensures c.slave_at-sl.ensures c.transfer_at-t.ensures
 
 pub returns-then-not-sound_slot_by : goal.returns-then-not-sound_slot_by
 returns-then-not-sound_slot_by c =
-    sym (every_not _ _ _ (slave_in (goal.at.returns-then-not-sound_slot_by c).In-loop-s) (sym (tested (goal.at.returns-then-not-sound_slot_by c).After-sound_slot_by) ∙ not-true _ c.if-not-sound_slot_by.true))
+    sym (every_not _ _ _ (slave_in (goal.at.returns-then-not-sound_slot_by c).In-loop-s) (sym (tested (goal.at.returns-then-not-sound_slot_by c).After-sound_slot_by) ∙ c.if-not-sound_slot_by.true))
 
 pub overflow_add-s : goal.overflow_add-s
 overflow_add-s c = omega (arith, place_in (goal.at.overflow_add-s c).In-loop-s)
@@ -97,7 +100,7 @@ pub loop-s-preserved : goal.loop-s-preserved
 loop-s-preserved c =
     (
       omega (arith, slave_in (goal.at.loop-s-preserved c).In-loop-s),
-      every_next _ _ c.loop-s.invariant.1 (sym (tested (goal.at.loop-s-preserved c).After-sound_slot_by) ∙ not-false _ c.if-not-sound_slot_by.false),
+      every_next _ _ c.loop-s.invariant.1 (sym (tested (goal.at.loop-s-preserved c).After-sound_slot_by) ∙ c.if-not-sound_slot_by.false),
     )
 
 pub returns : goal.returns

@@ -4,14 +4,10 @@ use mathlib.Core.Bool.{true}
 use mathlib.Core.Path.{◌≡◌}
 use Prim.Native.Nat.{◌≤◌, ◌-◌}
 use Rattle.common_laws.specs.Lists.{every}
-use Rattle.description_board.specs.declared.Board.{Board}
 use Rattle.description_layout.specs.Layout.{board_in}
 use Rattle.fabric_state.specs.Soundness.{sound_slot}
 use Rattle.fabric_layout.specs.Layout.{state_in}
 use Rattle.fabric_check.proofs.sound_slots.Given as goal
-
-abbrev pub board : Start → Board
-board c = board_in c.args.board.now
 
 abbrev pub invariant-loop-s : goal.invariant-loop-s
 invariant-loop-s l =

@@ -5,7 +5,6 @@ use mathlib.Core.Bool.{true, true≢false}
 use mathlib.Core.Path.{◌≡◌, refl, sym, ◌∙◌}
 use Prim.Native.Nat.{◌-◌}
 use native.Mathlib.Omega.{arith}
-use borrow.Author.Tests.{not-true, not-false}
 use borrow.Author.Rules.{rules}
 use Rattle.common_laws.specs.Lists.{every}
 use Rattle.common_laws.proofs.FillLaws.{filled_none}
@@ -28,7 +27,7 @@ loop-m-init c = (omega arith, refl, filled_none _ _ 8 0 _ (search rules) (λ k h
 
 pub returns-then-not-held_at : goal.returns-then-not-held_at
 returns-then-not-held_at c =
-    let broken = sym (tested (goal.at.returns-then-not-held_at c).After-held_at) ∙ not-true _ c.if-not-held_at.true in record {
+    let broken = sym (tested (goal.at.returns-then-not-held_at c).After-held_at) ∙ c.if-not-held_at.true in record {
       sound = sym (every_not _ 8 _ c.loop-m-test.true broken);
       targets = λ q. absurd (true≢false (sym q));
     }
@@ -36,7 +35,7 @@ returns-then-not-held_at c =
 pub loop-m-preserved : goal.loop-m-preserved
 loop-m-preserved c =
     let l = c.loop-m in
-    let passed : c.held_at.result ≡ true = not-false _ c.if-not-held_at.false in
+    let passed : c.held_at.result ≡ true = c.if-not-held_at.false in
     let st = state_in c.args.st.now in
     let read = c.transfer_at-t.ensures in (
       omega arith,

@@ -3,14 +3,12 @@
 use mathlib.Core.Path.{refl, sym, ◌∙◌}
 use Prim.Native.Nat.{◌-◌}
 use native.Mathlib.Omega.{arith}
-use borrow.Author.Tests.{not-true}
 use Rattle.common_laws.specs.Lists.{sum}
 use Rattle.fabric_check.proofs.UnmappedMask.{unmapped_next, unmapped_fits, unmapped_all, unmapped_none}
 use Rattle.fabric_check.proofs.unmapped_mask.Goals as goal
 
 pub returns-then-not-default_at : goal.returns-then-not-default_at
-returns-then-not-default_at c =
-    unmapped_none _ _ _ c.requires (sym c.default_at.ensures ∙ not-true _ c.if-not-default_at.true)
+returns-then-not-default_at c = unmapped_none _ _ _ c.requires (sym c.default_at.ensures ∙ c.if-not-default_at.true)
 
 pub loop-m-init : goal.loop-m-init
 unfolding sum

@@ -8,6 +8,7 @@ use lib.Bits.{bit_and}
 use lib.Dec.{eqb}
 use lib.ListN.{get_or}
 use Rattle.common_laws.proofs.TableLaws.{mask}
+use Rattle.description_board.specs.declared.Board.{Board}
 use Rattle.description_board.specs.Legal.{Legal}
 use Rattle.fabric_state.specs.declared.State.{State}
 use Rattle.fabric_state.specs.Records.{late_at}
@@ -19,25 +20,21 @@ use Rattle.fabric_check.specs.Code.Targets.{targets_in, request_mask}
 use Rattle.fabric_check.proofs.TargetLaws.{mask_at}
 use Rattle.fabric_cycle.proofs.PassLaws.{Begun, runs_legal, pass_begin, pass_ready}
 use Rattle.fabric_cycle.proofs.PassLaws.{pass_fits, start_fits, pass_next, pass_end}
-use Rattle.fabric_cycle.proofs.act.Goals.{After-clock_slave-arg-1, After-pass_latency-latent, In-loop-s, Start}
-use Rattle.fabric_cycle.proofs.act.Invariants.{board}
+use Rattle.fabric_cycle.proofs.act.Goals.{After-pass_latency-latent, In-loop-s}
 use Rattle.fabric_cycle.proofs.act.Goals as goal
 
-abbrev before : Start → State
-before c = state_in c.args.st.now
-
 -- the slave of a pass is one of the board
-slave_in : (c : In-loop-s) → c.loop-s.s < (board c.before.before.before.before.before.before.before).slave_count
+slave_in : (c : In-loop-s) → c.loop-s.s < (board_in c.args.board.now).slave_count
 slave_in c = omega (arith, c.loop-s-test.true, c.slave_count-count.ensures)
 
-legal : (c : Start) → Legal (board c)
+legal : (c : In-loop-s) → Legal (board_in c.args.board.now)
 legal c = runs_legal _ _ (transfers_length _) (slots_length _) (lates_length _) c.requires.0
 
 place_in : (c : In-loop-s) → c.loop-s.s < 16
-place_in c = omega (arith, slave_in c, (legal c.before.before.before.before.before.before.before).few_slaves)
+place_in c = omega (arith, slave_in c, (legal c).few_slaves)
 
 -- what stood before the clock is what the function was handed
-begun : (c : After-pass_latency-latent) → Begun (board c.before.before.before.before.before) (before c.before.before.before.before.before) (state_in c.pass_latency-latent.new.st) c.args.holders.now c.pass_latency-latent.result
+begun : (c : After-pass_latency-latent) → Begun (board_in c.args.board.now) (state_in c.args.st.now) (state_in c.pass_latency-latent.new.st) c.args.holders.now c.pass_latency-latent.result
 begun c =
     record {
       passes = c.requires.0;
@@ -50,14 +47,14 @@ begun c =
 
 -- the mask of a slave's requests
 module _ (c : In-loop-s) (u : State)
-    (w : Begun (board c.before.before.before.before.before.before.before) u (state_in c.pass_latency-latent.new.st) c.args.holders.now
+    (w : Begun (board_in c.args.board.now) u (state_in c.pass_latency-latent.new.st) c.args.holders.now
     c.pass_latency-latent.result) where
   mask_is : bit_and (get_or c.args.holders.now c.loop-s.s 0) c.pass_latency-latent.result.free
-      ≡ bit_and (request_mask (targets_in (board c.before.before.before.before.before.before.before) u.transfers) c.loop-s.s)
+      ≡ bit_and (request_mask (targets_in (board_in c.args.board.now) u.transfers) c.loop-s.s)
       (mask (λ m. eqb (late_at u m) 0) 8)
   mask_is =
       ap (λ (x : ℕ). bit_and x c.pass_latency-latent.result.free) (mask_at _ _ (place_in c) w.masks)
-      ∙ ap (bit_and (request_mask (targets_in (board c.before.before.before.before.before.before.before) u.transfers) c.loop-s.s)) w.counted.free
+      ∙ ap (bit_and (request_mask (targets_in (board_in c.args.board.now) u.transfers) c.loop-s.s)) w.counted.free
 
 pub loop-s-init : goal.loop-s-init
 loop-s-init c =
@@ -67,7 +64,7 @@ loop-s-init c =
 )
 
 pub bounds-holders-s : goal.bounds-holders-s
-bounds-holders-s c = place_in (goal.at.bounds-holders-s c).After-clock_slave-arg-1
+bounds-holders-s c = place_in (goal.at.bounds-holders-s c).In-loop-s
 
 pub clock_slave-finished-requires : goal.clock_slave-finished-requires
 clock_slave-finished-requires c =
@@ -106,10 +103,10 @@ pub loop-s-preserved : goal.loop-s-preserved
 loop-s-preserved c =
     let i = c.loop-s.invariant in
     let e = c.clock_slave-finished.ensures in
-    let k = c.clock_slave-finished.kept.1.1.1.1.1.1 in (
+    let k = c.clock_slave-finished.auto in (
       (λ u w.
           pass_next _ _ w.transfers w.slots w.lates w.passes _ (slave_in (goal.at.loop-s-preserved c).In-loop-s) _ _ (i.0 u w) _ (mask_is (goal.at.loop-s-preserved c).In-loop-s u w) _ e.0
-          c.slave_at-sl.ensures k.0 k.1.0),
+          c.slave_at-sl.ensures k.memory k.buffer),
       marks_then i.1 e.1,
     )
 

@@ -2,16 +2,12 @@
 -- invariant is said of every state that can have stood before the latency clocks passed.
 -- Assumes nothing.
 use Prim.Native.Nat.{◌-◌}
-use Rattle.description_board.specs.declared.Board.{Board}
 use Rattle.fabric_state.specs.declared.State.{State}
 use Rattle.description_layout.specs.Layout.{board_in}
 use Rattle.fabric_layout.specs.Layout.{state_in, lines_in}
 use Rattle.fabric_layout.specs.Numbers.{Marks}
 use Rattle.fabric_cycle.proofs.PassLaws.{Pass, Begun}
 use Rattle.fabric_cycle.proofs.act.Given as goal
-
-abbrev pub board : Start → Board
-board c = board_in c.args.board.now
 
 abbrev pub invariant-loop-s : goal.invariant-loop-s
 invariant-loop-s l =

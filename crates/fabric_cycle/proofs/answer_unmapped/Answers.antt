@@ -2,7 +2,6 @@
 -- Assumes nothing.
 use mathlib.Core.Path.{◌≡◌, ap, ◌∙◌}
 use mathlib.Core.Bool.{true}
-use mathlib.Core.Logic.{⊎_elim}
 use Prim.Native.Nat.{◌-◌}
 use native.Mathlib.Omega.{arith}
 use borrow.Author.Tests.{eq-eqb, ne_eqb}
@@ -12,7 +11,7 @@ use Rattle.fabric_layout.proofs.MarkLaws.{marks_same, marks_then}
 use Rattle.fabric_layout.proofs.StatePutLaws.{transfers_length}
 use Rattle.fabric_cycle.proofs.UnmappedLaws.{answered_begin, answered_next, answered_skip, answered_length}
 use Rattle.fabric_cycle.proofs.UnmappedLaws.{answer_count, answer_room, answer_fits}
-use Rattle.fabric_cycle.proofs.answer_unmapped.Goals.{Then-mask-m-eq1}
+use Rattle.fabric_cycle.proofs.answer_unmapped.Goals.{Then-mask-m-eq1, then-mask-m-eq1, else-mask-m-eq1}
 use Rattle.fabric_cycle.proofs.answer_unmapped.Goals as goal
 
 -- the bit that was tested
@@ -38,16 +37,18 @@ unfolding bit
 loop-m-preserved c =
     (
       omega (arith, c.loop-m-test.true),
-      ⊎_elim
-          (λ w.
-          answered_next _ _ _ c.loop-m.invariant.1 c.loop-m-test.true (eq-eqb _ 1 w.0.taken)
-          (ap state_in w.6 ∙ w.3.ensures.0.state) (w.7 ∙ w.3.ensures.1))
-          (λ w.
-          rw (w.1, w.2)
-          (answered_skip _ _ _ c.loop-m.invariant.1 c.loop-m-test.true (ne_eqb _ 1 w.0.left)))
-          c.if-mask-m-eq1.branch,
-      ⊎_elim (λ w. rw w.6 (marks_then c.loop-m.invariant.2 w.3.ensures.0.marks))
-          (λ w. rw w.1 c.loop-m.invariant.2) c.if-mask-m-eq1.branch,
+      elim c.if-mask-m-eq1.branch [
+        then-mask-m-eq1 w ↦
+          answered_next _ _ _ c.loop-m.invariant.1 c.loop-m-test.true (eq-eqb _ 1 w.if-mask-m-eq1.true)
+          (ap state_in w.st-is ∙ w.answer_at.ensures.0.state) (w.buffer-is ∙ w.answer_at.ensures.1)
+      | else-mask-m-eq1 w ↦
+          rw (w.st-is, w.buffer-is)
+          (answered_skip _ _ _ c.loop-m.invariant.1 c.loop-m-test.true (ne_eqb _ 1 w.if-mask-m-eq1.false))
+      ],
+      elim c.if-mask-m-eq1.branch [
+        then-mask-m-eq1 w ↦ rw w.st-is (marks_then c.loop-m.invariant.2 w.answer_at.ensures.0.marks)
+      | else-mask-m-eq1 w ↦ rw w.st-is c.loop-m.invariant.2
+      ],
     )
 
 pub shape_of-buffer : goal.shape_of-buffer

@@ -20,7 +20,7 @@ returns-then-unmapped-eq0 c =
 pub answer_unmapped-requires : goal.answer_unmapped-requires
 answer_unmapped-requires c =
     answerable _ _ (transfers_length _) (slots_length _) (lates_length _) c.requires.0 c.act-completed.ensures.0 c.requires.2
-    (c.act-completed.kept.1.1.1.1.1.0 ∙ c.requires.4)
+    (c.act-completed.auto.buffer ∙ c.requires.4)
 
 pub overflow_add-result : goal.overflow_add-result
 overflow_add-result c =

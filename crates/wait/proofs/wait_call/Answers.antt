@@ -6,10 +6,14 @@ use Rattle.wait.proofs.wait_call.Goals.{After-board-2-1}
 use Rattle.wait.proofs.wait_call.Goals as goal
 
 pub returns-then-refused-ne0 : goal.returns-then-refused-ne0
-returns-then-refused-ne0 c = wait_text _ _ _ _ c.read-refused.ensures.number c.if-refused-ne0.true
+returns-then-refused-ne0 c =
+    let w = wait_text _ _ _ _ c.read-refused.ensures.number c.if-refused-ne0.true in
+    record { value = w.0; out_after = w.1 }
 
 pub returns-then-out-lt16 : goal.returns-then-out-lt16
-returns-then-out-lt16 c = wait_short _ _ _ _ c.read-refused.ensures.number c.if-refused-ne0.false c.if-out-lt16.true
+returns-then-out-lt16 c =
+    let w = wait_short _ _ _ _ c.read-refused.ensures.number c.if-refused-ne0.false c.if-out-lt16.true in
+    record { value = w.0; out_after = w.1 }
 
 pub pair_refusal-number-requires : goal.pair_refusal-number-requires
 pair_refusal-number-requires c =
@@ -19,8 +23,9 @@ pair_refusal-number-requires c =
 pub returns-then-number-ne0 : goal.returns-then-number-ne0
 returns-then-number-ne0 c =
     let x = c.read-refused.ensures in
-    wait_pair _ _ _ _ x.number c.if-refused-ne0.false (x.board c.if-refused-ne0.false) c.if-out-lt16.false c.pair_refusal-number.ensures
-    c.if-number-ne0.true
+    let w = wait_pair _ _ _ _ x.number c.if-refused-ne0.false (x.board c.if-refused-ne0.false) c.if-out-lt16.false c.pair_refusal-number.ensures
+    c.if-number-ne0.true in
+    record { value = w.0; out_after = w.1 }
 
 pub figures_of-q-requires : goal.figures_of-q-requires
 figures_of-q-requires c =
@@ -29,5 +34,6 @@ figures_of-q-requires c =
 pub returns : goal.returns
 returns c =
     let x = c.read-refused.ensures in
-    wait_taken _ _ _ _ x.number c.if-refused-ne0.false (x.board c.if-refused-ne0.false) c.if-out-lt16.false c.pair_refusal-number.ensures
-    c.if-number-ne0.false c.figures_of-q.ensures c.put_figures.ensures
+    let w = wait_taken _ _ _ _ x.number c.if-refused-ne0.false (x.board c.if-refused-ne0.false) c.if-out-lt16.false c.pair_refusal-number.ensures
+    c.if-number-ne0.false c.figures_of-q.ensures c.put_figures.ensures in
+    record { value = w.0; out_after = w.1 }

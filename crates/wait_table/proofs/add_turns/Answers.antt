@@ -8,7 +8,7 @@ use lib.ListN.{length-set}
 use borrow.Author.Rules.{rules}
 use Rattle.description_layout.specs.Layout.{board_in}
 use Rattle.wait_table.proofs.TableLines.{summed_none, summed_next, summed_all}
-use Rattle.wait_table.proofs.add_turns.Goals.{After-slave_turns-t, After-way_told-1, After-way_told-in-loop-s-1, In-loop-s}
+use Rattle.wait_table.proofs.add_turns.Goals.{In-loop-s}
 use Rattle.wait_table.proofs.add_turns.Goals as goal
 
 pub loop-s-init : goal.loop-s-init
@@ -26,21 +26,21 @@ pub slave_turns-t-requires : goal.slave_turns-t-requires
 slave_turns-t-requires c = (c.requires.0, omega (arith, (known c).0))
 
 pub bounds-singles-s : goal.bounds-singles-s
-bounds-singles-s c = let h = (known (goal.at.bounds-singles-s c).After-slave_turns-t).1 in search rules
+bounds-singles-s c = let h = (known (goal.at.bounds-singles-s c).In-loop-s).1 in search rules
 
 pub bounds-longest-s : goal.bounds-longest-s
-bounds-longest-s c = let h = (known (goal.at.bounds-longest-s c).After-way_told-1).1 in search rules
+bounds-longest-s c = let h = (known (goal.at.bounds-longest-s c).In-loop-s).1 in search rules
 
 pub bounds-sums-s : goal.bounds-sums-s
-bounds-sums-s c = let h = (known (goal.at.bounds-sums-s c).After-way_told-in-loop-s-1).1 in search rules
+bounds-sums-s c = let h = (known (goal.at.bounds-sums-s c).In-loop-s).1 in search rules
 
 pub loop-s-smaller : goal.loop-s-smaller
-loop-s-smaller c = omega (arith, (known (goal.at.loop-s-smaller c).After-way_told-in-loop-s-1).0)
+loop-s-smaller c = omega (arith, (known (goal.at.loop-s-smaller c).In-loop-s).0)
 
 pub loop-s-preserved : goal.loop-s-preserved
 loop-s-preserved c =
     let l = c.loop-s in
-    let h = known (goal.at.loop-s-preserved c).After-way_told-in-loop-s-1 in (
+    let h = known (goal.at.loop-s-preserved c).In-loop-s in (
       omega (arith, h.0),
       length-set l.singles l.s c.slave_turns-t.result.single ∙ l.invariant.1,
       length-set l.longest l.s c.slave_turns-t.result.v ∙ l.invariant.2,

@@ -9,14 +9,20 @@ use Rattle.wait_table.proofs.print_page.Goals as goal
 
 pub returns-then-p-eq0 : goal.returns-then-p-eq0
 unfolding longest_table
-returns-then-p-eq0 c = page_table _ _ _ c.print_table-p.ensures (lit≤ tt) (search rules) c.if-p-eq0.true
+returns-then-p-eq0 c =
+    let e = c.print_table-p.ensures in
+    let w = page_table _ _ _ (e.answer, (e.output, e.room)) (lit≤ tt) (search rules) c.if-p-eq0.true in
+    record { answer = w.0; output = w.1 }
 
 pub put_line-requires : goal.put_line-requires
 unfolding longest_table
 put_line-requires c =
-    line_room_lem _ _ _ c.print_table-p.ensures (lit≤ tt) (search rules) c.if-p-eq0.false _ (lit≤ tt)
+    let e = c.print_table-p.ensures in
+    line_room_lem _ _ _ (e.answer, (e.output, e.room)) (lit≤ tt) (search rules) c.if-p-eq0.false _ (lit≤ tt)
 
 pub returns : goal.returns
 unfolding bytes_of longest_table
 returns c =
-    page_refused _ _ _ c.print_table-p.ensures (lit≤ tt) (search rules) c.if-p-eq0.false c.put_line.ensures
+    let e = c.print_table-p.ensures in
+    let w = page_refused _ _ _ (e.answer, (e.output, e.room)) (lit≤ tt) (search rules) c.if-p-eq0.false c.put_line.ensures in
+    record { answer = w.0; output = w.1 }

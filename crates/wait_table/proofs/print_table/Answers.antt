@@ -13,7 +13,9 @@ use Rattle.wait_table.proofs.print_table.Goals as goal
 pub returns-then-refused-ne0 : goal.returns-then-refused-ne0
 unfolding longest_table
 returns-then-refused-ne0 c =
-    promised _ _ _ (omega arith) (text_refused _ c.read-refused.ensures.number _ c.if-refused-ne0.true)
+    let w = promised _ _ _ (omega arith)
+        (text_refused _ c.read-refused.ensures.number _ c.if-refused-ne0.true) in
+    record { answer = w.0; output = w.1.0; room = w.1.1 }
 
 pub put_table-n-requires : goal.put_table-n-requires
 unfolding longest_table
@@ -41,8 +43,9 @@ unfolding longest_table
 returns-then-out-n c =
     let x = c.read-refused.ensures in
     let none = c.if-refused-ne0.false in
-    promised _ _ _ (omega arith)
-    (room_refused _ x.number none (x.board none) c.put_table-n.ensures (room (goal.at.returns-then-out-n c).After-put_table-n) _ c.if-out-n.true)
+    let w = promised _ _ _ (omega arith)
+        (room_refused _ x.number none (x.board none) c.put_table-n.ensures (room (goal.at.returns-then-out-n c).After-put_table-n) _ c.if-out-n.true) in
+    record { answer = w.0; output = w.1.0; room = w.1.1 }
 
 pub slice_bounds-page-end : goal.slice_bounds-page-end
 slice_bounds-page-end c = within (goal.at.slice_bounds-page-end c).After-put_table-n
@@ -61,6 +64,7 @@ unfolding longest_table
 returns c =
     let x = c.read-refused.ensures in
     let none = c.if-refused-ne0.false in
-    promised _ _ _ (omega arith)
-    (table_printed _ x.number none (x.board none) c.put_table-n.ensures (room (goal.at.returns c).After-put_table-n) _ c.if-out-n.false
-    c.put_bytes.ensures)
+    let w = promised _ _ _ (omega arith)
+        (table_printed _ x.number none (x.board none) c.put_table-n.ensures (room (goal.at.returns c).After-put_table-n) _ c.if-out-n.false
+    c.put_bytes.ensures) in
+    record { answer = w.0; output = w.1.0; room = w.1.1 }

@@ -8,7 +8,7 @@ use Rattle.common_laws.specs.Lists.{gather}
 use Rattle.common_text.proofs.Puts.{put_none, put_length}
 use Rattle.description_layout.specs.Layout.{board_in}
 use Rattle.wait_table.proofs.TableLines.{piece_next, lines_room, lines_put}
-use Rattle.wait_table.proofs.put_master_lines.Goals.{After-single-1, After-way_told-in-loop-s-1, In-loop-s}
+use Rattle.wait_table.proofs.put_master_lines.Goals.{In-loop-s}
 use Rattle.wait_table.proofs.put_master_lines.Goals as goal
 
 pub loop-s-init : goal.loop-s-init
@@ -24,27 +24,27 @@ known c =
     (h, omega (arith, h, c.requires.legal.0.few_slaves))
 
 pub bounds-singles-s : goal.bounds-singles-s
-bounds-singles-s c = let h = (known c).1 in search rules
+bounds-singles-s c = let h = (known (goal.at.bounds-singles-s c).In-loop-s).1 in search rules
 
 pub bounds-longest-s : goal.bounds-longest-s
-bounds-longest-s c = let h = (known (goal.at.bounds-longest-s c).After-single-1).1 in search rules
+bounds-longest-s c = let h = (known (goal.at.bounds-longest-s c).In-loop-s).1 in search rules
 
 pub bounds-sums-s : goal.bounds-sums-s
-bounds-sums-s c = let h = (known (goal.at.bounds-sums-s c).After-way_told-in-loop-s-1).1 in search rules
+bounds-sums-s c = let h = (known (goal.at.bounds-sums-s c).In-loop-s).1 in search rules
 
 pub put_pair-next-requires : goal.put_pair-next-requires
 put_pair-next-requires c =
     let l = c.loop-s in
     let pre = c.requires in
-    let h = (known (goal.at.put_pair-next-requires c).After-way_told-in-loop-s-1).0 in record {
-      pair_of = (record { legal = pre.0.0; master = pre.0.1; slave = h }, pre.1.0.at l.s h);
-      s_in_bounds = lines_room _ _ l.invariant.1 h pre.1.1;
+    let h = (known (goal.at.put_pair-next-requires c).In-loop-s).0 in record {
+      pair_of = (record { legal = pre.legal.0; master = pre.legal.1; slave = h }, pre.summed.at l.s h);
+      s_in_bounds = lines_room _ _ l.invariant.1 h pre.m_in_bounds;
     }
 
 pub loop-s-preserved : goal.loop-s-preserved
 loop-s-preserved c =
     let l = c.loop-s in
-    (omega (arith, (known (goal.at.loop-s-preserved c).After-way_told-in-loop-s-1).0), piece_next _ l.s l.invariant.1 c.put_pair-next.ensures)
+    (omega (arith, (known (goal.at.loop-s-preserved c).In-loop-s).0), piece_next _ l.s l.invariant.1 c.put_pair-next.ensures)
 
 pub shape_of-out : goal.shape_of-out
 shape_of-out c = put_length c.loop-s.invariant.1

@@ -23,7 +23,11 @@ put_master_lines-next-requires c =
     let l = c.loop-m in
     let pre = c.requires in
     let h = known (goal.at.put_master_lines-next-requires c).In-loop-m in
-    ((pre.0, h), (c.add_turns.ensures, pairs_room _ l.invariant.1 h pre.1))
+    record {
+      legal = (pre.legal, h);
+      summed = c.add_turns.ensures;
+      m_in_bounds = pairs_room _ l.invariant.1 h pre.board_in_bounds;
+    }
 
 pub loop-m-preserved : goal.loop-m-preserved
 loop-m-preserved c =

@@ -9,11 +9,15 @@ use native.Mathlib.Omega.{arith}
 use native.Mathlib.Nat.{sub-zero}
 use Rattle.common_laws.specs.Lists.{first}
 use Rattle.common_laws.proofs.TableLaws.{first_here, first_later, first_none}
+use Rattle.description_board.specs.declared.Board.{Board}
+use Rattle.description_layout.specs.Layout.{board_in}
 use Rattle.fabric_transfer.specs.Decoding.{selects, target_of}
 use Rattle.fabric_check.proofs.TargetLaws.{selects_here, selects_elsewhere, selects_unconnected}
-use Rattle.fabric_check.proofs.transfers.target_of.Goals.{In-loop-s, Joined-agrees, Start}
-use Rattle.fabric_check.proofs.transfers.target_of.Invariants.{board}
+use Rattle.fabric_check.proofs.transfers.target_of.Goals.{In-loop-s, Joined-agrees, Start, then-agrees+else-shares_at-gt0, else-agrees}
 use Rattle.fabric_check.proofs.transfers.target_of.Goals as goal
+
+abbrev board : Start → Board
+board c = board_in c.args.board.now
 
 -- the slave of a turn is one of the board, and one of 16
 slave_in : (c : In-loop-s) → c.loop-s.s < (board c.before.before.before).slave_count
@@ -47,10 +51,10 @@ returns-then-shares_at-gt0 c =
 -- the slave of a turn that goes on is not selected
 passed : (c : Joined-agrees) → selects (board c.before.before.before.before.before.before) c.args.m c.args.address c.loop-s.s ≡ false
 passed c =
-    ⊎_elim
-    (λ w. selects_unconnected _ _ _ _ w.1.ensures w.2.left)
-    (λ w. selects_elsewhere _ _ _ _ c.slave_at-sl.ensures c.agrees.ensures w.left)
-    c.if-agrees.branch
+    elim c.if-agrees.branch [
+      then-agrees+else-shares_at-gt0 w ↦ selects_unconnected _ _ _ _ w.shares_at.ensures w.if-shares_at-gt0.false
+    | else-agrees w ↦ selects_elsewhere _ _ _ _ c.slave_at-sl.ensures c.agrees.ensures w.if-agrees.false
+    ]
 
 pub overflow_add-s : goal.overflow_add-s
 overflow_add-s c = omega (arith, place_in (goal.at.overflow_add-s c).In-loop-s)

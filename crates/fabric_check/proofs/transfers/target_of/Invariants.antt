@@ -4,13 +4,9 @@
 use mathlib.Core.Path.{◌≡◌}
 use Prim.Native.Nat.{◌≤◌, ◌-◌}
 use Rattle.common_laws.specs.Lists.{first_from}
-use Rattle.description_board.specs.declared.Board.{Board}
 use Rattle.description_layout.specs.Layout.{board_in}
 use Rattle.fabric_transfer.specs.Decoding.{selects, target_of}
 use Rattle.fabric_check.proofs.transfers.target_of.Given as goal
-
-abbrev pub board : Start → Board
-board c = board_in c.args.board.now
 
 abbrev pub invariant-loop-s : goal.invariant-loop-s
 invariant-loop-s l =
