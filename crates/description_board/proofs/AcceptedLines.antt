@@ -27,7 +27,7 @@ use Rattle.description_board.specs.Rules.{with_master, with_slave, with_share, w
 use Rattle.description_board.specs.Rules.{refused, start, taken, step, step_all, described}
 use Rattle.description_board.specs.Items.{master_item, slave_item, share_item, default_item, items}
 use Rattle.description_board.proofs.RuleLaws.{master_taken, slave_taken, share_taken, default_taken}
-use Rattle.description_board.proofs.ItemLaws.{line_none, line_some, line_same, default_none, default_some}
+use Rattle.description_board.proofs.ItemLaws.{line_none, line_some, line_same, default_none}
 use Rattle.description_board.proofs.BoardSound.{Sound, sound_start, sound_item, step_accepted, run_accepted, finish_accepted}
 
 -- no pair from index j on is connected

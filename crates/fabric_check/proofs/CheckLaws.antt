@@ -31,7 +31,7 @@ use Rattle.fabric_state.specs.Posting.{transfer_refusal}
 use Rattle.fabric_state.specs.Soundness.{holds_for, requests, latency_at, sound_held, sound_transfer, sound_owner, sound_remaining}
 use Rattle.fabric_state.specs.Soundness.{sound_service, sound_rest, sound_slot_by, sound_slot}
 use Rattle.fabric_state.proofs.RequestLaws.{holds_held, holds_selects, accepted_at, accepted_posted}
-use Rattle.fabric_state.proofs.SoundLaws.{HeldSound, held_facts}
+use Rattle.fabric_state.proofs.SoundLaws.{held_facts}
 use Rattle.fabric_check.specs.Code.Targets.{held_target, target_in, targets_in}
 use Rattle.fabric_check.specs.Code.Checks.{Held, Decoded}
 use Rattle.fabric_check.proofs.TargetLaws.{target_holds}

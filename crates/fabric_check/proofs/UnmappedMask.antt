@@ -1,15 +1,15 @@
 -- The mask of who holds an unmapped transfer (rule 4.17): the loop that makes it, and the empty mask of a board without the line `default`.
 -- Assumes nothing.
-use mathlib.Core.Path.{◌≡◌, refl, sym, ap, ◌∙◌}
+use mathlib.Core.Path.{◌≡◌, refl, ap, ◌∙◌}
 use mathlib.Core.Bool.{Bool, true, false, cond, ◌&&◌}
 use mathlib.Core.List.{List}
 use Prim.Native.Nat.{ℕ, ◌+◌, ◌^◌, ◌≤◌, ◌<◌}
 use native.Mathlib.Numerals.{add-one}
 use native.Mathlib.Omega.{arith}
 use lib.Dec.{eqb}
-use lib.ListN.{length, get_or}
+use lib.ListN.{get_or}
 use lib.Pow.{pow_mono}
-use Rattle.common_laws.specs.Lists.{sum, every}
+use Rattle.common_laws.specs.Lists.{sum}
 use Rattle.common_laws.proofs.TableLaws.{get_or_table, every_at, mask, mask_lt}
 use Rattle.common_laws.proofs.FillLaws.{sum_same}
 use Rattle.description_board.specs.declared.Board.{Board}

@@ -7,11 +7,11 @@ use Prim.Native.Nat.{ℕ, zero, suc, ◌+◌, ◌*◌, ◌^◌, ◌≤◌, ◌<�
 use native.Mathlib.Numerals.{add-one}
 use native.Mathlib.Omega.{arith}
 use lib.Dec.{ltb}
-use lib.ListN.{length, get_or, set}
+use lib.ListN.{length, get_or}
 use lib.Seq.{set-get_or}
 use borrow.Author.Tests.{lt-ltb, le-ltb}
 use Rattle.common_laws.specs.Bits.{bit}
-use Rattle.common_laws.specs.Lists.{table, sum}
+use Rattle.common_laws.specs.Lists.{sum}
 use Rattle.common_laws.proofs.TableLaws.{length_table, get_or_table, mask, mask_lt, bit_mask}
 use Rattle.common_laws.proofs.BitLaws.{bit_above}
 use Rattle.common_laws.proofs.FillLaws.{table_is, filled, filled_none, filled_next}
@@ -25,14 +25,13 @@ use Rattle.fabric_transfer.specs.Accesses.{no_transfer}
 use Rattle.fabric_transfer.specs.Bytes.{Store, buffer_length, cleared_words}
 use Rattle.fabric_transfer.proofs.StoreLaws.{length_cleared}
 use Rattle.fabric_state.specs.declared.Line.{Line}
-use Rattle.fabric_state.specs.declared.Log.{Log}
 use Rattle.fabric_state.specs.declared.State.{State}
 use Rattle.fabric_state.specs.Records.{transfer_at}
 use Rattle.fabric_state.specs.Posting.{with_transfer}
 use Rattle.fabric_state.specs.Soundness.{unmapped_at}
 use Rattle.fabric_state.specs.Logging.{entry_of, entered, entered_by, log_after, with_log}
 use Rattle.fabric_state.specs.Control.{completed, finished, mask_of, transfer_after, state_after}
-use Rattle.fabric_state.specs.Carrying.{carried_by, clears, cleared_by, store_after}
+use Rattle.fabric_state.specs.Carrying.{clears, cleared_by, store_after}
 use Rattle.fabric_state.proofs.Sound.{Sound}
 use Rattle.fabric_state.proofs.LogLaws.{entered_count}
 use Rattle.fabric_state.proofs.RequestLaws.{unmapped_held, taken_bytes}

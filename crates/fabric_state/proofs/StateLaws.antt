@@ -1,7 +1,7 @@
 -- Reading the state after a reset, a post or a clock, the slave lines and the mask.
 -- Assumes nothing.
 use mathlib.Core.Path.{◌≡◌, refl, sym, ◌∙◌}
-use mathlib.Core.Bool.{Bool, true, false, not, ◌&&◌, ◌||◌, and-false, or-true, false≢true, true≢false}
+use mathlib.Core.Bool.{Bool, true, false, not, ◌||◌, and-false, or-true, false≢true, true≢false}
 use mathlib.Core.Logic.{◌≢◌}
 use Prim.Native.Nat.{ℕ, ◌-◌, ◌≤◌, ◌<◌}
 use native.Mathlib.Omega.{arith}

@@ -19,7 +19,7 @@ use Rattle.fabric_state.specs.Logging.{with_log}
 use Rattle.fabric_state.proofs.StateLaws.{transfers_with, slots_with, lates_with}
 use Rattle.fabric_transfer.specs.Accesses.{no_transfer}
 use Rattle.common_laws.proofs.TableLaws.{length_table}
-use Rattle.theorem_history.specs.Claim.{clocks, number_answered, Handed, leaves, next, after, History, answers, Call, Start}
+use Rattle.theorem_history.specs.Claim.{number_answered, Handed, leaves, next, after, History, answers, Call, Start}
 use Rattle.theorem_history.specs.ClockRuns.{clock_calls, Counts}
 use Rattle.theorem_history.proofs.Histories.CallCases.{clock_at, TakesClock, with_post, with_take, clock_number}
 use Rattle.theorem_history.proofs.Histories.CallCases.{taken_next, keeps}

@@ -1,7 +1,7 @@
 -- The largest figures of all legal boards (rules 5.5 to 5.7), whatever the latencies. `figures_most` proves that no pair has larger
 -- ones, and `largest_figures` (wait_table) that a board has both, with latency and without.
 -- Assumes nothing.
-use Rattle.std.specs.Prelude.{◌≡◌, ℕ, ◌+◌, ◌*◌, ◌^◌, ◌≤◌, ◌<◌}
+use Rattle.std.specs.Prelude.{ℕ, ◌+◌, ◌*◌, ◌^◌, ◌≤◌, ◌<◌}
 use Rattle.description_board.specs.declared.Board.{Board}
 use Rattle.wait_turns.specs.Waits.{quoted_wait, serve_of}
 

@@ -1,7 +1,6 @@
 -- `common_text::find_byte` meets its contract. The loop's invariant: the bytes passed stand in front of the first piece of the
 -- rest.
 -- The measure is what is left of the text. Assumes nothing.
-use Prim.Native.Nat.{◌-◌}
 use native.Mathlib.Omega.{arith}
 use borrow.Author.Rules.{rules}
 use Rattle.common_text.proofs.Pieces.{prepend_nil, split_pass, split_found, split_none}

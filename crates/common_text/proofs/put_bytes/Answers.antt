@@ -1,7 +1,6 @@
 -- `common_text::put_bytes` meets its contract. The loop's invariant: the first i bytes are stored, and the length is as it was.
 -- The measure is what is left of s. Assumes nothing.
 use mathlib.Core.Path.{ap, ◌∙◌}
-use Prim.Native.Nat.{◌-◌}
 use native.Mathlib.Omega.{arith}
 use lib.ListN.{length-set}
 use lib.Seq.{sets, take_all}

@@ -1,7 +1,6 @@
 -- `common_text::put_fields` meets its contract. The loop's invariant: the fields of the first i numbers are stored.
 -- The measure is how many are left. Assumes nothing.
 use mathlib.Core.Path.{◌≡◌}
-use Prim.Native.Nat.{◌-◌}
 use native.Mathlib.Omega.{arith}
 use lib.ListN.{take}
 use lib.Seq.{take_all}

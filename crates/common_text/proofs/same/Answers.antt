@@ -1,7 +1,6 @@
 -- `common_text::same` meets its contract. The loop's invariant: the texts are the same where what is left of them is.
 -- The measure is what is left. Assumes nothing.
 use mathlib.Core.Path.{sym, ◌∙◌}
-use Prim.Native.Nat.{◌-◌}
 use native.Mathlib.Omega.{arith}
 use Rattle.common_laws.proofs.TextLists.{same_lengths, same_step, same_differ, same_end}
 use Rattle.common_text.proofs.same.Goals as goal

@@ -1,7 +1,7 @@
 -- `common_text::scan` meets its contract. The loop's invariant: the value of i digits is below 10 ^ i, and the number is what the
 -- digits left spell behind it. The measure is what is left of the field. Assumes nothing.
 use mathlib.Core.Path.{refl, ap, sym, ◌∙◌}
-use Prim.Native.Nat.{ℕ, ◌+◌, ◌-◌, ◌*◌, ◌<◌}
+use Prim.Native.Nat.{ℕ, ◌+◌, ◌*◌}
 use native.Mathlib.Omega.{arith}
 use lib.Dec.{lit<}
 use lib.ListN.{drop}

@@ -3,7 +3,6 @@
 -- An accepted board has at most 153 entries, so that no sum wraps.
 -- Assumes nothing.
 use mathlib.Core.Path.{ap, refl, ◌∙◌}
-use Prim.Native.Nat.{◌-◌}
 use native.Mathlib.Omega.{arith}
 use lib.ListN.{length}
 use Rattle.common_laws.specs.Lists.{gather}

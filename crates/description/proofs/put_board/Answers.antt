@@ -1,7 +1,6 @@
 -- `description::put_board` meets its contract. The loop's invariant: the lines of the first k entries are stored.
 -- The measure is how many are left.
 -- Assumes nothing.
-use Prim.Native.Nat.{◌-◌}
 use native.Mathlib.Omega.{arith}
 use Rattle.common_laws.specs.Lists.{gather}
 use Rattle.description.proofs.BoardText.{text_all, room_next, put_next}

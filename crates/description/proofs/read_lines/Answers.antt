@@ -2,7 +2,6 @@
 -- The measure is what is left of the text.
 -- Assumes nothing.
 use mathlib.Core.Path.{ap, ◌∙◌}
-use Prim.Native.Nat.{◌-◌}
 use native.Mathlib.Omega.{arith}
 use Rattle.description.proofs.BlameLaws.{counted_none, counted_next, counted_refused, counted_end, whole_comes}
 use Rattle.description_rules.specs.Code.Readings.{reading_of}

@@ -37,7 +37,7 @@ returns-then-number-ne0 c =
     let a = c.args in
     let b = board_in a.board.now in
     let w = promised b a.out.now _ (omega arith)
-        (board_refused b _ _ c.board_refusal-number.ensures c.if-number-ne0.true) in
+    (board_refused b _ _ c.board_refusal-number.ensures c.if-number-ne0.true) in
     record { answer = w.answer; output = w.output; room = w.room }
 
 pub returns-then-out-length : goal.returns-then-out-length
@@ -47,7 +47,7 @@ returns-then-out-length c =
     let b = board_in a.board.now in
     let accepted = sym c.board_refusal-number.ensures ∙ c.if-number-ne0.false in
     let w = promised b a.out.now _ (omega arith)
-        (room_refused b _ accepted (omega (arith, c.board_length-length.ensures, c.if-out-length.true))) in
+    (room_refused b _ accepted (omega (arith, c.board_length-length.ensures, c.if-out-length.true))) in
     record { answer = w.answer; output = w.output; room = w.room }
 
 pub returns : goal.returns
@@ -57,7 +57,7 @@ returns c =
     let b = board_in a.board.now in
     let accepted = sym c.board_refusal-number.ensures ∙ c.if-number-ne0.false in
     let w = promised b a.out.now _ (omega arith)
-        (text_written b _ accepted _ _ (omega (
+    (text_written b _ accepted _ _ (omega (
       arith,
       c.board_length-length.ensures,
       c.if-out-length.false,

@@ -2,7 +2,6 @@
 -- The loop's invariant: p and own are the reading of the lines of the first k entries.
 -- Assumes nothing.
 use mathlib.Core.Path.{◌∙◌, ap}
-use Prim.Native.Nat.{◌-◌}
 use native.Mathlib.Omega.{arith}
 use Rattle.common_laws.specs.Lists.{gather}
 use Rattle.description_board.specs.declared.Reading.{Reading}
@@ -24,8 +23,7 @@ returns-then-p-ne0 c =
     c.if-p-ne0.true
 
 pub loop-k-preserved : goal.loop-k-preserved
-loop-k-preserved c =
-    (
+loop-k-preserved c = (
   omega arith,
   run_next _ _ _ _ _ c.loop-k.invariant.1 c.line_at-x.ensures c.add_entry-p.ensures,
 )

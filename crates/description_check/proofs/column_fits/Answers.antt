@@ -1,7 +1,6 @@
 -- `description_check::column_fits` meets its contract. The loop's invariant: where nothing bad was met, each master passed has
 -- no share or is wide enough.
 -- Assumes nothing.
-use Prim.Native.Nat.{◌-◌}
 use native.Mathlib.Omega.{arith}
 use borrow.Author.Count.{below_none}
 use borrow.Author.Tests.{not-true}
@@ -12,11 +11,10 @@ pub loop-m-init : goal.loop-m-init
 loop-m-init c = (omega arith, λ e. record { each = below_none _ })
 
 pub loop-m-preserved : goal.loop-m-preserved
-loop-m-preserved c =
-    (
-      omega arith,
-      column_next _ _ _ _ _ _ _ c.shares_at-x.ensures c.master_at-master.ensures c.loop-m.invariant.1,
-    )
+loop-m-preserved c = (
+  omega arith,
+  column_next _ _ _ _ _ _ _ c.shares_at-x.ensures c.master_at-master.ensures c.loop-m.invariant.1,
+)
 
 pub returns : goal.returns
 returns c = λ e. record { each = λ m h. (c.loop-m.invariant.1 (not-true _ e)).each m (omega arith) }

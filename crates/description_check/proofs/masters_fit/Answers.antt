@@ -2,7 +2,6 @@
 -- Assumes nothing.
 use mathlib.Core.Path.{ap}
 use mathlib.Core.Bool.{not, false≢true}
-use Prim.Native.Nat.{◌-◌}
 use native.Mathlib.Omega.{arith}
 use borrow.Author.Count.{below_none}
 use Rattle.description_check.proofs.AcceptLaws.{master_next}
@@ -15,8 +14,7 @@ pub returns-then-not-width_fits-burst_fits : goal.returns-then-not-width_fits-bu
 returns-then-not-width_fits-burst_fits c = λ e. absurd (false≢true e)
 
 pub loop-i-preserved : goal.loop-i-preserved
-loop-i-preserved c =
-    (
+loop-i-preserved c = (
   omega arith,
   master_next _ _ _ _ _ c.master_at-m.ensures c.width_fits.ensures
       c.burst_fits.ensures (ap not c.if-not-width_fits-burst_fits.false) c.loop-i.invariant.1,

@@ -1,7 +1,6 @@
 -- `description_check::row_empty` meets its contract.
 -- The loop's invariant: where no bit of a share was met, each share passed is 0.
 -- Assumes nothing.
-use Prim.Native.Nat.{◌-◌}
 use native.Mathlib.Omega.{arith}
 use borrow.Author.Count.{below_none}
 use borrow.Author.Tests.{eqb-true}

@@ -1,6 +1,5 @@
 -- `description_check::row_fits` meets its contract. The loop's invariant: where nothing bad was met, each share passed is legal.
 -- Assumes nothing.
-use Prim.Native.Nat.{◌-◌}
 use native.Mathlib.Omega.{arith}
 use borrow.Author.Count.{below_none}
 use borrow.Author.Tests.{not-true}
@@ -11,8 +10,7 @@ pub loop-s-init : goal.loop-s-init
 loop-s-init c = (omega arith, λ e. record { each = below_none _ })
 
 pub loop-s-preserved : goal.loop-s-preserved
-loop-s-preserved c =
-    (
+loop-s-preserved c = (
   omega arith,
   row_next _ _ _ _ _ _ _ c.shares_at-x.ensures c.share_limit.ensures c.loop-s.invariant.1,
 )

@@ -1,10 +1,8 @@
 -- `description_check::shares_fit` meets its contract. The loop's invariant: the shares of each master passed are legal.
 -- Assumes nothing.
 use mathlib.Core.Bool.{false≢true}
-use Prim.Native.Nat.{◌-◌}
 use native.Mathlib.Omega.{arith}
 use borrow.Author.Count.{below_none, below_more}
-use borrow.Author.Tests.{not-false}
 use Rattle.description_check.proofs.shares_fit.Goals as goal
 
 pub loop-m-init : goal.loop-m-init
@@ -14,8 +12,7 @@ pub returns-then-not-row_passes : goal.returns-then-not-row_passes
 returns-then-not-row_passes c = λ e. absurd (false≢true e)
 
 pub loop-m-preserved : goal.loop-m-preserved
-loop-m-preserved c =
-    (
+loop-m-preserved c = (
   omega arith,
   record {
     row = below_more _ _ c.loop-m.invariant.1.row

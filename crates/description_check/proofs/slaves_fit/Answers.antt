@@ -2,9 +2,7 @@
 -- total and the natives' number are theirs.
 -- Assumes nothing.
 use mathlib.Core.Bool.{false≢true}
-use Prim.Native.Nat.{◌-◌}
 use native.Mathlib.Omega.{arith}
-use borrow.Author.Tests.{not-false}
 use Rattle.description_check.proofs.AcceptLaws.{so_far_start, so_far_next, so_far_end}
 use Rattle.description_check.proofs.slaves_fit.Goals as goal
 
@@ -25,17 +23,16 @@ pub returns-then-not-clear_of : goal.returns-then-not-clear_of
 returns-then-not-clear_of c = λ e. absurd (false≢true e)
 
 pub loop-i-preserved : goal.loop-i-preserved
-loop-i-preserved c =
-    (
-      omega arith,
-      so_far_next _ _ _ _ _ _ _ c.slave_at-s.ensures c.loop-i.invariant.1
-          (record {
-            fits = c.slave_fits.ensures (c.if-not-slave_fits.false);
-            small = omega arith;
-            clear = c.clear_of.ensures (c.if-not-clear_of.false);
-            behind = c.later-last.ensures;
-          }),
-    )
+loop-i-preserved c = (
+  omega arith,
+  so_far_next _ _ _ _ _ _ _ c.slave_at-s.ensures c.loop-i.invariant.1
+      (record {
+        fits = c.slave_fits.ensures (c.if-not-slave_fits.false);
+        small = omega arith;
+        clear = c.clear_of.ensures (c.if-not-clear_of.false);
+        behind = c.later-last.ensures;
+      }),
+)
 
 pub returns : goal.returns
 returns c = λ e. so_far_end _ _ _ _ _ _ c.loop-i.invariant.1 (omega arith) e

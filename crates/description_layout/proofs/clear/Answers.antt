@@ -1,7 +1,6 @@
 -- `description_layout::clear` meets its contract. The loop's invariant: the first i numbers are 0.
 -- Assumes nothing.
 use mathlib.Core.Path.{refl, ◌∙◌}
-use Prim.Native.Nat.{◌-◌}
 use native.Mathlib.Omega.{arith}
 use borrow.Author.Rules.{rules}
 use Rattle.common_laws.proofs.FillLaws.{filled_none, filled_next, filled_all}

@@ -1,7 +1,6 @@
 -- `description_layout::copy` meets its contract. The loop's invariant: the first i numbers are copied.
 -- Assumes nothing.
 use mathlib.Core.Path.{◌≡◌, refl, ap, ◌∙◌}
-use Prim.Native.Nat.{◌-◌}
 use native.Mathlib.Omega.{arith}
 use borrow.Author.Rules.{rules}
 use Rattle.common_laws.proofs.FillLaws.{filled_none, filled_next}

@@ -1,11 +1,7 @@
 -- `fabric::clock` meets its contract: refused, with lines and responses cleared, or one cycle.
 -- Assumes nothing.
 use mathlib.Core.Path.{◌≡◌, sym, ◌∙◌}
-use mathlib.Core.List.{List}
-use Prim.Native.Nat.{ℕ}
-use Rattle.description_board.specs.declared.Board.{Board}
 use Rattle.description_layout.specs.Layout.{board_in}
-use Rattle.fabric_transfer.specs.Bytes.{Store}
 use Rattle.fabric_layout.specs.Layout.{state_in}
 use Rattle.fabric_layout.proofs.StatePutLaws.{first_none}
 use Rattle.fabric_layout.proofs.LogPutLaws.{responses_none}

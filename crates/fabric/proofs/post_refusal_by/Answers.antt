@@ -39,10 +39,10 @@ pub returns-then-not-checked : goal.returns-then-not-checked
 unfolding post_refusal_by
 returns-then-not-checked c =
     rw (
-  accepted (goal.at.returns-then-not-checked c).Else-checked-ne0,
-  eq-eqb _ _ c.if-room-ne-BUFFER_BYTES.false,
-  sym (checked (goal.at.returns-then-not-checked c).Else-room-ne-BUFFER_BYTES) ∙ not-true _ c.if-not-checked.true,
-)
+      accepted (goal.at.returns-then-not-checked c).Else-checked-ne0,
+      eq-eqb _ _ c.if-room-ne-BUFFER_BYTES.false,
+      sym (checked (goal.at.returns-then-not-checked c).Else-room-ne-BUFFER_BYTES) ∙ not-true _ c.if-not-checked.true,
+    )
 
 asked : (c : Else-not-checked)
     → let a = c.args in

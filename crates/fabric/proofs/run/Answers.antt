@@ -3,13 +3,9 @@
 -- measure is the count of clocks that are left.
 -- Assumes nothing.
 use mathlib.Core.Path.{◌≡◌, refl, sym, ◌∙◌}
-use mathlib.Core.List.{List}
-use Prim.Native.Nat.{ℕ}
 use native.Mathlib.Omega.{arith}
 use borrow.Author.Rules.{rules}
-use Rattle.description_board.specs.declared.Board.{Board}
 use Rattle.description_layout.specs.Layout.{board_in}
-use Rattle.fabric_transfer.specs.Bytes.{Store}
 use Rattle.fabric_layout.specs.Layout.{state_in}
 use Rattle.fabric_layout.proofs.StatePutLaws.{first_none}
 use Rattle.fabric_layout.proofs.LogPutLaws.{responses_none}

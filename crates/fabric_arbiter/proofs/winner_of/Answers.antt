@@ -18,8 +18,8 @@ returns-then-a-gt0 c = let a = c in
 passed : (c : Joined-is_requesting) → let a = c.args in PassedOver a.n (bit a.requests) a.a
 passed c =
     elim c.if-is_requesting.branch [
-      then-is_requesting+else-a-gt0 w ↦ none_remaining _ _ _ w.if-a-gt0.false
-    | else-is_requesting w ↦ owner_silent _ _ _ (sym c.is_requesting.ensures ∙ w.if-is_requesting.false)
+      | then-is_requesting+else-a-gt0 w ↦ none_remaining _ _ _ w.if-a-gt0.false
+      | else-is_requesting w ↦ owner_silent _ _ _ (sym c.is_requesting.ensures ∙ w.if-is_requesting.false)
     ]
 
 pub returns-in-Nobody : goal.returns-in-Nobody

@@ -1,10 +1,7 @@
 -- `fabric_begin::begin` meets its contract: a refusal, or the masks.
 -- Assumes nothing.
 use mathlib.Core.Path.{◌≡◌, sym, ◌∙◌}
-use Rattle.description_board.specs.declared.Board.{Board}
 use Rattle.description_layout.specs.Layout.{board_in}
-use Rattle.fabric_transfer.specs.Bytes.{Store}
-use Rattle.fabric_state.specs.declared.State.{State}
 use Rattle.fabric_layout.specs.Layout.{state_in}
 use Rattle.fabric_calls.specs.Calls.{clock_refusal}
 use Rattle.fabric_begin.proofs.BeginLaws.{begin_number, begins_refused, begin_decoded, begins_accepted}

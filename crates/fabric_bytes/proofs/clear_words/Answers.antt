@@ -1,7 +1,7 @@
 -- `fabric_bytes::clear_words` meets its contract. The loop's invariant: the first k bytes are 0.
 -- Assumes nothing.
 use mathlib.Core.Path.{refl, ap, ◌∙◌}
-use Prim.Native.Nat.{ℕ, ◌-◌}
+use Prim.Native.Nat.{ℕ}
 use native.Mathlib.Omega.{arith}
 use lib.ListN.{length-set}
 use Rattle.fabric_transfer.specs.Moving.{all, index_from, move}

@@ -1,7 +1,7 @@
 -- `fabric_bytes::store_words` meets its contract. The loop's invariant: the first k bytes are moved.
 -- Assumes nothing.
 use mathlib.Core.Path.{refl, ap, ◌∙◌}
-use Prim.Native.Nat.{ℕ, ◌-◌}
+use Prim.Native.Nat.{ℕ}
 use native.Mathlib.Omega.{arith}
 use lib.ListN.{length-set}
 use Rattle.fabric_transfer.specs.Moving.{all, bytes_from, index_from, move}

@@ -1,9 +1,8 @@
 -- `fabric_bytes::write_words` meets its contract. The loop's invariant: the first k bytes are moved, where they are enabled.
 -- Assumes nothing.
-use mathlib.Core.Logic.{⊎_elim}
 use mathlib.Core.Path.{refl, ap, ◌∙◌, sym}
 use mathlib.Core.Bool.{Bool}
-use Prim.Native.Nat.{ℕ, ◌+◌, ◌-◌}
+use Prim.Native.Nat.{ℕ, ◌+◌}
 use native.Mathlib.Omega.{arith}
 use lib.ListN.{length, length-set}
 use Rattle.common_laws.specs.Bits.{bit}
@@ -28,12 +27,12 @@ loop-k-preserved c =
     let byte = bytes_from a.part.now a.from in
     let on = sym c.lane_on.ensures in
     elim c.if-lane_on.branch [
-      then-lane_on w ↦ (
+      | then-lane_on w ↦ (
         omega arith,
         ap length w.memory-is ∙ length-set l.memory _ _ ∙ l.invariant.1,
         w.memory-is ∙ move_put enabled byte (index_from a.at) l.k _ _ _ l.invariant.2 (on ∙ w.if-lane_on.true) refl refl,
       )
-    | else-lane_on w ↦ (
+      | else-lane_on w ↦ (
         omega arith,
         ap length w.memory-is ∙ l.invariant.1,
         w.memory-is ∙ move_skip enabled byte (index_from a.at) l.k _ l.invariant.2 (on ∙ w.if-lane_on.false),

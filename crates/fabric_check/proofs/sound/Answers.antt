@@ -40,6 +40,6 @@ pub returns : goal.returns
 unfolding sound
 returns c =
     record {
-  sound = rw (sym c.sound_transfers.ensures.sound ∙ c.if-sound_transfers.false);
-  targets = λ q. absurd (true≢false (sym q));
-}
+      sound = rw (sym c.sound_transfers.ensures.sound ∙ c.if-sound_transfers.false);
+      targets = λ q. absurd (true≢false (sym q));
+    }

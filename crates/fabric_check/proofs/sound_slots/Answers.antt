@@ -1,8 +1,7 @@
 -- `fabric_check::sound_slots` meets its contract. The loop's invariant: no slot before s breaks a rule.
 -- Assumes nothing.
-use mathlib.Core.Bool.{true}
 use mathlib.Core.Path.{◌≡◌, refl, sym, ◌∙◌}
-use Prim.Native.Nat.{◌<◌, ◌-◌}
+use Prim.Native.Nat.{◌<◌}
 use native.Mathlib.Omega.{arith}
 use Rattle.common_laws.specs.Lists.{every}
 use Rattle.description_board.proofs.Accepted.{accepted_legal}
@@ -97,11 +96,10 @@ pub loop-s-smaller : goal.loop-s-smaller
 loop-s-smaller c = omega (arith, slave_in (goal.at.loop-s-smaller c).In-loop-s)
 
 pub loop-s-preserved : goal.loop-s-preserved
-loop-s-preserved c =
-    (
-      omega (arith, slave_in (goal.at.loop-s-preserved c).In-loop-s),
-      every_next _ _ c.loop-s.invariant.1 (sym (tested (goal.at.loop-s-preserved c).After-sound_slot_by) ∙ c.if-not-sound_slot_by.false),
-    )
+loop-s-preserved c = (
+  omega (arith, slave_in (goal.at.loop-s-preserved c).In-loop-s),
+  every_next _ _ c.loop-s.invariant.1 (sym (tested (goal.at.loop-s-preserved c).After-sound_slot_by) ∙ c.if-not-sound_slot_by.false),
+)
 
 pub returns : goal.returns
 returns c =

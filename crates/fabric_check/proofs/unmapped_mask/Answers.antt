@@ -1,7 +1,6 @@
 -- `fabric_check::unmapped_mask` meets its contract. The loop's invariant: the mask is that of the first m masters.
 -- Assumes nothing.
 use mathlib.Core.Path.{refl, sym, ◌∙◌}
-use Prim.Native.Nat.{◌-◌}
 use native.Mathlib.Omega.{arith}
 use Rattle.common_laws.specs.Lists.{sum}
 use Rattle.fabric_check.proofs.UnmappedMask.{unmapped_next, unmapped_fits, unmapped_all, unmapped_none}
@@ -23,12 +22,11 @@ overflow_add-mask c =
     )
 
 pub loop-m-preserved : goal.loop-m-preserved
-loop-m-preserved c =
-    (
-      omega (arith, c.loop-m-test.true),
-      unmapped_next _ _ _ c.requires _ c.loop-m-test.true c.transfer_at-t.ensures
-          c.slave_count-count.ensures c.loop-m.invariant.1 c.weight_of-mask.ensures,
-    )
+loop-m-preserved c = (
+  omega (arith, c.loop-m-test.true),
+  unmapped_next _ _ _ c.requires _ c.loop-m-test.true c.transfer_at-t.ensures
+      c.slave_count-count.ensures c.loop-m.invariant.1 c.weight_of-mask.ensures,
+)
 
 pub returns : goal.returns
 returns c =

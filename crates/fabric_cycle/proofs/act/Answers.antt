@@ -2,13 +2,12 @@
 -- invariant is said of every state that can have stood before the latency clocks passed.
 -- Assumes nothing.
 use mathlib.Core.Path.{◌≡◌, ap, ◌∙◌}
-use Prim.Native.Nat.{ℕ, ◌-◌, ◌<◌}
+use Prim.Native.Nat.{ℕ, ◌<◌}
 use native.Mathlib.Omega.{arith}
 use lib.Bits.{bit_and}
 use lib.Dec.{eqb}
 use lib.ListN.{get_or}
 use Rattle.common_laws.proofs.TableLaws.{mask}
-use Rattle.description_board.specs.declared.Board.{Board}
 use Rattle.description_board.specs.Legal.{Legal}
 use Rattle.fabric_state.specs.declared.State.{State}
 use Rattle.fabric_state.specs.Records.{late_at}
@@ -57,8 +56,7 @@ module _ (c : In-loop-s) (u : State)
       ∙ ap (bit_and (request_mask (targets_in (board_in c.args.board.now) u.transfers) c.loop-s.s)) w.counted.free
 
 pub loop-s-init : goal.loop-s-init
-loop-s-init c =
-    (
+loop-s-init c = (
   (λ u w. pass_begin _ _ w.transfers w.slots w.lates w.passes w.counted _ _ (lines_length _)),
   marks_same _,
 )

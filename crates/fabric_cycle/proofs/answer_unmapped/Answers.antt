@@ -2,7 +2,6 @@
 -- Assumes nothing.
 use mathlib.Core.Path.{◌≡◌, ap, ◌∙◌}
 use mathlib.Core.Bool.{true}
-use Prim.Native.Nat.{◌-◌}
 use native.Mathlib.Omega.{arith}
 use borrow.Author.Tests.{eq-eqb, ne_eqb}
 use Rattle.common_laws.specs.Bits.{bit}
@@ -23,33 +22,31 @@ pub loop-m-init : goal.loop-m-init
 loop-m-init c = (omega arith, answered_begin _ _ _ (transfers_length _) _, marks_same _)
 
 pub answer_at-requires : goal.answer_at-requires
-answer_at-requires c =
-    (
-      c.loop-m-test.true,
-      answer_count _ _ _ c.loop-m.invariant.1 c.loop-m-test.true c.requires.count,
-      answer_room _ _ _ c.loop-m.invariant.1 c.loop-m-test.true c.requires.room,
-      answer_fits _ _ _ c.loop-m.invariant.1 c.loop-m-test.true
-          (c.requires.fits _ c.loop-m-test.true (on (goal.at.answer_at-requires c).Then-mask-m-eq1)),
-    )
+answer_at-requires c = (
+  c.loop-m-test.true,
+  answer_count _ _ _ c.loop-m.invariant.1 c.loop-m-test.true c.requires.count,
+  answer_room _ _ _ c.loop-m.invariant.1 c.loop-m-test.true c.requires.room,
+  answer_fits _ _ _ c.loop-m.invariant.1 c.loop-m-test.true
+      (c.requires.fits _ c.loop-m-test.true (on (goal.at.answer_at-requires c).Then-mask-m-eq1)),
+)
 
 pub loop-m-preserved : goal.loop-m-preserved
 unfolding bit
-loop-m-preserved c =
-    (
-      omega (arith, c.loop-m-test.true),
-      elim c.if-mask-m-eq1.branch [
-        then-mask-m-eq1 w ↦
-          answered_next _ _ _ c.loop-m.invariant.1 c.loop-m-test.true (eq-eqb _ 1 w.if-mask-m-eq1.true)
-          (ap state_in w.st-is ∙ w.answer_at.ensures.0.state) (w.buffer-is ∙ w.answer_at.ensures.1)
-      | else-mask-m-eq1 w ↦
-          rw (w.st-is, w.buffer-is)
-          (answered_skip _ _ _ c.loop-m.invariant.1 c.loop-m-test.true (ne_eqb _ 1 w.if-mask-m-eq1.false))
-      ],
-      elim c.if-mask-m-eq1.branch [
-        then-mask-m-eq1 w ↦ rw w.st-is (marks_then c.loop-m.invariant.2 w.answer_at.ensures.0.marks)
-      | else-mask-m-eq1 w ↦ rw w.st-is c.loop-m.invariant.2
-      ],
-    )
+loop-m-preserved c = (
+  omega (arith, c.loop-m-test.true),
+  elim c.if-mask-m-eq1.branch [
+    | then-mask-m-eq1 w ↦
+        answered_next _ _ _ c.loop-m.invariant.1 c.loop-m-test.true (eq-eqb _ 1 w.if-mask-m-eq1.true)
+        (ap state_in w.st-is ∙ w.answer_at.ensures.0.state) (w.buffer-is ∙ w.answer_at.ensures.1)
+    | else-mask-m-eq1 w ↦
+        rw (w.st-is, w.buffer-is)
+        (answered_skip _ _ _ c.loop-m.invariant.1 c.loop-m-test.true (ne_eqb _ 1 w.if-mask-m-eq1.false))
+  ],
+  elim c.if-mask-m-eq1.branch [
+    | then-mask-m-eq1 w ↦ rw w.st-is (marks_then c.loop-m.invariant.2 w.answer_at.ensures.0.marks)
+    | else-mask-m-eq1 w ↦ rw w.st-is c.loop-m.invariant.2
+  ],
+)
 
 pub shape_of-buffer : goal.shape_of-buffer
 shape_of-buffer c = answered_length _ _ _ c.loop-m.invariant.1

@@ -1,10 +1,8 @@
 -- `fabric_cycle::late_clocks` meets its contract. The loop's invariant: the clocks of the first m masters are added up.
 -- Assumes nothing.
 use mathlib.Core.Path.{◌≡◌, refl}
-use Prim.Native.Nat.{◌-◌}
 use native.Mathlib.Omega.{arith}
 use Rattle.common_laws.specs.Lists.{sum}
-use Rattle.fabric_state.specs.Records.{late_at}
 use Rattle.fabric_cycle.proofs.LatencyLaws.{sum_more}
 use Rattle.fabric_cycle.proofs.late_clocks.Goals as goal
 

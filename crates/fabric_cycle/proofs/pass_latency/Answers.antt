@@ -1,7 +1,7 @@
 -- `fabric_cycle::pass_latency` meets its contract. The loop's invariant: the latency clocks of the first m masters are counted.
 -- Assumes nothing.
 use mathlib.Core.Path.{◌≡◌, refl, sym, ◌∙◌}
-use Prim.Native.Nat.{◌<◌, ◌-◌}
+use Prim.Native.Nat.{◌<◌}
 use native.Mathlib.Omega.{arith}
 use Rattle.fabric_layout.proofs.MarkLaws.{marks_same, marks_then}
 use Rattle.fabric_layout.proofs.StatePutLaws.{transfers_length, lates_length}
@@ -13,8 +13,7 @@ master_in : (c : In-loop-m) → c.loop-m.m < 8
 master_in c = c.loop-m-test.true
 
 pub returns-then-late_clocks-eq0 : goal.returns-then-late_clocks-eq0
-returns-then-late_clocks-eq0 c =
-    (
+returns-then-late_clocks-eq0 c = (
   counted_idle _ (transfers_length _) (lates_length _) (sym c.late_clocks.ensures ∙ c.if-late_clocks-eq0.true),
   marks_same _,
 )
@@ -39,13 +38,12 @@ overflow_add-finished c =
     )
 
 pub loop-m-preserved : goal.loop-m-preserved
-loop-m-preserved c =
-    (
-      omega (arith, c.loop-m-test.true),
-      counted_next _ c.loop-m.invariant.1 (master_in (goal.at.loop-m-preserved c).In-loop-m) c.late_at-late.ensures
-          c.weight_of-free.ensures c.weight_of-finished.ensures c.count_late.ensures.state,
-      marks_then c.loop-m.invariant.2 c.count_late.ensures.marks,
-    )
+loop-m-preserved c = (
+  omega (arith, c.loop-m-test.true),
+  counted_next _ c.loop-m.invariant.1 (master_in (goal.at.loop-m-preserved c).In-loop-m) c.late_at-late.ensures
+      c.weight_of-free.ensures c.weight_of-finished.ensures c.count_late.ensures.state,
+  marks_then c.loop-m.invariant.2 c.count_late.ensures.marks,
+)
 
 pub returns : goal.returns
 returns c =

@@ -1,6 +1,5 @@
 -- `fabric_layout::clear_log` meets its contract. The loop's invariant: the first i entries are 0, and all else is as the loop found it.
 -- Assumes nothing.
-use Prim.Native.Nat.{◌-◌}
 use native.Mathlib.Omega.{arith}
 use borrow.Author.Rules.{rules}
 use Rattle.fabric_layout.proofs.LogPutLaws.{clear_log_begin, clear_log_next, clear_log_end}

@@ -1,7 +1,6 @@
 -- `fabric_layout::clear_masters` meets its contract. The loop's invariant: the first m transfers are none, with no latency clocks.
 -- Assumes nothing.
 use mathlib.Core.Path.{refl, ◌∙◌}
-use Prim.Native.Nat.{◌-◌}
 use native.Mathlib.Omega.{arith}
 use Rattle.common_laws.proofs.FillLaws.{filled_next, filled_all}
 use Rattle.fabric_layout.proofs.StatePutLaws.{transfers_begin, transfers_put, transfers_late, idle_all}

@@ -2,7 +2,6 @@
 -- before.
 -- Assumes nothing.
 use mathlib.Core.Path.{◌∙◌}
-use Prim.Native.Nat.{◌-◌}
 use native.Mathlib.Omega.{arith}
 use Rattle.common_laws.proofs.FillLaws.{filled_next, filled_all}
 use Rattle.fabric_layout.proofs.StatePutLaws.{clear_begin, clear_here, first_is}

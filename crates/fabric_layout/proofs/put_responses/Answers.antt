@@ -1,6 +1,5 @@
 -- `fabric_layout::put_responses` meets its contract. The loop's invariant: the first m responses are those of the mask.
 -- Assumes nothing.
-use Prim.Native.Nat.{◌-◌}
 use native.Mathlib.Omega.{arith}
 use borrow.Author.Rules.{rules}
 use Rattle.common_laws.proofs.FillLaws.{filled_next}

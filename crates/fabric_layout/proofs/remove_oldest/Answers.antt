@@ -2,7 +2,6 @@
 -- and all else is as the loop found it.
 -- Assumes nothing.
 use mathlib.Core.Path.{◌≡◌}
-use Prim.Native.Nat.{◌-◌}
 use native.Mathlib.Omega.{arith}
 use borrow.Author.Rules.{rules}
 use Rattle.fabric_layout.proofs.LogPutLaws.{remove_begin, remove_next, remove_end}

@@ -3,11 +3,9 @@
 -- reset.
 -- Assumes nothing.
 use mathlib.Core.Path.{◌∙◌}
-use Prim.Native.Nat.{◌-◌}
 use native.Mathlib.Omega.{arith}
 use borrow.Author.Rules.{rules}
 use Rattle.common_laws.proofs.FillLaws.{filled_next, filled_all}
-use Rattle.fabric_layout.specs.Code.Puts.{reset_slot}
 use Rattle.fabric_layout.proofs.StatePutLaws.{slots_begin, slots_put, transfers_left, lates_left, log_left, reset_end}
 use Rattle.fabric_layout.proofs.StatePutLaws.{log_put, transfers_logged, lates_logged}
 use Rattle.fabric_layout.proofs.NumbersLaws.{reset_spelled}

@@ -2,9 +2,9 @@
 -- request when the slave is free. A grant is the same with these in place of the grants that remain, where such a read counts as a
 -- burst: no grant remains behind it.
 -- Assumes nothing.
-use mathlib.Core.Path.{◌≡◌, refl, sym, ap, ◌∙◌}
+use mathlib.Core.Path.{◌≡◌, refl, ap, ◌∙◌}
 use mathlib.Core.Bool.{Bool, true, false, cond, ◌&&◌}
-use mathlib.Core.Logic.{◌⊎◌, inl, inr, ⊎_elim, ◌≢◌}
+use mathlib.Core.Logic.{◌⊎◌, inl, inr, ⊎_elim}
 use Prim.Native.Nat.{ℕ, ◌-◌, ◌≤◌, ◌<◌}
 use native.Mathlib.Decide.{ℕ_discrete}
 use native.Mathlib.Omega.{arith}
@@ -15,7 +15,6 @@ use Rattle.description_board.specs.Records.{slave_at, shares_at}
 use Rattle.fabric_transfer.specs.Accesses.{latency_of}
 use Rattle.fabric_arbiter.specs.declared.Choice.{Choice}
 use Rattle.fabric_arbiter.specs.declared.Choice.TheVariants.{Requester, Nobody}
-use Rattle.fabric_arbiter.specs.declared.Grant.{Grant}
 use Rattle.fabric_arbiter.specs.declared.Grant.TheVariants.{Granted, Silent}
 use Rattle.fabric_arbiter.specs.Choosing.{first_requester}
 use Rattle.fabric_arbiter.specs.Granting.{kept, grant_to, granted}

@@ -26,7 +26,6 @@ use Rattle.fabric_state.specs.declared.State.{State}
 use Rattle.fabric_state.specs.declared.Line.{Line}
 use Rattle.fabric_state.specs.Records.{no_line, transfer_at, slot_at, late_at}
 use Rattle.fabric_state.specs.Posting.{Request, transfer_of, with_transfer}
-use Rattle.fabric_state.specs.Soundness.{sound}
 use Rattle.fabric_state.specs.Control.{finished, mask_of, lines_of}
 use Rattle.fabric_state.specs.Resetting.{state_at_reset}
 use Rattle.fabric_state.specs.Logging.{without_oldest, with_log}

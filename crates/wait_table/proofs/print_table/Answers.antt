@@ -14,7 +14,7 @@ pub returns-then-refused-ne0 : goal.returns-then-refused-ne0
 unfolding longest_table
 returns-then-refused-ne0 c =
     let w = promised _ _ _ (omega arith)
-        (text_refused _ c.read-refused.ensures.number _ c.if-refused-ne0.true) in
+    (text_refused _ c.read-refused.ensures.number _ c.if-refused-ne0.true) in
     record { answer = w.0; output = w.1.0; room = w.1.1 }
 
 pub put_table-n-requires : goal.put_table-n-requires
@@ -44,7 +44,7 @@ returns-then-out-n c =
     let x = c.read-refused.ensures in
     let none = c.if-refused-ne0.false in
     let w = promised _ _ _ (omega arith)
-        (room_refused _ x.number none (x.board none) c.put_table-n.ensures (room (goal.at.returns-then-out-n c).After-put_table-n) _ c.if-out-n.true) in
+    (room_refused _ x.number none (x.board none) c.put_table-n.ensures (room (goal.at.returns-then-out-n c).After-put_table-n) _ c.if-out-n.true) in
     record { answer = w.0; output = w.1.0; room = w.1.1 }
 
 pub slice_bounds-page-end : goal.slice_bounds-page-end
@@ -65,6 +65,6 @@ returns c =
     let x = c.read-refused.ensures in
     let none = c.if-refused-ne0.false in
     let w = promised _ _ _ (omega arith)
-        (table_printed _ x.number none (x.board none) c.put_table-n.ensures (room (goal.at.returns c).After-put_table-n) _ c.if-out-n.false
+    (table_printed _ x.number none (x.board none) c.put_table-n.ensures (room (goal.at.returns c).After-put_table-n) _ c.if-out-n.false
     c.put_bytes.ensures) in
     record { answer = w.0; output = w.1.0; room = w.1.1 }

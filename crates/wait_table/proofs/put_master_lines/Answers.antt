@@ -1,7 +1,7 @@
 -- `wait_table::put_master_lines` meets its contract. The loop's invariant: the lines of master m at the first s slaves are stored.
 -- The measure is how many are left.
 -- Assumes nothing.
-use Prim.Native.Nat.{◌-◌, ◌<◌}
+use Prim.Native.Nat.{◌<◌}
 use native.Mathlib.Omega.{arith}
 use borrow.Author.Rules.{rules}
 use Rattle.common_laws.specs.Lists.{gather}

@@ -1,7 +1,7 @@
 -- `wait_table::put_pairs` meets its contract. The loop's invariant: the lines of the first m masters are stored.
 -- The measure is how many are left.
 -- Assumes nothing.
-use Prim.Native.Nat.{◌-◌, ◌<◌}
+use Prim.Native.Nat.{◌<◌}
 use native.Mathlib.Omega.{arith}
 use Rattle.common_laws.specs.Lists.{gather}
 use Rattle.common_text.proofs.Puts.{put_none, put_length}

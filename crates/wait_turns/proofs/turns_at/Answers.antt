@@ -1,7 +1,7 @@
 -- `wait_turns::turns_at` meets its contract. The loop's invariant: the sum is that of the first k masters, so at most k × 2 ^ 50.
 -- The measure is how many are left.
 -- Assumes nothing.
-use Prim.Native.Nat.{◌+◌, ◌-◌}
+use Prim.Native.Nat.{◌+◌}
 use native.Mathlib.Omega.{arith}
 use Rattle.description_layout.specs.Layout.{board_in}
 use Rattle.wait_turns.proofs.TurnSums.{turns_none, turns_more, turns_all}
@@ -14,9 +14,9 @@ loop-k-init c = (omega arith, turns_none _ _ _ _)
 pub loop-k-preserved : goal.loop-k-preserved
 loop-k-preserved c =
     let l = c.loop-k in (
-  omega (arith, c.loop-k-test.true, c.master_count-n.ensures),
-  turns_more _ _ _ _ l.k l.invariant.1 c.turn_at-sum.ensures,
-)
+      omega (arith, c.loop-k-test.true, c.master_count-n.ensures),
+      turns_more _ _ _ _ l.k l.invariant.1 c.turn_at-sum.ensures,
+    )
 
 pub overflow_add-sum : goal.overflow_add-sum
 overflow_add-sum c =

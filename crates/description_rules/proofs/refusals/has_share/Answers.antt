@@ -1,7 +1,5 @@
 -- `description_rules::refusals::has_share` meets its contract. The loop's invariant: no slave passed is connected.
 -- Assumes nothing.
-use mathlib.Core.Bool.{false}
-use Prim.Native.Nat.{◌-◌}
 use native.Mathlib.Omega.{arith}
 use borrow.Author.Count.{below_none}
 use Rattle.description_board.proofs.EndLaws.{share_found, share_next, share_none}
@@ -15,11 +13,10 @@ returns-then-s-slaves c =
     share_found _ _ _ _ _ c.slave_count-slaves.ensures c.share_or_none-x.ensures (omega arith) c.if-s-slaves.true
 
 pub loop-s-preserved : goal.loop-s-preserved
-loop-s-preserved c =
-    (
-      omega arith,
-      share_next _ _ _ _ _ c.slave_count-slaves.ensures c.share_or_none-x.ensures c.if-s-slaves.false c.loop-s.invariant.1,
-    )
+loop-s-preserved c = (
+  omega arith,
+  share_next _ _ _ _ _ c.slave_count-slaves.ensures c.share_or_none-x.ensures c.if-s-slaves.false c.loop-s.invariant.1,
+)
 
 pub returns : goal.returns
 returns c = share_none _ _ _ (omega arith) c.loop-s.invariant.1

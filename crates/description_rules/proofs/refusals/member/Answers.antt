@@ -1,7 +1,6 @@
 -- `description_rules::refusals::member` meets its contract.
 -- The loop's invariant: x is in the list just if it is in what is left of it.
 -- Assumes nothing.
-use Prim.Native.Nat.{◌-◌}
 use native.Mathlib.Omega.{arith}
 use mathlib.Core.Path.{◌∙◌, sym}
 use Rattle.common_laws.proofs.ListLaws.{member_here, member_next, member_end}

@@ -1,7 +1,6 @@
 -- `description_rules::refusals::overlaps` meets its contract. The loop's invariant: an overlap is one with a slave that is left.
 -- Assumes nothing.
 use mathlib.Core.Path.{◌≡◌, ◌∙◌, sym, refl, ap}
-use Prim.Native.Nat.{◌-◌}
 use native.Mathlib.Omega.{arith}
 use borrow.Author.Rules.{rules}
 use Rattle.description_board.proofs.RuleLaws.{overlaps_here, overlaps_next, overlaps_end}

@@ -52,7 +52,7 @@ unfolding share_refusal
 returns-then-slaves-behind c =
     record {
       number = rw (ordered (board_in c.args.board.now) _ _ true c.slave_count-slaves.ensures
-      c.default_at-behind.ensures c.if-slaves-behind.true);
+          c.default_at-behind.ensures c.if-slaves-behind.true);
       pair = λ z. absurd (omega arith);
     }
 
@@ -61,10 +61,10 @@ unfolding share_refusal
 returns-then-shares c =
     record {
       number = rw (
-    ordered (board_in c.args.board.now) _ _ false
-        c.slave_count-slaves.ensures c.default_at-behind.ensures c.if-slaves-behind.false,
-    c.if-shares.true,
-  );
+        ordered (board_in c.args.board.now) _ _ false
+            c.slave_count-slaves.ensures c.default_at-behind.ensures c.if-slaves-behind.false,
+        c.if-shares.true,
+      );
       pair = λ z. absurd (omega arith);
     }
 

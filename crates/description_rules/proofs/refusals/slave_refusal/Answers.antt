@@ -6,7 +6,7 @@ use Prim.Native.Nat.{◌<◌, ◌+◌, ◌%◌}
 use native.Mathlib.Omega.{arith}
 use lib.ListN.{take}
 use lib.Dec.{ltb, eqb}
-use borrow.Author.Tests.{eq-eqb, ne_eqb, le-ltb, lt-ltb, not-false, leb-false}
+use borrow.Author.Tests.{eq-eqb, ne_eqb, le-ltb, lt-ltb, leb-false}
 use Rattle.common_laws.proofs.Tests.{neither}
 use Rattle.description_board.proofs.RuleLaws.{Values, values_fit}
 use Rattle.description_board.specs.Rules.{overlaps, slave_refusal}
@@ -71,23 +71,23 @@ pub returns-then-masters-sharing : goal.returns-then-masters-sharing
 unfolding slave_refusal
 returns-then-masters-sharing c =
     rw (
-  ← c.master_count-masters.ensures,
-  ← c.slave_count-slaves.ensures,
-  ← c.default_at-behind.ensures,
-  c.if-masters-sharing.true,
-)
+      ← c.master_count-masters.ensures,
+      ← c.slave_count-slaves.ensures,
+      ← c.default_at-behind.ensures,
+      c.if-masters-sharing.true,
+    )
 
 pub returns-then-not-slave_values : goal.returns-then-not-slave_values
 unfolding slave_refusal
 returns-then-not-slave_values c =
     rw (
-  ← c.master_count-masters.ensures,
-  ← c.slave_count-slaves.ensures,
-  ← c.default_at-behind.ensures,
-  c.if-masters-sharing.false,
-  ← c.slave_values.ensures,
-  c.if-not-slave_values.true,
-)
+      ← c.master_count-masters.ensures,
+      ← c.slave_count-slaves.ensures,
+      ← c.default_at-behind.ensures,
+      c.if-masters-sharing.false,
+      ← c.slave_values.ensures,
+      c.if-not-slave_values.true,
+    )
 
 pub returns-then-n-ne0 : goal.returns-then-n-ne0
 returns-then-n-ne0 c =

@@ -2,7 +2,6 @@
 -- The loop's invariant: the total so far and the spans that are left make the whole; the bound keeps the sum in a u64.
 -- Assumes nothing.
 use mathlib.Core.Path.{ap}
-use Prim.Native.Nat.{◌-◌}
 use native.Mathlib.Omega.{arith}
 use borrow.Author.Rules.{rules}
 use Rattle.description_board.proofs.RuleLaws.{total_next, total_end}

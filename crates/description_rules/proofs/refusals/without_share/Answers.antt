@@ -3,12 +3,12 @@
 -- Assumes nothing.
 use mathlib.Core.Bool.{not}
 use mathlib.Core.Path.{◌≡◌, ap, sym, ◌∙◌}
-use Prim.Native.Nat.{◌<◌, ◌-◌}
+use Prim.Native.Nat.{◌<◌}
 use native.Mathlib.Nat.{sub-zero}
 use native.Mathlib.Omega.{arith}
 use Rattle.common_laws.specs.Lists.{first}
 use Rattle.common_laws.proofs.TableLaws.{first_here, first_later, first_none}
-use Rattle.description_board.specs.Rules.{has_share, without_share}
+use Rattle.description_board.specs.Rules.{without_share}
 use Rattle.description_layout.specs.Layout.{board_in}
 use Rattle.description_rules.proofs.refusals.without_share.Goals.{In-loop-m}
 use Rattle.description_rules.proofs.refusals.without_share.Goals as goal
@@ -30,11 +30,10 @@ pub loop-m-smaller : goal.loop-m-smaller
 loop-m-smaller c = omega (arith, there (goal.at.loop-m-smaller c).In-loop-m)
 
 pub loop-m-preserved : goal.loop-m-preserved
-loop-m-preserved c =
-    (
-      omega (arith, there (goal.at.loop-m-preserved c).In-loop-m),
-      c.loop-m.invariant.1 ∙ first_later _ _ _ (there (goal.at.loop-m-preserved c).In-loop-m) (ap not (sym c.has_share.ensures ∙ c.if-not-has_share.false)),
-    )
+loop-m-preserved c = (
+  omega (arith, there (goal.at.loop-m-preserved c).In-loop-m),
+  c.loop-m.invariant.1 ∙ first_later _ _ _ (there (goal.at.loop-m-preserved c).In-loop-m) (ap not (sym c.has_share.ensures ∙ c.if-not-has_share.false)),
+)
 
 pub returns : goal.returns
 returns c =

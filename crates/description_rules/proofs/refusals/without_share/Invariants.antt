@@ -4,7 +4,7 @@
 use mathlib.Core.Bool.{not}
 use mathlib.Core.Path.{◌≡◌}
 use Prim.Native.Nat.{ℕ, ◌≤◌, ◌-◌}
-use Rattle.common_laws.specs.Lists.{first, first_from}
+use Rattle.common_laws.specs.Lists.{first_from}
 use Rattle.description_board.specs.declared.Board.{Board}
 use Rattle.description_board.specs.Rules.{has_share, without_share}
 use Rattle.description_layout.specs.Layout.{board_in}

@@ -2,7 +2,7 @@
 -- The loop's invariant: the masks are those of the first m masters. Every bit has its own weight, so a sum fits a byte.
 -- Assumes nothing.
 use mathlib.Core.List.{List}
-use Prim.Native.Nat.{ℕ, ◌-◌}
+use Prim.Native.Nat.{ℕ}
 use native.Mathlib.Omega.{arith}
 use Rattle.fabric_check.proofs.TargetLaws.{masks_none, masks_next, masks_fit, masks_all}
 use Rattle.fabric_check.proofs.transfers.request_masks.Goals.{After-weight_of}

@@ -2,9 +2,8 @@
 -- The loop's invariant: the target is the first slave selected from s on.
 -- Assumes nothing.
 use mathlib.Core.Bool.{false}
-use mathlib.Core.Logic.{⊎_elim}
 use mathlib.Core.Path.{◌≡◌, sym, ◌∙◌}
-use Prim.Native.Nat.{◌<◌, ◌-◌}
+use Prim.Native.Nat.{◌<◌}
 use native.Mathlib.Omega.{arith}
 use native.Mathlib.Nat.{sub-zero}
 use Rattle.common_laws.specs.Lists.{first}
@@ -52,8 +51,8 @@ returns-then-shares_at-gt0 c =
 passed : (c : Joined-agrees) → selects (board c.before.before.before.before.before.before) c.args.m c.args.address c.loop-s.s ≡ false
 passed c =
     elim c.if-agrees.branch [
-      then-agrees+else-shares_at-gt0 w ↦ selects_unconnected _ _ _ _ w.shares_at.ensures w.if-shares_at-gt0.false
-    | else-agrees w ↦ selects_elsewhere _ _ _ _ c.slave_at-sl.ensures c.agrees.ensures w.if-agrees.false
+      | then-agrees+else-shares_at-gt0 w ↦ selects_unconnected _ _ _ _ w.shares_at.ensures w.if-shares_at-gt0.false
+      | else-agrees w ↦ selects_elsewhere _ _ _ _ c.slave_at-sl.ensures c.agrees.ensures w.if-agrees.false
     ]
 
 pub overflow_add-s : goal.overflow_add-s

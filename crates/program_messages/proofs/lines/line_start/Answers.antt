@@ -1,7 +1,6 @@
 -- `program_messages::line_start` meets its contract. The loop's invariant: i is within the text. The measure is what is left of the
 -- text.
 -- Assumes nothing.
-use Prim.Native.Nat.{◌-◌}
 use borrow.Author.Rules.{rules}
 use Rattle.io.proofs.Counting.{prefix_len_of_le}
 use Rattle.program_messages.proofs.lines.line_start.Goals as goal
