@@ -1,5 +1,6 @@
 -- `description::read_bounded` meets its contract. A text short enough, and one too long.
 -- Assumes nothing.
+use Rattle.std.proofs.Common.{rules}
 use mathlib.Core.Path.{ap, ◌∙◌}
 use native.Mathlib.Omega.{arith}
 use Rattle.description_board.specs.Rules.{step}
@@ -20,5 +21,5 @@ pub returns : goal.returns
 unfolding most_bytes
 returns c =
     let zeros = ap (reading_of _) c.requires ∙ c.start.ensures in
-    comes_long c.args.text.now _ _ (omega (arith, c.if-text-le-TEXT_BYTES.false))
+    comes_long c.args.text.now _ _ (search rules)
     (c.step-p.ensures ∙ ap (λ (r : Reading). step r Malformed) zeros)
