@@ -1,5 +1,6 @@
 -- `fabric::post_refusal_by` meets its contract. Each way out answers the definition's tests in their order.
 -- Assumes nothing.
+use Rattle.std.proofs.Common.{rules}
 use mathlib.Core.Path.{◌≡◌, sym, ap, ◌∙◌}
 use mathlib.Core.Bool.{false, cond}
 use Prim.Native.Nat.{◌≤◌, ◌<◌}
@@ -84,5 +85,6 @@ request_refusal-requires c =
 
 pub returns : goal.returns
 returns c =
-    let free = sym (ap (λ (x : Transfer). x.held) c.transfer_at-before.ensures) ∙ c.if-before.false in
+    let told : c.transfer_at-before.result.held ≡ false = search rules in
+    let free = sym (ap (λ (x : Transfer). x.held) c.transfer_at-before.ensures) ∙ told in
     rw (asked (goal.at.returns c).Else-not-checked, below (goal.at.returns c).Else-master_count-m, free) c.request_refusal.ensures

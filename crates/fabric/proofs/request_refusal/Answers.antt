@@ -1,5 +1,6 @@
 -- `fabric::request_refusal` meets its contract.
 -- Assumes nothing.
+use Rattle.std.proofs.Common.{rules}
 use mathlib.Core.Path.{◌≡◌, sym, ◌∙◌}
 use native.Mathlib.Omega.{arith}
 use borrow.Author.Tests.{ne_eqb}
@@ -27,4 +28,4 @@ returns-then-length-words_length c =
 
 pub returns : goal.returns
 returns c =
-    sym (words_right _ _ _ (passes (goal.at.returns c).Else-number-ne0) c.master_at-ma.ensures c.words_length.ensures _ c.if-length-words_length.false)
+    sym (words_right _ _ _ (passes (goal.at.returns c).Else-number-ne0) c.master_at-ma.ensures c.words_length.ensures _ (search rules))
