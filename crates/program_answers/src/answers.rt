@@ -10,7 +10,13 @@ use program_lines::{ROOM, Session};
 use program_script::FIELD_COUNT;
 
 // Prints a word and numbers, parted by commas, and a line feed.
-fn put_line(rt: &HostRuntime, out: &mut [u8; ROOM], session: Session, word: &[u8], numbers: &[u64]) -> Session
+fn put_line(
+    rt: &HostRuntime,
+    out: &mut [u8; ROOM],
+    session: Session,
+    word: &[u8],
+    numbers: &[u64],
+) -> Session
     requires { length word.now + 21 * length numbers.now < 1000 }
 {
     program_lines::put_line(rt, b"simulate", out, session, word, numbers)
@@ -114,14 +120,25 @@ fn slaves_up_to(count: u32) -> usize
 }
 
 // Prints the response of master m, if it is not 0 (rule 4.17).
-fn put_response(rt: &HostRuntime, out: &mut [u8; ROOM], session: Session, m: usize, response: u64) -> Session {
+fn put_response(
+    rt: &HostRuntime,
+    out: &mut [u8; ROOM],
+    session: Session,
+    m: usize,
+    response: u64,
+) -> Session {
     if response == 0 {
         return session;
     }
     put_line(rt, out, session, b"response", &[m as u64, response])
 }
 
-fn put_responses(rt: &HostRuntime, out: &mut [u8; ROOM], session: Session, responses: &[u32; MASTERS]) -> Session {
+fn put_responses(
+    rt: &HostRuntime,
+    out: &mut [u8; ROOM],
+    session: Session,
+    responses: &[u32; MASTERS],
+) -> Session {
     let mut next = session;
     let mut m = 0;
     while m < MASTERS {
@@ -142,7 +159,13 @@ pub fn put_clock(
     slave_count: u32,
     responses: &[u32; MASTERS],
 ) -> Session {
-    let mut next = put_line(rt, &mut *out, session, b"clock", &[number as u64, mask as u64]);
+    let mut next = put_line(
+        rt,
+        &mut *out,
+        session,
+        b"clock",
+        &[number as u64, mask as u64],
+    );
     if number != 0 {
         return next;
     }
@@ -183,7 +206,12 @@ fn put_transfer(
     put_line(rt, out, session, b"transfer", &numbers)
 }
 
-fn put_transfers(rt: &HostRuntime, out: &mut [u8; ROOM], session: Session, state: &[u32; STATE_NUMBERS]) -> Session {
+fn put_transfers(
+    rt: &HostRuntime,
+    out: &mut [u8; ROOM],
+    session: Session,
+    state: &[u32; STATE_NUMBERS],
+) -> Session {
     let mut next = session;
     let mut m = 0;
     while m < MASTERS {
@@ -194,7 +222,12 @@ fn put_transfers(rt: &HostRuntime, out: &mut [u8; ROOM], session: Session, state
 }
 
 // Prints the log of a state: its count and its lost mark, and all entries, those from the count on too.
-fn put_log(rt: &HostRuntime, out: &mut [u8; ROOM], session: Session, state: &[u32; STATE_NUMBERS]) -> Session {
+fn put_log(
+    rt: &HostRuntime,
+    out: &mut [u8; ROOM],
+    session: Session,
+    state: &[u32; STATE_NUMBERS],
+) -> Session {
     let numbers = [number_at(state, LOG_FROM), number_at(state, LOST_AT)];
     let next = put_line(rt, &mut *out, session, b"log", &numbers);
     put_records(
@@ -210,7 +243,12 @@ fn put_log(rt: &HostRuntime, out: &mut [u8; ROOM], session: Session, state: &[u3
 }
 
 // Prints all of a state. Its marks are 0 or 1: a line of the script and the library write no other.
-pub fn put_state(rt: &HostRuntime, out: &mut [u8; ROOM], session: Session, state: &[u32; STATE_NUMBERS]) -> Session {
+pub fn put_state(
+    rt: &HostRuntime,
+    out: &mut [u8; ROOM],
+    session: Session,
+    state: &[u32; STATE_NUMBERS],
+) -> Session {
     let mut next = put_transfers(rt, &mut *out, session, state);
     next = put_records(
         rt,

@@ -44,7 +44,14 @@ fn full_line(session: Session, n: usize) -> Session {
 
 // After a read into the input from `kept` on: the bytes before are an unfinished line, and `end` is where the bytes end now. A
 // text that cannot be read has no further line, and the unfinished one is none if the text has ended.
-fn after_read(rt: &HostRuntime, program: &[u8], session: Session, got: Got, kept: usize, end: usize) -> Session
+fn after_read(
+    rt: &HostRuntime,
+    program: &[u8],
+    session: Session,
+    got: Got,
+    kept: usize,
+    end: usize,
+) -> Session
     ensures { (got.failed ≡ true → (result.found ≡ false) × (result.over ≡ true)) × (got.ended ≡ true → result.found ≡ false) }
 {
     let mut next = session;

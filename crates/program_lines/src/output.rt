@@ -55,7 +55,13 @@ pub fn put_line(
 }
 
 // Prints one byte in hex.
-fn put_byte(rt: &HostRuntime, program: &[u8], out: &mut [u8; ROOM], session: Session, b: u8) -> Session {
+fn put_byte(
+    rt: &HostRuntime,
+    program: &[u8],
+    out: &mut [u8; ROOM],
+    session: Session,
+    b: u8,
+) -> Session {
     let mut next = with_room(rt, program, &*out, session, 2);
     let at = next.filled;
     out[at] = hex::glyph(b / 16);
@@ -64,7 +70,13 @@ fn put_byte(rt: &HostRuntime, program: &[u8], out: &mut [u8; ROOM], session: Ses
     next
 }
 
-fn put_bytes(rt: &HostRuntime, program: &[u8], out: &mut [u8; ROOM], session: Session, bytes: &[u8]) -> Session {
+fn put_bytes(
+    rt: &HostRuntime,
+    program: &[u8],
+    out: &mut [u8; ROOM],
+    session: Session,
+    bytes: &[u8],
+) -> Session {
     let mut next = session;
     let mut i = 0;
     while i < bytes.len() {
@@ -75,7 +87,13 @@ fn put_bytes(rt: &HostRuntime, program: &[u8], out: &mut [u8; ROOM], session: Se
 }
 
 // Prints bytes in hex, in their order, and a line feed.
-pub fn put_hex(rt: &HostRuntime, program: &[u8], out: &mut [u8; ROOM], session: Session, bytes: &[u8]) -> Session {
+pub fn put_hex(
+    rt: &HostRuntime,
+    program: &[u8],
+    out: &mut [u8; ROOM],
+    session: Session,
+    bytes: &[u8],
+) -> Session {
     let next = put_bytes(rt, program, &mut *out, session, bytes);
     put_line(rt, program, out, next, b"", &[])
 }

@@ -8,10 +8,9 @@ ghost use Rattle.program_streams.specs.Reading.{outcome_of, Gathered};
 
 use program_messages::ROOM;
 use std::fs::File;
-use std::io;
 use std::io::{Error, ErrorKind, Read, Write};
-use std::thread;
 use std::time::{Clock, Duration};
+use std::{io, thread};
 
 // How a reading went: the bytes stand in front of `end`. `ended`: a read answered 0, the end of the input. `failed`: a read
 // failed for good, and `cause` is the operating system's number of why, else 0. Neither: the room is full.
@@ -156,7 +155,12 @@ pub fn write_all<C: Clock, W: Write>(clock: &C, to: &mut W, bytes: &[u8]) -> io:
 
 // Ends a line, of which `at` bytes are filled, and writes it, by one call unless the system takes fewer bytes. The answer is as
 // write_all has it.
-pub fn tell<C: Clock, W: Write>(clock: &C, to: &mut W, line: &mut [u8], at: usize) -> io::Result<()> {
+pub fn tell<C: Clock, W: Write>(
+    clock: &C,
+    to: &mut W,
+    line: &mut [u8],
+    at: usize,
+) -> io::Result<()> {
     let n = program_messages::say(&mut *line, at, b"\n");
     write_all(clock, to, &line[..n])
 }

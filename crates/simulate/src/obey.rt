@@ -88,8 +88,7 @@ fn clock_once(
     let number = c.number;
     let slaves = description_layout::slave_count(board);
     let printed = program_answers::put_clock(
-        rt,
-        out, session, number, c.mask, &lines, slaves, &responses,
+        rt, out, session, number, c.mask, &lines, slaves, &responses,
     );
     Clocked {
         number: number,
@@ -182,7 +181,13 @@ fn obey_call(
 }
 
 // The wait is that of the board as it was read, on which every master has a share line.
-fn obey_wait(rt: &HostRuntime, session: Session, c: Command, text: &[u8], out: &mut [u8; ROOM]) -> Session {
+fn obey_wait(
+    rt: &HostRuntime,
+    session: Session,
+    c: Command,
+    text: &[u8],
+    out: &mut [u8; ROOM],
+) -> Session {
     let mut board = [0u32; BOARD_NUMBERS];
     description::read(text, &mut board);
     let q = wait::quote_of(

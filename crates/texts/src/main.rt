@@ -118,13 +118,7 @@ fn keep(into: &mut [u8], kept: usize, byte: u8) -> usize
 }
 
 // Takes a text of `size` bytes and keeps the first of them, as many as there is room for.
-fn take_body(
-    rt: &HostRuntime,
-    piece: &mut [u8],
-    first: Input,
-    size: u64,
-    into: &mut [u8],
-) -> Body
+fn take_body(rt: &HostRuntime, piece: &mut [u8], first: Input, size: u64, into: &mut [u8]) -> Body
     requires { first.end ≤ length piece.old }
     ensures { (result.input.end ≤ length piece.new) × (result.kept ≤ length into.new) }
 {
@@ -231,12 +225,7 @@ fn answer_record(
 
 // Answers every record, up to the input's end. Nothing says that an input ends, so the passes are counted down from a number
 // that no input uses up. The answer is how many bytes of the output are filled.
-fn answer_records(
-    rt: &HostRuntime,
-    piece: &mut [u8],
-    record: &mut [u8],
-    out: &mut [u8],
-) -> usize
+fn answer_records(rt: &HostRuntime, piece: &mut [u8], record: &mut [u8], out: &mut [u8]) -> usize
     requires { 8300 ≤ length out.old }
     ensures { result ≤ length out.new }
 {
