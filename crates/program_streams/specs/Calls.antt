@@ -1,37 +1,40 @@
 -- What one call of read or write did, by its answer.
 -- Assumes nothing.
-use Rattle.std.specs.Prelude.{Bool, true, false, List, ◌≡◌, ℕ, zero, suc, ℤ, pos, Option, None, Some, Result, Ok, Err}
+use Rattle.std.specs.Prelude.{Bool, true, false, cond, ◌||◌, List, ◌≡◌, ℕ, zero, suc, ℤ, pos, Option, None, Some, Result, Ok, Err}
 use Rattle.std.specs.Io.{WritesAtMost}
 use Rattle.std.specs.IoError.{error_kind, raw_os_error}
-use Rattle.std_io.specs.declared.io.error.Error.{Error}
-use Rattle.std_io.specs.declared.io.kind.ErrorKind.{ErrorKind}
-use Rattle.std_io.specs.declared.io.kind.ErrorKind.TheVariants.{Interrupted, WouldBlock}
+use Rattle.std.specs.declared.io.Error.{Error}
+use Rattle.std.specs.declared.io.ErrorKind.{ErrorKind}
+use Rattle.std.specs.declared.io.ErrorKind.TheVariants.{Interrupted, WouldBlock}
 use Rattle.program_streams.specs.declared.Told.{Told}
 use Rattle.program_streams.specs.declared.Told.TheVariants.{Bytes, Nothing, Again, Later, Failed}
 
--- what a call did that failed with such an error. Interrupted: a signal came before a byte was moved. WouldBlock: the call would
--- have to wait, and the stream says that it is not to
-unfoldable pub judged_by : ErrorKind → Error → Told
-judged_by Interrupted error = Again
-judged_by WouldBlock error = Later
-judged_by _ error = Failed error
+-- a signal came before a byte was moved
+unfoldable pub interrupted : ErrorKind → Bool
+interrupted Interrupted = true
+interrupted _ = false
+
+-- the call would have to wait, and the stream says that it is not to
+unfoldable pub unready : ErrorKind → Bool
+unready WouldBlock = true
+unready _ = false
 
 -- the errors after which a call is tried again
-unfoldable pub retried_by : ErrorKind → Bool
-retried_by Interrupted = true
-retried_by WouldBlock = true
-retried_by _ = false
-
 unfoldable pub retried : Error → Bool
-retried error = retried_by (error_kind error)
+retried error = interrupted (error_kind error) || unready (error_kind error)
 
+-- what a call did that failed with an error
 unfoldable pub judged_error : Error → Told
-judged_error error = judged_by (error_kind error) error
+judged_error error = cond (interrupted (error_kind error)) Again (cond (unready (error_kind error)) Later (Failed error))
 
--- what a call of read or write did that went so: 0 alone is the end
+-- what a call did that moved so many bytes: 0 alone is the end
+unfoldable pub judged_count : ℕ → Told
+judged_count zero = Nothing
+judged_count (suc n) = Bytes (suc n)
+
+-- what a call of read or write did that went so
 unfoldable pub judged : Result ℕ Error → Told
-judged (Ok zero) = Nothing
-judged (Ok (suc n)) = Bytes (suc n)
+judged (Ok got) = judged_count got
 judged (Err error) = judged_error error
 
 unfoldable pub number_or_zero : Option ℤ → ℤ

@@ -1,9 +1,9 @@
 -- What the reads of an input hand on: the bytes that they gave, up to the first that gave none. Only that one is the end of the
 -- input: a read that fails is tried again, or the reading has failed.
 -- Assumes nothing.
-use Rattle.std.specs.Prelude.{Bool, true, false, cond, List, [], ◌∷◌, ◌++◌, ◌⊎◌, ◌≡◌, ℕ, ◌-◌, ◌^◌, ◌≤◌, ◌<◌, ℤ, pos, length, take}
+use Rattle.std.specs.Prelude.{Bool, true, false, cond, List, [], ◌∷◌, ◌++◌, ◌⊎◌, ◌≡◌, ℕ, ◌-◌, ◌^◌, ◌≤◌, ◌<◌, ℤ, length, take}
 use Rattle.io.specs.Counts.{IsPrefixLen}
-use Rattle.std_io.specs.declared.io.error.Error.{Error}
+use Rattle.std.specs.declared.io.Error.{Error}
 use Rattle.program_streams.specs.Calls.{retried}
 use Rattle.program_streams.specs.declared.Got.{Got}
 

@@ -3,7 +3,7 @@
 #![tactic(auto)]
 
 ghost use Rattle.std.specs.Prelude.{◌≡◌};
-ghost use Rattle.program_streams.specs.Calls.{judged, judged_error, number_of, Call};
+ghost use Rattle.program_streams.specs.Calls.{judged, judged_count, judged_error, number_of, Call};
 ghost use Rattle.program_streams.specs.Reading.{outcome_of, Gathered};
 
 use program_messages::ROOM;
@@ -58,13 +58,22 @@ fn judge_error(error: Error) -> Told
     }
 }
 
+// What a call did that moved so many bytes.
+fn judge_count(got: usize) -> Told
+    ensures { result ≡ judged_count got }
+{
+    if got == 0 {
+        return Told::Nothing;
+    }
+    Told::Bytes(got)
+}
+
 // What a call did that went so.
 fn judge(went: io::Result<usize>) -> Told
     ensures { result ≡ judged went }
 {
     match went {
-        Ok(0) => Told::Nothing,
-        Ok(n) => Told::Bytes(n),
+        Ok(got) => judge_count(got),
         Err(error) => judge_error(error),
     }
 }
