@@ -1,1 +1,1 @@
-pub mod AnswerLaws
+mod AnswerLaws
