@@ -10,14 +10,21 @@ use program_lines::{ROOM, Session};
 use program_script::FIELD_COUNT;
 
 // Prints a word and numbers, parted by commas, and a line feed.
-fn put_line(out: &mut [u8; ROOM], session: Session, word: &[u8], numbers: &[u64]) -> Session
+fn put_line(
+    rt: &HostRuntime,
+    out: &mut [u8; ROOM],
+    session: Session,
+    word: &[u8],
+    numbers: &[u64],
+) -> Session
     requires { length word.now + 21 * length numbers.now < 1000 }
 {
-    program_lines::put_line(b"simulate", out, session, word, numbers)
+    program_lines::put_line(rt, b"simulate", out, session, word, numbers)
 }
 
 // Prints what a call answered, and explains a refusal; lowest as for explain::call.
 pub fn answer(
+    rt: &HostRuntime,
     out: &mut [u8; ROOM],
     session: Session,
     word: &[u8],
@@ -26,18 +33,18 @@ pub fn answer(
 ) -> Session
     requires { length word.now < 900 }
 {
-    let printed = put_line(&mut *out, session, word, &[number as u64]);
-    explain::call(&*out, printed, number, lowest)
+    let printed = put_line(rt, &mut *out, session, word, &[number as u64]);
+    explain::call(rt, &*out, printed, number, lowest)
 }
 
 // Prints what is left to print, and names a line with a problem by its number.
-pub fn finish(out: &mut [u8; ROOM], session: Session) {
+pub fn finish(rt: &HostRuntime, out: &mut [u8; ROOM], session: Session) {
     let mut last = session;
     if session.problem != 0 {
-        last = put_line(&mut *out, session, b"error", &[session.line]);
+        last = put_line(rt, &mut *out, session, b"error", &[session.line]);
     }
-    program_lines::flush(b"simulate", &*out, last);
-    explain::problem(session.line, session.problem);
+    program_lines::flush(rt, b"simulate", &*out, last);
+    explain::problem(rt, session.line, session.problem);
 }
 
 fn wide(n: u32) -> u64 {
@@ -55,6 +62,7 @@ fn number_at(numbers: &[u32], index: usize) -> u64 {
 // Prints the record of an array that has the index `own`: the index, and `count` numbers from `from` on. A record of a state is
 // then the line that overwrites it.
 fn put_record(
+    rt: &HostRuntime,
     out: &mut [u8; ROOM],
     session: Session,
     word: &[u8],
@@ -73,11 +81,12 @@ fn put_record(
         i += 1;
     }
     let end = count + 1;
-    put_line(out, session, word, &fields[..end])
+    put_line(rt, out, session, word, &fields[..end])
 }
 
 // Prints `records` records of an array, the first from `from` on, each of `count` numbers.
 fn put_records(
+    rt: &HostRuntime,
     out: &mut [u8; ROOM],
     session: Session,
     word: &[u8],
@@ -92,7 +101,7 @@ fn put_records(
     let mut at = from;
     let mut i = 0;
     while i < records {
-        next = put_record(&mut *out, next, word, i, numbers, at, count);
+        next = put_record(rt, &mut *out, next, word, i, numbers, at, count);
         at += count;
         i += 1;
     }
@@ -111,18 +120,29 @@ fn slaves_up_to(count: u32) -> usize
 }
 
 // Prints the response of master m, if it is not 0 (rule 4.17).
-fn put_response(out: &mut [u8; ROOM], session: Session, m: usize, response: u64) -> Session {
+fn put_response(
+    rt: &HostRuntime,
+    out: &mut [u8; ROOM],
+    session: Session,
+    m: usize,
+    response: u64,
+) -> Session {
     if response == 0 {
         return session;
     }
-    put_line(out, session, b"response", &[m as u64, response])
+    put_line(rt, out, session, b"response", &[m as u64, response])
 }
 
-fn put_responses(out: &mut [u8; ROOM], session: Session, responses: &[u32; MASTERS]) -> Session {
+fn put_responses(
+    rt: &HostRuntime,
+    out: &mut [u8; ROOM],
+    session: Session,
+    responses: &[u32; MASTERS],
+) -> Session {
     let mut next = session;
     let mut m = 0;
     while m < MASTERS {
-        next = put_response(&mut *out, next, m, number_at(responses, m));
+        next = put_response(rt, &mut *out, next, m, number_at(responses, m));
         m += 1;
     }
     next
@@ -130,6 +150,7 @@ fn put_responses(out: &mut [u8; ROOM], session: Session, responses: &[u32; MASTE
 
 // Prints what a clock answered: slave lines and responses only if it was not refused.
 pub fn put_clock(
+    rt: &HostRuntime,
     out: &mut [u8; ROOM],
     session: Session,
     number: u32,
@@ -138,11 +159,18 @@ pub fn put_clock(
     slave_count: u32,
     responses: &[u32; MASTERS],
 ) -> Session {
-    let mut next = put_line(&mut *out, session, b"clock", &[number as u64, mask as u64]);
+    let mut next = put_line(
+        rt,
+        &mut *out,
+        session,
+        b"clock",
+        &[number as u64, mask as u64],
+    );
     if number != 0 {
         return next;
     }
     next = put_records(
+        rt,
         &mut *out,
         next,
         b"slave",
@@ -151,12 +179,13 @@ pub fn put_clock(
         0,
         LINE_FIELDS,
     );
-    put_responses(out, next, responses)
+    put_responses(rt, out, next, responses)
 }
 
 // Prints the transfer of master m, and after its numbers the latency clocks that the master still has to pass (rule 4.16), which
 // stand after the slots in a state: the line that overwrites both.
 fn put_transfer(
+    rt: &HostRuntime,
     out: &mut [u8; ROOM],
     session: Session,
     m: usize,
@@ -174,24 +203,35 @@ fn put_transfer(
         number_at(state, p + 4),
         number_at(state, LATE_FROM + m),
     ];
-    put_line(out, session, b"transfer", &numbers)
+    put_line(rt, out, session, b"transfer", &numbers)
 }
 
-fn put_transfers(out: &mut [u8; ROOM], session: Session, state: &[u32; STATE_NUMBERS]) -> Session {
+fn put_transfers(
+    rt: &HostRuntime,
+    out: &mut [u8; ROOM],
+    session: Session,
+    state: &[u32; STATE_NUMBERS],
+) -> Session {
     let mut next = session;
     let mut m = 0;
     while m < MASTERS {
-        next = put_transfer(&mut *out, next, m, state);
+        next = put_transfer(rt, &mut *out, next, m, state);
         m += 1;
     }
     next
 }
 
 // Prints the log of a state: its count and its lost mark, and all entries, those from the count on too.
-fn put_log(out: &mut [u8; ROOM], session: Session, state: &[u32; STATE_NUMBERS]) -> Session {
+fn put_log(
+    rt: &HostRuntime,
+    out: &mut [u8; ROOM],
+    session: Session,
+    state: &[u32; STATE_NUMBERS],
+) -> Session {
     let numbers = [number_at(state, LOG_FROM), number_at(state, LOST_AT)];
-    let next = put_line(&mut *out, session, b"log", &numbers);
+    let next = put_line(rt, &mut *out, session, b"log", &numbers);
     put_records(
+        rt,
         out,
         next,
         b"entry",
@@ -203,9 +243,15 @@ fn put_log(out: &mut [u8; ROOM], session: Session, state: &[u32; STATE_NUMBERS])
 }
 
 // Prints all of a state. Its marks are 0 or 1: a line of the script and the library write no other.
-pub fn put_state(out: &mut [u8; ROOM], session: Session, state: &[u32; STATE_NUMBERS]) -> Session {
-    let mut next = put_transfers(&mut *out, session, state);
+pub fn put_state(
+    rt: &HostRuntime,
+    out: &mut [u8; ROOM],
+    session: Session,
+    state: &[u32; STATE_NUMBERS],
+) -> Session {
+    let mut next = put_transfers(rt, &mut *out, session, state);
     next = put_records(
+        rt,
         &mut *out,
         next,
         b"slot",
@@ -214,5 +260,5 @@ pub fn put_state(out: &mut [u8; ROOM], session: Session, state: &[u32; STATE_NUM
         SLOTS_FROM,
         SLOT_NUMBERS,
     );
-    put_log(out, next, state)
+    put_log(rt, out, next, state)
 }

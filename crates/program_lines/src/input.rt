@@ -2,7 +2,6 @@
 ghost use Rattle.std.specs.Prelude.{◌≡◌, ◌+◌, ◌≤◌, true, false, length};
 
 use crate::{NO_LINE_FEED, ROOM, Session, output};
-use libc::STDIN_FILENO;
 use program_streams::Got;
 
 // Moves n bytes from `from` on to the front.
@@ -24,7 +23,7 @@ fn text_end(session: Session, n: usize) -> Session
     let mut last = session;
     last.found = false;
     last.over = true;
-    last.line = std::num::wrapping_add_u64(session.line, 1);
+    last.line = session.line.wrapping_add(1);
     if n == 0 {
         return last;
     }
@@ -39,13 +38,20 @@ fn full_line(session: Session, n: usize) -> Session {
     next.start = 0;
     next.stop = n;
     next.over = true;
-    next.line = std::num::wrapping_add_u64(session.line, 1);
+    next.line = session.line.wrapping_add(1);
     next
 }
 
 // After a read into the input from `kept` on: the bytes before are an unfinished line, and `end` is where the bytes end now. A
 // text that cannot be read has no further line, and the unfinished one is none if the text has ended.
-fn after_read(program: &[u8], session: Session, got: Got, kept: usize, end: usize) -> Session
+fn after_read(
+    rt: &HostRuntime,
+    program: &[u8],
+    session: Session,
+    got: Got,
+    kept: usize,
+    end: usize,
+) -> Session
     ensures { (got.failed ≡ true → (result.found ≡ false) × (result.over ≡ true)) × (got.ended ≡ true → result.found ≡ false) }
 {
     let mut next = session;
@@ -54,7 +60,7 @@ fn after_read(program: &[u8], session: Session, got: Got, kept: usize, end: usiz
     next.ended = got.ended;
     next.found = false;
     if got.failed {
-        program_streams::report(program, b"standard input");
+        program_streams::report(rt, program, b"standard input", got.cause);
         next.over = true;
         return next;
     }
@@ -70,6 +76,7 @@ fn after_read(program: &[u8], session: Session, got: Got, kept: usize, end: usiz
 // Keeps an unfinished line, from `from` to `end`, and reads after it until the input is full or the text ends. If it has ended, there
 // is no further line. What has gathered is written out before, so that a read that fails is reported after it.
 fn read_more(
+    rt: &HostRuntime,
     program: &[u8],
     input: &mut [u8],
     out: &[u8; ROOM],
@@ -85,13 +92,13 @@ fn read_more(
     if session.ended {
         return text_end(session, kept);
     }
-    let mut written = output::flush(program, out, session);
+    let mut written = output::flush(rt, program, out, session);
     if written.over {
         written.found = false;
         return written;
     }
-    let got = program_streams::read_all(STDIN_FILENO, &mut input[kept..]);
-    after_read(program, written, got, kept, kept + got.end)
+    let got = program_streams::read_all(rt, &mut rt.stdin(), &mut input[kept..]);
+    after_read(rt, program, written, got, kept, kept + got.end)
 }
 
 // The line that was found.
@@ -104,7 +111,13 @@ pub fn line_of(input: &[u8], session: Session) -> &[u8] {
 
 // Finds the next line in what is read, or reads more; a read or a write that fails is reported in the program's name. The number
 // of a text's lines is far below 2 ^ 64.
-pub fn next_line(program: &[u8], input: &mut [u8], out: &[u8; ROOM], session: Session) -> Session {
+pub fn next_line(
+    rt: &HostRuntime,
+    program: &[u8],
+    input: &mut [u8],
+    out: &[u8; ROOM],
+    session: Session,
+) -> Session {
     let end = crate::bounded(session.end, &*input);
     let piece = &input[..end];
     let from = crate::bounded(session.from, piece);
@@ -116,8 +129,8 @@ pub fn next_line(program: &[u8], input: &mut [u8], out: &[u8; ROOM], session: Se
         next.start = from;
         next.stop = from + e;
         next.from = from + e + 1;
-        next.line = std::num::wrapping_add_u64(session.line, 1);
+        next.line = session.line.wrapping_add(1);
         return next;
     }
-    read_more(program, input, out, session, from, end)
+    read_more(rt, program, input, out, session, from, end)
 }

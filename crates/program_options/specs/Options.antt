@@ -39,7 +39,7 @@ unfoldable pub mode_of : ℕ → List ℕ → ℕ → ℕ → ℕ → Mode
 mode_of count room n least most =
     cond (eqb (get_or room 0 0) 45) (mode_by (option_of (take n room)) count least most) (operands_from count 1 least most)
 
--- r is what some words ask for. `os` promises of a word only that its bytes fit the room, and of the count nothing.
+-- r is what some words ask for. The library promises of a word only that its bytes fit the room, and of the count nothing.
 pub record Asked (least most : ℕ) (r : Mode) : Type 0 where
   pub count : ℕ
   pub room : List ℕ

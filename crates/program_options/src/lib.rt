@@ -6,7 +6,8 @@ ghost use Rattle.std.specs.Prelude.{◌≡◌, ◌<◌, length};
 ghost use Rattle.io.specs.Counts.{IsPrefixLen};
 ghost use Rattle.program_options.specs.Options.{option_of, operands_from, lone_option, mode_by, mode_of, Asked};
 
-use libc::STDOUT_FILENO;
+use std::env::{Env, FillError};
+use std::io;
 
 // What a program is asked for: its help, its version, or its work on the operands, the words from an index on. Wrong: none of
 // these.
@@ -17,6 +18,9 @@ pub enum Mode {
     Operands(usize),
     Wrong,
 }
+
+// The room for an option's word: as much as a path has.
+const WORD_ROOM: usize = 4096;
 
 // An option, the end of the options, or a word that is neither.
 #[derive(Clone, Copy)]
@@ -91,32 +95,66 @@ fn mode_of(count: usize, room: &[u8], n: usize, least: usize, most: usize) -> Mo
     operands_from(count, 1, least, most)
 }
 
+// Whether there is a word at an index. None of it is copied.
+fn is_word(rt: &HostRuntime, index: usize) -> bool {
+    match rt.arg(index, &mut []) {
+        Ok(_) => true,
+        Err(FillError::TooLong) => true,
+        Err(FillError::NotPresent) => false,
+    }
+}
+
+// How many words there are, the program's name among them.
+pub fn word_count(rt: &HostRuntime) -> usize {
+    for i in 0..usize::MAX {
+        if !is_word(rt, i) {
+            return i;
+        }
+    }
+    usize::MAX
+}
+
+// The word at an index is put into `room`. The answer is its length, or 0 where there is none or it is too long.
+pub fn word_at(rt: &HostRuntime, index: usize, room: &mut [u8]) -> usize
+    ensures { IsPrefixLen result room.new }
+{
+    match rt.arg(index, &mut *room) {
+        Ok(n) => n,
+        Err(_) => 0,
+    }
+}
+
 // What the words ask of a program that takes so many operands. They are counted once.
-pub fn asked(least: usize, most: usize) -> Mode
+pub fn asked(rt: &HostRuntime, least: usize, most: usize) -> Mode
     ensures { Asked least most result }
 {
-    let mut word = io::buffer();
-    let n = os::arg(1, &mut word);
-    let count = os::arg_count();
+    let mut word = [0u8; WORD_ROOM];
+    let n = word_at(rt, 1, &mut word);
+    let count = word_count(rt);
     mode_of(count, &word, n, least, most)
 }
 
 // Tells, straight after what was to be printed, where standard output did not take it.
-pub fn printed(program: &[u8], taken: bool) -> bool {
-    if !taken {
-        program_streams::report(program, b"standard output");
+pub fn printed(rt: &HostRuntime, program: &[u8], taken: io::Result<()>) -> bool {
+    match taken {
+        Ok(()) => true,
+        Err(error) => {
+            let number = program_streams::number_of(&error);
+            program_streams::report(rt, program, b"standard output", number);
+            false
+        }
     }
-    taken
 }
 
 // Prints bytes on standard output.
-pub fn print(program: &[u8], bytes: &[u8]) -> bool {
-    printed(program, program_streams::write_all(STDOUT_FILENO, bytes))
+pub fn print(rt: &HostRuntime, program: &[u8], bytes: &[u8]) -> bool {
+    let taken = program_streams::write_all(rt, &mut rt.stdout(), bytes);
+    printed(rt, program, taken)
 }
 
-pub fn print_version(program: &[u8]) {
-    let taken = print(program, program);
+pub fn print_version(rt: &HostRuntime, program: &[u8]) {
+    let taken = print(rt, program, program);
     if taken {
-        print(program, b" (Zelgwy) 1.7.1\n");
+        print(rt, program, b" (Zelgwy) 1.7.1\n");
     }
 }

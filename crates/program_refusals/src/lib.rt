@@ -9,8 +9,9 @@ use common_numbers::{
     PAST_END, SHARE_ORDER, SHORT_OUTPUT, SLAVE_FIELDS, SPAN_TOTAL, TOO_NARROW,
 };
 use description::Refusal;
-use libc::{STDERR_FILENO, STDOUT_FILENO};
 use program_messages::{ROOM, say, say_number};
+use std::io;
+use std::io::Write;
 
 // The commas of a slave line that lacks its last number, latency, and of one that lacks its last two, native and latency.
 const COMMAS_TO_NATIVE: u32 = SLAVE_FIELDS as u32 - 1;
@@ -202,46 +203,44 @@ fn say_source(line: &mut [u8], program: &[u8], path: &[u8]) -> usize {
 }
 
 // One line on standard error, as `table: board.txt: line 3: refusal 4: base no multiple of span`.
-pub fn explain(program: &[u8], path: &[u8], text: &[u8], r: Refusal) {
+pub fn explain(rt: &HostRuntime, program: &[u8], path: &[u8], text: &[u8], r: Refusal) {
     let mut line = [0u8; ROOM];
     let n = say_source(&mut line, program, path);
     let next = say(&mut line, n, b": ");
     let told = say_of_refusal(&mut line, next, text, r);
-    program_streams::tell(STDERR_FILENO, &mut line, told);
+    program_streams::warn(rt, &mut line, told);
 }
 
 // A number and what it means.
-fn print_entry(fd: i32, number: u32) -> bool {
+fn print_entry<W: Write>(rt: &HostRuntime, to: &mut W, number: u32) -> io::Result<()> {
     let mut line = [0u8; ROOM];
     let indent = say(&mut line, 0, b"  ");
     let own = say_number(&mut line, indent, number as u64);
     let next = say(&mut line, own, b" ");
     let told = say_meaning(&mut line, next, number);
-    program_streams::tell(fd, &mut line, told)
+    program_streams::tell(rt, to, &mut line, told)
 }
 
 // A line for each number from 1 to last, for a program's help.
-pub fn list(fd: i32, last: u32) -> bool {
+pub fn list<W: Write>(rt: &HostRuntime, to: &mut W, last: u32) -> io::Result<()> {
     for number in 1..=last {
-        if !print_entry(fd, number) {
-            return false;
-        }
+        print_entry(rt, to, number)?;
     }
-    true
+    Ok(())
 }
 
 // The same for the numbers that a description is refused with.
-pub fn list_of_text(fd: i32) -> bool {
-    list(fd, BAD_SHARE)
-        && print_entry(fd, TOO_NARROW)
-        && print_entry(fd, NO_SHARE)
-        && print_entry(fd, SHARE_ORDER)
+pub fn list_of_text<W: Write>(rt: &HostRuntime, to: &mut W) -> io::Result<()> {
+    list(rt, to, BAD_SHARE)?;
+    print_entry(rt, to, TOO_NARROW)?;
+    print_entry(rt, to, NO_SHARE)?;
+    print_entry(rt, to, SHARE_ORDER)
 }
 
 // What a program prints of a description that is refused.
-pub fn print(number: u32) -> bool {
+pub fn print(rt: &HostRuntime, number: u32) -> io::Result<()> {
     let mut line = [0u8; ROOM];
     let word = say(&mut line, 0, b"refused,");
     let told = say_number(&mut line, word, number as u64);
-    program_streams::tell(STDOUT_FILENO, &mut line, told)
+    program_streams::tell(rt, &mut rt.stdout(), &mut line, told)
 }

@@ -1,35 +1,15 @@
 -- A reading, one answer after another.
 -- Assumes nothing.
-use mathlib.Core.Bool.{Bool, true, false, cond, ◌||◌}
-use mathlib.Core.List.{List, [], ◌∷◌, ◌++◌, append_assoc, append-nil}
-use mathlib.Core.Logic.{inl, inr}
-use mathlib.Core.Path.{◌≡◌, refl, ap, ap₂, sym, subst, ◌∙◌}
-use Prim.Native.Nat.{ℕ, zero, suc, ◌+◌, ◌-◌, ◌≤◌, ◌<◌}
-use native.Mathlib.Omega.{arith}
-use lib.IntN.{ℤ, pos, negsuc}
-use lib.ListN.{length, take, drop, length-append}
-use lib.Seq.{length-take-le, take-append-le, take-append-add}
+use Rattle.std.proofs.Common.{Bool, true, false, cond, ◌||◌, List, [], ◌∷◌, ◌++◌, append_assoc, append-nil, inl, inr, ◌≡◌, refl, ap, ap₂, sym, subst, ◌∙◌, ℕ, zero, suc, ◌+◌, ◌-◌, ◌≤◌, ◌<◌, arith, ℤ, length, take, drop, length-append, length-take-le, Result, Ok, Err}
+use Rattle.std.proofs.lemmas.List.{take-append-le}
+use lib.Seq.{take-append-add}
 use borrow.Rule.Slice.PartMut.{put_mid, same_len_mid}
+use Rattle.std.specs.IoError.{error_kind}
+use Rattle.std.specs.Io.{WritesAtMost}
+use Rattle.std.specs.declared.io.Error.{Error}
 use Rattle.common_laws.proofs.TextLists.{part_rest_length}
-use Rattle.libc.specs.Io.{Moved}
-use Rattle.program_streams.specs.Calls.{interrupted, unready, is, retried, judged, Call}
-use Rattle.program_streams.specs.Reading.{
-  Answer,
-  gave,
-  failed,
-  given,
-  gathered,
-  Standing,
-  ended,
-  broken,
-  going,
-  standing,
-  Lent,
-  outcome_of,
-  most_reads,
-  Marks,
-  Gathered,
-}
+use Rattle.program_streams.specs.Calls.{interrupted, unready, retried, judged, judged_count, judged_error, Call}
+use Rattle.program_streams.specs.Reading.{Answer, gave, failed, given, gathered, Standing, ended, broken, going, standing, Lent, outcome_of, most_reads, Marks, Gathered}
 use Rattle.program_streams.specs.declared.Got.{Got}
 use Rattle.program_streams.specs.declared.Told.{Told}
 use Rattle.program_streams.specs.declared.Told.TheVariants.{Bytes, Nothing, Again, Later, Failed}
@@ -115,19 +95,19 @@ stands (Bytes n) = going
 stands Nothing = ended
 stands Again = going
 stands Later = going
-stands Failed = broken
+stands (Failed error) = broken
 
 abbrev pub behind : ℕ → Told → ℕ
 behind end (Bytes n) = end + n
 behind end Nothing = end
 behind end Again = end
 behind end Later = end
-behind end Failed = end
+behind end (Failed error) = end
 
 -- a read's answer, by what it left in the room that it was lent
-unfoldable answered : ℤ → ℤ → List ℕ → Answer
-answered (pos n) error room = gave (take n room)
-answered (negsuc n) error room = failed error
+unfoldable answered : Result ℕ Error → List ℕ → Answer
+answered (Ok n) room = gave (take n room)
+answered (Err error) room = failed error
 
 -- r tells of the answer a of a read into a room
 record Tells (room : List ℕ) (a : Answer) (end : ℕ) (r : Told) : Type 0 where
@@ -137,12 +117,12 @@ record Tells (room : List ℕ) (a : Answer) (end : ℕ) (r : Told) : Type 0 wher
   fits : length (given a) ≤ length room
 
 tells_of :
-    (room : List ℕ) (end : ℕ) (got error : ℤ) → Moved (length room) got
-    → Tells room (answered got error room) end (judged got error)
-unfolding answered retried judged given standing
-tells_of room end (pos zero) error m = record { stand = refl; count = omega arith; front = refl; fits = omega arith }
-tells_of [] end (pos (suc n)) error m = absurd (omega arith)
-tells_of (b ∷ room) end (pos (suc n)) error m =
+    (room : List ℕ) (end : ℕ) (went : Result ℕ Error) → WritesAtMost went room
+    → Tells room (answered went room) end (judged went)
+unfolding answered retried judged judged_count judged_error given standing
+tells_of room end (Ok zero) m = record { stand = refl; count = omega arith; front = refl; fits = omega arith }
+tells_of [] end (Ok (suc n)) m = absurd (omega arith)
+tells_of (b ∷ room) end (Ok (suc n)) m =
     let l : length (take (suc n) (b ∷ room)) ≡ suc n = length-take-le (suc n) (b ∷ room) m in
     record {
       stand = refl;
@@ -150,20 +130,20 @@ tells_of (b ∷ room) end (pos (suc n)) error m =
       front = ap (λ (k : ℕ). take k (b ∷ room)) l;
       fits = omega arith;
     }
-tells_of room end (negsuc n) error m =
+tells_of room end (Err error) m =
     record {
-      stand = stand (is interrupted error) (is unready error);
-      count = count (is interrupted error) (is unready error);
+      stand = stand (interrupted (error_kind error)) (unready (error_kind error));
+      count = count (interrupted (error_kind error)) (unready (error_kind error));
       front = refl;
       fits = omega arith;
     }
   where
-    stand : (t u : Bool) → cond (t || u) going broken ≡ stands (cond t Again (cond u Later Failed))
+    stand : (t u : Bool) → cond (t || u) going broken ≡ stands (cond t Again (cond u Later (Failed error)))
     stand true u = refl
     stand false true = refl
     stand false false = refl
 
-    count : (t u : Bool) → behind end (cond t Again (cond u Later Failed)) ≡ end + 0
+    count : (t u : Bool) → behind end (cond t Again (cond u Later (Failed error))) ≡ end + 0
     count true u = omega arith
     count false true = omega arith
     count false false = omega arith
@@ -235,15 +215,24 @@ module _
         subst
         (λ (t : Told). Reached (stands t) (with_room into end room) (behind end t) (reads - 1))
         (sym k.tells)
-        (reached_more _ _ (tells_of room end k.got k.error k.moved))
+        (reached_more _ _ (tells_of room end k.went k.moved))
+
+    pub reached_told :
+        (r t : Told) → Call room r → r ≡ t
+        → Reached (stands t) (with_room into end room) (behind end t) (reads - 1)
+    reached_told r t k e =
+        subst
+        (λ (t : Told). Reached (stands t) (with_room into end room) (behind end t) (reads - 1))
+        e
+        (reached_next r k)
 
 -- ---- a reading that is over
 
 module _ {s : Standing} (into : List ℕ) (end reads : ℕ) (g : Reached s into end reads) (r : Got) where
   over :
-      (e f : Bool) → r ≡ outcome_of end e f → Marks s (length g.answers) (length into) (outcome_of end e f)
+      (e f : Bool) (k : ℤ) → r ≡ outcome_of end e f k → Marks s (length g.answers) (length into) (outcome_of end e f k)
       → Gathered into r
-  over e f o m =
+  over e f k o m =
       subst
       (Gathered into)
       (sym o)
@@ -257,18 +246,18 @@ module _ {s : Standing} (into : List ℕ) (end reads : ℕ) (g : Reached s into 
 
 -- by the end of the input, by a failure, by the last of the reads, by a full room
 module _ (into : List ℕ) (end reads : ℕ) (r : Got) where
-  pub over_ended : Reached ended into end reads → r ≡ outcome_of end true false → Gathered into r
+  pub over_ended : Reached ended into end reads → (k : ℤ) → r ≡ outcome_of end true false k → Gathered into r
   unfolding Marks
-  over_ended g o = over into end reads g r true false o (refl, refl)
+  over_ended g k o = over into end reads g r true false k o (refl, refl)
 
-  pub over_failed : Reached broken into end reads → r ≡ outcome_of end false true → Gathered into r
+  pub over_failed : Reached broken into end reads → (k : ℤ) → r ≡ outcome_of end false true k → Gathered into r
   unfolding Marks
-  over_failed g o = over into end reads g r false true o (refl, refl)
+  over_failed g k o = over into end reads g r false true k o (refl, refl)
 
-  pub over_spent : Reached going into end reads → reads ≡ 0 → r ≡ outcome_of end false true → Gathered into r
+  pub over_spent : Reached going into end reads → reads ≡ 0 → (k : ℤ) → r ≡ outcome_of end false true k → Gathered into r
   unfolding Marks
-  over_spent g h o = over into end reads g r false true o (refl, omega (arith, g.counted))
+  over_spent g h k o = over into end reads g r false true k o (refl, omega (arith, g.counted))
 
-  pub over_full : Reached going into end reads → length into ≤ end → r ≡ outcome_of end false false → Gathered into r
+  pub over_full : Reached going into end reads → length into ≤ end → (k : ℤ) → r ≡ outcome_of end false false k → Gathered into r
   unfolding Marks
-  over_full g h o = over into end reads g r false false o (refl, omega (arith, g.within))
+  over_full g h k o = over into end reads g r false false k o (refl, omega (arith, g.within))

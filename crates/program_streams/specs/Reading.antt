@@ -3,13 +3,14 @@
 -- Assumes nothing.
 use Rattle.std.specs.Prelude.{Bool, true, false, cond, List, [], ◌∷◌, ◌++◌, ◌⊎◌, ◌≡◌, ℕ, ◌-◌, ◌^◌, ◌≤◌, ◌<◌, ℤ, length, take}
 use Rattle.io.specs.Counts.{IsPrefixLen}
+use Rattle.std.specs.declared.io.Error.{Error}
 use Rattle.program_streams.specs.Calls.{retried}
 use Rattle.program_streams.specs.declared.Got.{Got}
 
 -- what one read did: it gave bytes, none at the end of the input, or it failed with an error
 pub data Answer : Type 0 where
   gave : List ℕ → Answer
-  failed : ℤ → Answer
+  failed : Error → Answer
 
 -- the bytes that an answer gave
 unfoldable pub given : Answer → List ℕ
@@ -44,9 +45,9 @@ Lent room (answer ∷ rest) =
     (0 < room) × (length (given answer) ≤ room) × (standing (answer ∷ []) ≡ going ⊎ rest ≡ [])
     × Lent (room - length (given answer)) rest
 
--- a reading's end and its two marks
-abbrev pub outcome_of : ℕ → Bool → Bool → Got
-outcome_of end e f = record { end = end; ended = e; failed = f }
+-- a reading's end, its two marks and the number of what failed
+abbrev pub outcome_of : ℕ → Bool → Bool → ℤ → Got
+outcome_of end e f number = record { end = end; ended = e; failed = f; cause = number }
 
 -- the most reads that a reading makes
 abbrev pub most_reads : ℕ

@@ -9,6 +9,7 @@ use program_script::{BUFFER_ROOM, Command, INPUT, MEMORY_ROOM};
 
 // A refused reset leaves the state as it was.
 fn obey_reset(
+    rt: &HostRuntime,
     board: &[u32; BOARD_NUMBERS],
     state: &mut [u32; STATE_NUMBERS],
     session: Session,
@@ -16,11 +17,12 @@ fn obey_reset(
 ) -> Session {
     let number = fabric::reset(board, state);
     let lowest = description_rules::without_share(board);
-    program_answers::answer(out, session, b"reset", number, lowest)
+    program_answers::answer(rt, out, session, b"reset", number, lowest)
 }
 
 // A post's bytes are the line's last field.
 fn obey_post(
+    rt: &HostRuntime,
     board: &[u32; BOARD_NUMBERS],
     state: &mut [u32; STATE_NUMBERS],
     session: Session,
@@ -49,7 +51,7 @@ fn obey_post(
         &bytes[..end],
     );
     let lowest = description_rules::without_share(board);
-    program_answers::answer(out, session, b"post", number, lowest)
+    program_answers::answer(rt, out, session, b"post", number, lowest)
 }
 
 // How many clocks are left after one: none if its answer could not be printed.
@@ -72,6 +74,7 @@ pub struct Clocked {
 
 // One clock, with its answer.
 fn clock_once(
+    rt: &HostRuntime,
     board: &[u32; BOARD_NUMBERS],
     state: &mut [u32; STATE_NUMBERS],
     session: Session,
@@ -85,7 +88,7 @@ fn clock_once(
     let number = c.number;
     let slaves = description_layout::slave_count(board);
     let printed = program_answers::put_clock(
-        out, session, number, c.mask, &lines, slaves, &responses,
+        rt, out, session, number, c.mask, &lines, slaves, &responses,
     );
     Clocked {
         number: number,
@@ -96,6 +99,7 @@ fn clock_once(
 // `count` clocks, each with its answer. A refused clock changes nothing, so that those after it are refused alike: the last
 // one's number explains them all.
 fn obey_clock(
+    rt: &HostRuntime,
     board: &[u32; BOARD_NUMBERS],
     state: &mut [u32; STATE_NUMBERS],
     session: Session,
@@ -109,6 +113,7 @@ fn obey_clock(
     let mut left = count;
     while 0 < left {
         let c = clock_once(
+            rt,
             board,
             &mut *state,
             next,
@@ -121,7 +126,7 @@ fn obey_clock(
         left = left_after(left, next.broken);
     }
     let lowest = description_rules::without_share(board);
-    program_answers::call(&*out, next, number, lowest)
+    program_answers::call(rt, &*out, next, number, lowest)
 }
 
 // A mark as it is printed.
@@ -131,6 +136,7 @@ fn mark_of(b: bool) -> u64 {
 
 // The oldest entry of the log, taken out of it; of a refused take zeros are printed.
 fn obey_take(
+    rt: &HostRuntime,
     board: &[u32; BOARD_NUMBERS],
     state: &mut [u32; STATE_NUMBERS],
     session: Session,
@@ -144,13 +150,14 @@ fn obey_take(
         t.address as u64,
         mark_of(t.write),
     ];
-    let printed = program_lines::put_line(b"simulate", &mut *out, session, b"take", &numbers);
+    let printed = program_lines::put_line(rt, b"simulate", &mut *out, session, b"take", &numbers);
     let lowest = description_rules::without_share(board);
-    program_answers::call(&*out, printed, number, lowest)
+    program_answers::call(rt, &*out, printed, number, lowest)
 }
 
 // The lines that call the fabric.
 fn obey_call(
+    rt: &HostRuntime,
     board: &[u32; BOARD_NUMBERS],
     state: &mut [u32; STATE_NUMBERS],
     session: Session,
@@ -161,20 +168,26 @@ fn obey_call(
     out: &mut [u8; ROOM],
 ) -> Session {
     if c.kind == program_script::RESET {
-        return obey_reset(board, state, session, out);
+        return obey_reset(rt, board, state, session, out);
     }
     if c.kind == program_script::POST {
-        return obey_post(board, state, session, c, line, buffer, out);
+        return obey_post(rt, board, state, session, c, line, buffer, out);
     }
     if c.kind == program_script::CLOCK {
         let count = program_script::value_at(c, 0);
-        return obey_clock(board, state, session, count, memory, buffer, out);
+        return obey_clock(rt, board, state, session, count, memory, buffer, out);
     }
-    obey_take(board, state, session, out)
+    obey_take(rt, board, state, session, out)
 }
 
 // The wait is that of the board as it was read, on which every master has a share line.
-fn obey_wait(session: Session, c: Command, text: &[u8], out: &mut [u8; ROOM]) -> Session {
+fn obey_wait(
+    rt: &HostRuntime,
+    session: Session,
+    c: Command,
+    text: &[u8],
+    out: &mut [u8; ROOM],
+) -> Session {
     let mut board = [0u32; BOARD_NUMBERS];
     description::read(text, &mut board);
     let q = wait::quote_of(
@@ -183,12 +196,13 @@ fn obey_wait(session: Session, c: Command, text: &[u8], out: &mut [u8; ROOM]) ->
         program_script::number_at(c, 1),
     );
     let numbers = [q.number as u64, q.wait, q.serve];
-    let printed = program_lines::put_line(b"simulate", &mut *out, session, b"wait", &numbers);
-    program_answers::call(&*out, printed, q.number, 0)
+    let printed = program_lines::put_line(rt, b"simulate", &mut *out, session, b"wait", &numbers);
+    program_answers::call(rt, &*out, printed, q.number, 0)
 }
 
 // A fill or a show of lent bytes.
 fn touch(
+    rt: &HostRuntime,
     session: Session,
     c: Command,
     line: &[u8],
@@ -211,11 +225,12 @@ fn touch(
         );
         return session;
     }
-    program_lines::put_hex(b"simulate", out, session, &lent[start..end])
+    program_lines::put_hex(rt, b"simulate", out, session, &lent[start..end])
 }
 
 // Every line but lend, on the bytes that are lent.
 fn obey_command(
+    rt: &HostRuntime,
     board: &mut [u32; BOARD_NUMBERS],
     state: &mut [u32; STATE_NUMBERS],
     session: Session,
@@ -231,16 +246,16 @@ fn obey_command(
         return session;
     }
     if c.kind <= program_script::TAKE {
-        return obey_call(board, state, session, c, line, memory, buffer, out);
+        return obey_call(rt, board, state, session, c, line, memory, buffer, out);
     }
     if c.kind == program_script::STATE {
-        return program_answers::put_state(out, session, state);
+        return program_answers::put_state(rt, out, session, state);
     }
     if c.kind == program_script::WAIT {
-        return obey_wait(session, c, text, out);
+        return obey_wait(rt, session, c, text, out);
     }
     let lent = program_script::either(program_script::value_at(c, 0) == 0, memory, buffer);
-    touch(session, c, line, lent, out)
+    touch(rt, session, c, line, lent, out)
 }
 
 // How much is lent from now on: a line that asks for more than can be lent ends the session.
@@ -256,6 +271,7 @@ fn obey_lend(at: Progress, c: Command, words: &mut [u8], longer: &mut [u8]) -> P
 
 // The line that was found in the input, if there is one.
 fn obey_line(
+    rt: &HostRuntime,
     board: &mut [u32; BOARD_NUMBERS],
     state: &mut [u32; STATE_NUMBERS],
     at: Progress,
@@ -284,7 +300,7 @@ fn obey_line(
     let all = program_script::either(lending.buffer_lent <= BUFFER_BYTES, words, longer);
     let buffer = program_lines::lent(lending.buffer_lent, all);
     let lent = program_lines::lent(lending.memory_lent, memory);
-    next.session = obey_command(board, state, session, c, line, text, lent, buffer, out);
+    next.session = obey_command(rt, board, state, session, c, line, text, lent, buffer, out);
     next
 }
 
@@ -292,7 +308,7 @@ fn obey_line(
 // BYTES_OVER more, so that a length over the exact one can be lent. Of the buffer, zero bytes of the exact length are what is
 // lent; a longer length is lent from `longer`, see program_script::lend. Nothing says that a script ends, so the passes are
 // counted down, from a number that no script uses up.
-pub fn obey_script(text: &[u8], board: &mut [u32; BOARD_NUMBERS]) {
+pub fn obey_script(rt: &HostRuntime, text: &[u8], board: &mut [u32; BOARD_NUMBERS]) {
     let mut memory = [0u8; MEMORY_ROOM];
     let mut words: [u8; BUFFER_BYTES] = [0; 4096];
     let mut longer = [0u8; BUFFER_ROOM];
@@ -303,8 +319,9 @@ pub fn obey_script(text: &[u8], board: &mut [u32; BOARD_NUMBERS]) {
     let mut passes = u64::MAX;
     while 0 < passes {
         passes -= 1;
-        at.session = program_lines::next_line(b"simulate", &mut input, &out, at.session);
+        at.session = program_lines::next_line(rt, b"simulate", &mut input, &out, at.session);
         at = obey_line(
+            rt,
             &mut *board,
             &mut state,
             at,
@@ -319,5 +336,5 @@ pub fn obey_script(text: &[u8], board: &mut [u32; BOARD_NUMBERS]) {
             break;
         }
     }
-    program_answers::finish(&mut out, at.session);
+    program_answers::finish(rt, &mut out, at.session);
 }

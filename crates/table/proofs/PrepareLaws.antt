@@ -7,6 +7,7 @@ use mathlib.Core.Path.{◌≡◌, refl, ap, sym, subst, ◌∙◌}
 use Prim.Native.Nat.{ℕ, ◌<◌}
 use native.Mathlib.Omega.{arith}
 use lib.ListN.{length, take}
+use lib.IntN.{ℤ}
 use Rattle.program_streams.specs.declared.Got.{Got}
 use Rattle.program_streams.specs.Reading.{gathered, Standing, ended, broken, going, standing, Marks, Gathered}
 use Rattle.description.specs.Reader.{most_bytes}
@@ -22,8 +23,8 @@ module _ {text : List ℕ} {g : Got} (x : Gathered text g) where
       true≢false (sym bad ∙ k.1)
 
   -- nothing is claimed of the page after a read that failed
-  pub none_made : g.failed ≡ true → {page : List ℕ} → Reads text page (record { read = g.end; length = 0; failed = true })
-  none_made bad = record {
+  pub none_made : g.failed ≡ true → {page : List ℕ} (k : ℤ) → Reads text page (record { read = g.end; length = 0; failed = true; cause = k })
+  none_made bad k = record {
     answers = x.answers;
     bytes = x.handed;
     whole = λ e. absurd (true≢false e);
@@ -47,9 +48,9 @@ module _ {text : List ℕ} {g : Got} (x : Gathered text g) where
           let full : g.end ≡ length text = rw fine at k.1 in
           inr (omega (arith, x.fits.1, ap length x.handed))
 
-  pub page_made : most_bytes < length text → g.failed ≡ false → {page : List ℕ} {n : ℕ} → Begins (printed (take g.end text)) page n
-      → Reads text page (record { read = g.end; length = n; failed = false })
-  page_made room fine p = record {
+  pub page_made : most_bytes < length text → g.failed ≡ false → {page : List ℕ} {n : ℕ} (k : ℤ) → Begins (printed (take g.end text)) page n
+      → Reads text page (record { read = g.end; length = n; failed = false; cause = k })
+  page_made room fine k p = record {
     answers = x.answers;
     bytes = x.handed;
     whole = λ _. record { all = all_read room fine; front = p.front ∙ ap printed x.handed };

@@ -7,7 +7,6 @@ ghost use Rattle.std.specs.Prelude.{◌+◌, ◌≤◌, length};
 
 use common_numbers::{BOARD_NUMBERS, TEXT_ROOM};
 use common_text::Number;
-use libc::STDIN_FILENO;
 
 // What is still to be taken of a piece of the input: its bytes from `at` up to `end`. Whether no further piece is to be read,
 // since the input has ended or cannot be read.
@@ -49,16 +48,16 @@ struct Progress {
 }
 
 // The input with a byte to take, or with none where it ends: a piece that is used up gives way to the next.
-fn refill(piece: &mut [u8], input: Input) -> Input
+fn refill(rt: &HostRuntime, piece: &mut [u8], input: Input) -> Input
     requires { input.end ≤ length piece.old }
     ensures { result.end ≤ length piece.new }
 {
     if input.last | (input.at < input.end) {
         return input;
     }
-    let got = program_streams::read_all(STDIN_FILENO, &mut *piece);
+    let got = program_streams::read_all(rt, &mut rt.stdin(), &mut *piece);
     if got.failed {
-        program_streams::report(b"texts", b"standard input");
+        program_streams::report(rt, b"texts", b"standard input", got.cause);
         return Input {
             at: 0,
             end: 0,
@@ -76,7 +75,7 @@ fn refill(piece: &mut [u8], input: Input) -> Input
 const HEAD_BYTES: usize = 11;
 
 // Takes the line of a record's length. One that the input ends in is no length.
-fn take_head(piece: &mut [u8], first: Input) -> Head
+fn take_head(rt: &HostRuntime, piece: &mut [u8], first: Input) -> Head
     requires { first.end ≤ length piece.old }
     ensures { result.input.end ≤ length piece.new }
 {
@@ -84,7 +83,7 @@ fn take_head(piece: &mut [u8], first: Input) -> Head
     let mut kept: usize = 0;
     let mut input = first;
     while kept < HEAD_BYTES {
-        input = refill(&mut *piece, input);
+        input = refill(rt, &mut *piece, input);
         let at = input.at;
         let end = input.end;
         if end <= at {
@@ -119,7 +118,7 @@ fn keep(into: &mut [u8], kept: usize, byte: u8) -> usize
 }
 
 // Takes a text of `size` bytes and keeps the first of them, as many as there is room for.
-fn take_body(piece: &mut [u8], first: Input, size: u64, into: &mut [u8]) -> Body
+fn take_body(rt: &HostRuntime, piece: &mut [u8], first: Input, size: u64, into: &mut [u8]) -> Body
     requires { first.end ≤ length piece.old }
     ensures { (result.input.end ≤ length piece.new) × (result.kept ≤ length into.new) }
 {
@@ -127,7 +126,7 @@ fn take_body(piece: &mut [u8], first: Input, size: u64, into: &mut [u8]) -> Body
     let mut kept: usize = 0;
     let mut left = size;
     while left > 0 {
-        input = refill(&mut *piece, input);
+        input = refill(rt, &mut *piece, input);
         let at = input.at;
         let end = input.end;
         if end <= at {
@@ -152,7 +151,7 @@ fn take_body(piece: &mut [u8], first: Input, size: u64, into: &mut [u8]) -> Body
 const ANSWER_ROOM: usize = 8300;
 
 // Writes the output that is filled, where an answer might find no room behind it.
-fn make_room(out: &[u8], filled: usize) -> Room
+fn make_room(rt: &HostRuntime, out: &[u8], filled: usize) -> Room
     requires in_bounds { 8300 ≤ length out.now }
     requires filled_in_bounds { filled ≤ length out.now }
     ensures { result.at + 8300 ≤ length out.now }
@@ -163,7 +162,7 @@ fn make_room(out: &[u8], filled: usize) -> Room
             at: filled,
         };
     }
-    let printed = program_options::print(b"texts", &out[..filled]);
+    let printed = program_options::print(rt, b"texts", &out[..filled]);
     Room {
         made: printed,
         at: 0,
@@ -187,27 +186,33 @@ fn put_answer(out: &mut [u8], at: usize, record: &[u8]) -> usize
 }
 
 // One record and its answer. `record` is where its text is kept.
-fn answer_record(piece: &mut [u8], record: &mut [u8], out: &mut [u8], p: Progress) -> Progress
+fn answer_record(
+    rt: &HostRuntime,
+    piece: &mut [u8],
+    record: &mut [u8],
+    out: &mut [u8],
+    p: Progress,
+) -> Progress
     requires in_bounds { 8300 ≤ length out.old }
     requires end_in_bounds { (p.input.end ≤ length piece.old) × (p.filled ≤ length out.old) }
     ensures { (result.input.end ≤ length piece.new) × (result.filled ≤ length out.new) }
 {
     let mut next = p;
     next.going = false;
-    let head = take_head(&mut *piece, p.input);
+    let head = take_head(rt, &mut *piece, p.input);
     let behind_head = head.input;
     next.input = behind_head;
     let length = head.length;
     let Number::Value(size) = length else {
         return next;
     };
-    let body = take_body(&mut *piece, behind_head, size, &mut *record);
+    let body = take_body(rt, &mut *piece, behind_head, size, &mut *record);
     let behind_body = body.input;
     next.input = behind_body;
     if !body.whole {
         return next;
     }
-    let room = make_room(&*out, p.filled);
+    let room = make_room(rt, &*out, p.filled);
     next.filled = room.at;
     if !room.made {
         return next;
@@ -220,7 +225,7 @@ fn answer_record(piece: &mut [u8], record: &mut [u8], out: &mut [u8], p: Progres
 
 // Answers every record, up to the input's end. Nothing says that an input ends, so the passes are counted down from a number
 // that no input uses up. The answer is how many bytes of the output are filled.
-fn answer_records(piece: &mut [u8], record: &mut [u8], out: &mut [u8]) -> usize
+fn answer_records(rt: &HostRuntime, piece: &mut [u8], record: &mut [u8], out: &mut [u8]) -> usize
     requires { 8300 ≤ length out.old }
     ensures { result ≤ length out.new }
 {
@@ -235,7 +240,7 @@ fn answer_records(piece: &mut [u8], record: &mut [u8], out: &mut [u8]) -> usize
     };
     let mut passes = u64::MAX;
     while passes > 0 {
-        p = answer_record(&mut *piece, &mut *record, &mut *out, p);
+        p = answer_record(rt, &mut *piece, &mut *record, &mut *out, p);
         if !p.going {
             return p.filled;
         }
@@ -245,10 +250,10 @@ fn answer_records(piece: &mut [u8], record: &mut [u8], out: &mut [u8]) -> usize
 }
 
 // Of a record one byte more is kept than a description may have, so that a longer one is refused by its length.
-fn main() {
+fn main(rt: HostRuntime) {
     let mut piece = io::large_buffer();
     let mut record = [0u8; TEXT_ROOM];
     let mut out = io::large_buffer();
-    let filled = answer_records(&mut piece, &mut record, &mut out);
-    program_options::print(b"texts", &out[..filled]);
+    let filled = answer_records(&rt, &mut piece, &mut record, &mut out);
+    program_options::print(&rt, b"texts", &out[..filled]);
 }

@@ -3,7 +3,7 @@
 
 use common_numbers::{BOARD_NUMBERS, BUFFER_BYTES, LINES_NUMBERS, MASTERS, STATE_NUMBERS};
 
-fn main() {
+fn main(rt: HostRuntime) {
     let text = b"master,4,8\nslave,4096,4096,4,8,0,0,0,0\nshare,0,0,1\n";
     let mut board = [0u32; BOARD_NUMBERS];
     let mut state = [0u32; STATE_NUMBERS];
@@ -24,6 +24,6 @@ fn main() {
         1000,
     );
     if ran.mask == 1 {
-        io::write_all(1, b"finished\n");
+        let _ = rt.write_all(b"finished\n");
     }
 }

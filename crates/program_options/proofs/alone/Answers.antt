@@ -1,5 +1,3 @@
--- `program_options::alone` meets its contract: by the count of the words.
--- Assumes nothing.
 use Rattle.program_options.proofs.ModeLaws.{option_alone, option_beside}
 use Rattle.program_options.proofs.alone.Goals as goal
 

@@ -1,5 +1,3 @@
--- `program_options::mode_by` meets its contract: option by option.
--- Assumes nothing.
 use Rattle.program_options.specs.Options.{mode_by}
 use Rattle.program_options.proofs.mode_by.Goals as goal
 

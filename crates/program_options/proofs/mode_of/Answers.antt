@@ -1,5 +1,3 @@
--- `program_options::mode_of` meets its contract: the first word is an option, or an operand.
--- Assumes nothing.
 use Rattle.program_options.proofs.ModeLaws.{first_option, first_operand}
 use Rattle.program_options.proofs.mode_of.Goals as goal
 

@@ -1,5 +1,3 @@
--- `program_options::operands_from` meets its contract: as many operands as are taken, others, or too few words.
--- Assumes nothing.
 use Rattle.program_options.proofs.ModeLaws.{operands_some, operands_others, operands_lack}
 use Rattle.program_options.proofs.operands_from.Goals as goal
 

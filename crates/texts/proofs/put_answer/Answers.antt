@@ -30,6 +30,9 @@ returns-then-number-ne0 c =
 pub slice_bounds-write-count : goal.slice_bounds-write-count
 slice_bounds-write-count c = line_end (goal.at.slice_bounds-write-count c).After-put_line-next
 
+pub slice_bounds-write-start : goal.slice_bounds-write-start
+slice_bounds-write-start c = line_end (goal.at.slice_bounds-write-start c).After-put_line-next
+
 pub returns : goal.returns
 returns c =
     let p = c.put_line-next in

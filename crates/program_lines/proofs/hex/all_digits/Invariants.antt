@@ -1,11 +1,8 @@
--- `program_lines::hex::all_digits` is safe and ends. The loop's invariant: `i` is at most the field's length. Assumes nothing.
-use Rattle.std.proofs.Common.{◌-◌, ◌≤◌, length}
+use Rattle.std.proofs.Common.{length, ◌≤◌, ◌-◌}
 use Rattle.program_lines.proofs.hex.all_digits.Given as goal
 
 abbrev pub invariant-loop-i : goal.invariant-loop-i
-invariant-loop-i l =
-    l.i ≤ length l.field
+invariant-loop-i l = l.i ≤ length l.field
 
 abbrev pub decreases-loop-i : goal.decreases-loop-i
-decreases-loop-i l =
-    length l.field - l.i
+decreases-loop-i l = length l.field - l.i

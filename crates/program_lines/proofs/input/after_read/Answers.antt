@@ -7,8 +7,7 @@ pub returns-then-got-2 : goal.returns-then-got-2
 returns-then-got-2 c = (λ failed. absurd (subst T (sym failed ∙ c.if-got.false) tt), λ _. c.text_end.ensures)
 
 pub returns-then-end-kept : goal.returns-then-end-kept
-returns-then-end-kept c =
-    (
+returns-then-end-kept c = (
   λ failed. absurd (subst T (sym failed ∙ c.if-got.false) tt),
   λ ended. absurd (subst T (sym ended ∙ c.if-got-2.false) tt),
 )

@@ -1,11 +1,8 @@
--- `program_lines::output::put_bytes` is safe and ends. Assumes nothing.
-use Rattle.std.proofs.Common.{◌-◌, ◌≤◌, length}
+use Rattle.std.proofs.Common.{length, ◌≤◌, ◌-◌}
 use Rattle.program_lines.proofs.output.put_bytes.Given as goal
 
 abbrev pub invariant-loop-i : goal.invariant-loop-i
-invariant-loop-i l =
-    l.i ≤ length l.bytes
+invariant-loop-i l = l.i ≤ length l.bytes
 
 abbrev pub decreases-loop-i : goal.decreases-loop-i
-decreases-loop-i l =
-    length l.bytes - l.i
+decreases-loop-i l = length l.bytes - l.i
