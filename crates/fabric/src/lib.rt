@@ -162,8 +162,8 @@ pub fn clock(
 ) -> Answer
     ensures { Clocks (board_in board.now) state.old state.new responses.new
         lines.new
-        (record { memory = memory.entry.now; buffer = buffer.old })
-        (record { memory = memory.exit.now; buffer = buffer.new })
+        (record { memory = memory.old; buffer = buffer.old })
+        (record { memory = memory.new; buffer = buffer.new })
         result.number result.mask }
 {
     let mut holders = [0u32; SLAVES];
@@ -210,8 +210,8 @@ pub fn run(
 ) -> Ran
     ensures { Runs (board_in board.now) most state.old state.new responses.new
         lines.new
-        (record { memory = memory.entry.now; buffer = buffer.old })
-        (record { memory = memory.exit.now; buffer = buffer.new })
+        (record { memory = memory.old; buffer = buffer.old })
+        (record { memory = memory.new; buffer = buffer.new })
         result.number result.clocks result.mask }
 {
     let mut holders = [0u32; SLAVES];

@@ -54,7 +54,7 @@ pub fn begin(
 ) -> Begun
     requires { holders.old ≡ replicate 16 0 }
     ensures { Beginning (board_in board.now) (state_in state.now)
-        (record { memory = memory.entry.now; buffer = buffer.now }) holders.new result }
+        (record { memory = memory.now; buffer = buffer.now }) holders.new result }
 {
     let mut targets = [0u32; MASTERS];
     let checked = fabric_check::ready(board, state, &mut targets);

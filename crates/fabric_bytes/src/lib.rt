@@ -147,8 +147,8 @@ pub fn carry_access(
     buffer: &mut [u8],
 )
     requires { Reached ma sl t m start a (record { memory = memory.now; buffer = buffer.old }) }
-    ensures { record { memory = memory.exit.now; buffer = buffer.new }
-        ≡ carried_access ma sl t m start a (record { memory = memory.entry.now; buffer = buffer.old }) }
+    ensures { record { memory = memory.new; buffer = buffer.new }
+        ≡ carried_access ma sl t m start a (record { memory = memory.old; buffer = buffer.old }) }
 {
     let at = start + (fabric_accesses::access_offset(ma, sl, t, a) as usize);
     let from = fabric_accesses::first_byte(ma, sl, a);

@@ -110,8 +110,8 @@ pub extern "C" fn fabric_clock(
 ) -> u32
     ensures { Clocks (board_in board.now) state.old state.new responses.new
         lines.new
-        (record { memory = memory.entry.now; buffer = buffer.old })
-        (record { memory = memory.exit.now; buffer = buffer.new })
+        (record { memory = memory.old; buffer = buffer.old })
+        (record { memory = memory.new; buffer = buffer.new })
         result (get_or mask.new 0 0) }
 {
     description_layout::count(mask);
@@ -135,8 +135,8 @@ pub extern "C" fn fabric_run(
 ) -> u32
     ensures { Runs (board_in board.now) most state.old state.new responses.new
         lines.new
-        (record { memory = memory.entry.now; buffer = buffer.old })
-        (record { memory = memory.exit.now; buffer = buffer.new })
+        (record { memory = memory.old; buffer = buffer.old })
+        (record { memory = memory.new; buffer = buffer.new })
         result (get_or clocks.new 0 0) (get_or mask.new 0 0) }
 {
     description_layout::count(clocks);

@@ -116,8 +116,8 @@ fn serve_at(
     ensures { SlaveClocked (board_in board.now) (state_in st.old)
         (state_in st.new) s slot start
         (lines_in lines.old) (lines_in lines.new) result
-        (record { memory = memory.entry.now; buffer = buffer.old })
-        (record { memory = memory.exit.now; buffer = buffer.new }) × Marks st.old st.new }
+        (record { memory = memory.old; buffer = buffer.old })
+        (record { memory = memory.new; buffer = buffer.new }) × Marks st.old st.new }
 {
     let o = slot.owner as usize;
     let ma = description_layout::master_at(board, o);
@@ -150,8 +150,8 @@ fn clock_slave(
     ensures { SlaveClocked (board_in board.now) (state_in st.old) (state_in st.new) s
         (slot_asked (board_in board.now) (state_in st.old) s mask) start
         (lines_in lines.old) (lines_in lines.new) result
-        (record { memory = memory.entry.now; buffer = buffer.old })
-        (record { memory = memory.exit.now; buffer = buffer.new }) × Marks st.old st.new }
+        (record { memory = memory.old; buffer = buffer.old })
+        (record { memory = memory.new; buffer = buffer.new }) × Marks st.old st.new }
 {
     let slot = fabric_grant::slot_asked(board, st, s, mask);
     if slot.serving {
@@ -179,8 +179,8 @@ fn act(
         × (holders.now ≡ table (request_mask (targets_in (board_in board.now) (state_in st.old).transfers)) 16)
         × (length memory.old ≡ memory_length (board_in board.now)) × (length buffer.old ≡ buffer_length) }
     ensures { Acted (board_in board.now) (state_in st.old) (state_in st.new)
-        (lines_in lines.new) result (record { memory = memory.entry.now; buffer = buffer.old })
-        (record { memory = memory.exit.now; buffer = buffer.new }) × Marks st.old st.new }
+        (lines_in lines.new) result (record { memory = memory.old; buffer = buffer.old })
+        (record { memory = memory.new; buffer = buffer.new }) × Marks st.old st.new }
 {
     let count = description_layout::slave_count(board) as usize;
     let latent = pass_latency(st);
@@ -280,8 +280,8 @@ pub fn cycle(
         × (unmapped ≡ unmapped_mask (board_in board.now) (state_in st.old))
         × (length memory.old ≡ memory_length (board_in board.now)) × (length buffer.old ≡ buffer_length) }
     ensures { Clocks (board_in board.now) (state_in st.old) (state_in st.new)
-        (lines_in lines.new) result (record { memory = memory.entry.now; buffer = buffer.old })
-        (record { memory = memory.exit.now; buffer = buffer.new }) × Marks st.old st.new }
+        (lines_in lines.new) result (record { memory = memory.old; buffer = buffer.old })
+        (record { memory = memory.new; buffer = buffer.new }) × Marks st.old st.new }
 {
     let completed = act(board, st, holders, lines, memory, buffer);
     if unmapped == 0 {

@@ -88,8 +88,8 @@ fn carry_from(
 )
     requires { (waiting ≡ waits sl t slot) × (slot.serving ≡ true) × (a ≡ access_number ma sl t slot.done)
         × Reached ma sl t slot.owner start a (record { memory = memory.now; buffer = buffer.old }) }
-    ensures { record { memory = memory.exit.now; buffer = buffer.new }
-        ≡ carried_from ma sl t slot start (record { memory = memory.entry.now; buffer = buffer.old }) }
+    ensures { record { memory = memory.new; buffer = buffer.new }
+        ≡ carried_from ma sl t slot start (record { memory = memory.old; buffer = buffer.old }) }
 {
     if waiting {
         return;
@@ -110,8 +110,8 @@ pub fn serve(
     buffer: &mut [u8],
 ) -> Step
     requires { Serves ma sl t slot start (record { memory = memory.now; buffer = buffer.old }) }
-    ensures { Served ma sl t slot start (record { memory = memory.entry.now; buffer = buffer.old })
-        (record { memory = memory.exit.now; buffer = buffer.new }) result }
+    ensures { Served ma sl t slot start (record { memory = memory.old; buffer = buffer.old })
+        (record { memory = memory.new; buffer = buffer.new }) result }
 {
     let total = fabric_accesses::accesses(ma, sl, t);
     let a = fabric_accesses::access_number(ma, sl, t, slot.done);
