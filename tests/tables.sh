@@ -457,7 +457,10 @@ if [ "$(id -u)" -ne 0 ]; then
 fi
 
 # Names are printed as they are given, with a path in front or without one. At first no such file is there, then all are boards
-# that are taken, and then all are refused.
+# that are taken, and then all are refused. A name that is no text is printed as it is too; no file can be opened by it.
+no_text() {
+    [ "$1" = "$(printf 'a\351.txt')" ] || [ "$1" = "$(printf '\377\376')" ]
+}
 try ./document01.txt folder/../encoder.txt "$PWD/base.txt" .//./unshared.txt "$PWD/absent.txt" ../boards/folder document01.txt
 # shellcheck disable=SC1003,SC2016
 set -- 'a b.txt' ' ' ' lead' 'trail ' a,b.txt ',' 'file,x' "it's" 'a"b' '%s%d%n.txt' 'a\n.txt' 'a\' 'a*' '$x' '#' '~' : 'x:' '=' \
@@ -465,6 +468,7 @@ set -- 'a b.txt' ' ' ' lead' 'trail ' a,b.txt ',' 'file,x' "it's" 'a"b' '%s%d%n.
     "$(printf '\303\204')" "$(printf '%0254d' 0)" "$(printf '%0255d' 0)" - -- -x.txt -h --help --version ---
 for name in "$@"; do
     fails "$name" 'No such file or directory'
+    ! no_text "$name" || fails "$name" 'Invalid or incomplete multibyte or wide character'
     set -- "$@" "./$name" "$PWD/$name"
 done
 try_behind "$@"
@@ -473,7 +477,7 @@ for board in encoder.txt narrow.txt; do
     for name in "$@"; do
         case $name in
         */*) ;;
-        *) board "$name" "$text\n" "$page" "$said" ;;
+        *) no_text "$name" || board "$name" "$text\n" "$page" "$said" ;;
         esac
     done
     try_behind "$@"
