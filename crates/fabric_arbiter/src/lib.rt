@@ -98,6 +98,7 @@ pub fn winner_of(n: u32, requests: u32, a: Arbiter) -> Winner
 }
 
 // With two or more beats no grant remains (rule 4.6).
+#[tactic(auto, unfolding(crate::specs::Granting::kept))]
 fn kept(beats: u32, remaining: u32) -> u32
     ensures { result ≡ kept beats remaining }
 {

@@ -146,7 +146,7 @@ pub fn carry_access(
     memory: &mut [u8],
     buffer: &mut [u8],
 )
-    requires { Reached ma sl t m start a (record { memory = memory.now; buffer = buffer.old }) }
+    requires { Reached ma sl t m start a (record { memory = memory.old; buffer = buffer.old }) }
     ensures { record { memory = memory.new; buffer = buffer.new }
         ≡ carried_access ma sl t m start a (record { memory = memory.old; buffer = buffer.old }) }
 {

@@ -112,7 +112,7 @@ fn serve_at(
     buffer: &mut [u8],
 ) -> u32
     requires { Serving (board_in board.now) (state_in st.old) s slot start
-        (record { memory = memory.now; buffer = buffer.old }) }
+        (record { memory = memory.old; buffer = buffer.old }) }
     ensures { SlaveClocked (board_in board.now) (state_in st.old)
         (state_in st.new) s slot start
         (lines_in lines.old) (lines_in lines.new) result
@@ -146,7 +146,7 @@ fn clock_slave(
     buffer: &mut [u8],
 ) -> u32
     requires { Ready (board_in board.now) (state_in st.old) s mask start
-        (record { memory = memory.now; buffer = buffer.old }) }
+        (record { memory = memory.old; buffer = buffer.old }) }
     ensures { SlaveClocked (board_in board.now) (state_in st.old) (state_in st.new) s
         (slot_asked (board_in board.now) (state_in st.old) s mask) start
         (lines_in lines.old) (lines_in lines.new) result

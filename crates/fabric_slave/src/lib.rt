@@ -87,7 +87,7 @@ fn carry_from(
     buffer: &mut [u8],
 )
     requires { (waiting ≡ waits sl t slot) × (slot.serving ≡ true) × (a ≡ access_number ma sl t slot.done)
-        × Reached ma sl t slot.owner start a (record { memory = memory.now; buffer = buffer.old }) }
+        × Reached ma sl t slot.owner start a (record { memory = memory.old; buffer = buffer.old }) }
     ensures { record { memory = memory.new; buffer = buffer.new }
         ≡ carried_from ma sl t slot start (record { memory = memory.old; buffer = buffer.old }) }
 {
@@ -109,7 +109,7 @@ pub fn serve(
     memory: &mut [u8],
     buffer: &mut [u8],
 ) -> Step
-    requires { Serves ma sl t slot start (record { memory = memory.now; buffer = buffer.old }) }
+    requires { Serves ma sl t slot start (record { memory = memory.old; buffer = buffer.old }) }
     ensures { Served ma sl t slot start (record { memory = memory.old; buffer = buffer.old })
         (record { memory = memory.new; buffer = buffer.new }) result }
 {
