@@ -1,38 +1,42 @@
 -- What the tests of a call's error, which the code makes, say of `judged`, and how far a call reaches.
 -- Assumes nothing.
-use Rattle.std.proofs.Common.{Bool, true, false, cond, List, ◌≡◌, refl, sym, ◌∙◌, ℕ, zero, suc, ◌+◌, ◌-◌, ◌≤◌, arith, length, take, drop, Result, Ok, Err}
-use Rattle.std.specs.IoError.{error_kind}
+use Rattle.std.proofs.Common.{Bool, true, false, cond, List, ◌≡◌, refl, sym, ◌∙◌, ℕ, zero, suc, ◌+◌, ◌-◌, ◌≤◌, arith, length, take, drop, Result, Ok, Err, ◌<◌, ◌^◌, ℤ}
+use lib.IntN.{pos, negsuc}
+use lib.Signed.{mag}
+use mir.Syntax.{w32}
+use mir.Val.{of_z}
+use borrow.Author.Tests.{eq-eqb, ne_eqb}
 use Rattle.std.specs.Io.{WritesAtMost}
 use Rattle.std.specs.declared.io.Error.{Error}
-use Rattle.std.specs.declared.io.ErrorKind.{ErrorKind}
-use Rattle.std.specs.declared.io.ErrorKind.TheVariants.{Interrupted, WouldBlock}
 use Rattle.common_laws.proofs.TextLists.{part_rest_length}
-use Rattle.program_streams.specs.Calls.{interrupted, unready, judged, judged_count, judged_error, Call}
+use Rattle.program_streams.specs.Calls.{interrupted, unready, is, number_of, judged, judged_count, judged_error, Call}
 use Rattle.program_streams.specs.declared.Told.{Told}
 use Rattle.program_streams.specs.declared.Told.TheVariants.{Bytes, Nothing, Again, Later, Failed}
 
-pub interrupted_not : (k : ErrorKind) → (k ≡ Interrupted → ⊥) → interrupted k ≡ false
-unfolding interrupted
-interrupted_not Interrupted h = absurd (h refl)
-interrupted_not _ h = refl
+-- the number's bits are those of n
+is_yes : (n : ℕ) (number : ℤ) → mag number < 2 ^ 31 → n < 2 ^ 31 → of_z w32 number ≡ n → is n number ≡ true
+unfolding is
+is_yes n (pos k) f h e = eq-eqb k n e
+is_yes n (negsuc k) f h e = absurd (omega arith)
 
-pub unready_not : (k : ErrorKind) → (k ≡ WouldBlock → ⊥) → unready k ≡ false
-unfolding unready
-unready_not WouldBlock h = absurd (h refl)
-unready_not _ h = refl
+is_no : (n : ℕ) (number : ℤ) → (of_z w32 number ≡ n → ⊥) → is n number ≡ false
+unfolding is
+is_no n (pos k) e = ne_eqb k n e
+is_no n (negsuc k) e = refl
 
-pub told_again : (e : Error) → error_kind e ≡ Interrupted → Again ≡ judged_error e
-unfolding judged_error interrupted
-told_again e h = rw h refl
+-- the tests of an error's number, as the code makes them
+module _ (e : Error) (number : ℤ) (x : number ≡ number_of e) (f : mag number < 2 ^ 31) where
+  pub told_again : of_z w32 number ≡ interrupted → Again ≡ judged_error e
+  unfolding judged_error
+  told_again a = rw (← x, is_yes interrupted number f (omega arith) a)
 
-pub told_later : (e : Error) → error_kind e ≡ WouldBlock → Later ≡ judged_error e
-unfolding judged_error interrupted unready
-told_later e h = rw h refl
+  pub told_later : (of_z w32 number ≡ interrupted → ⊥) → of_z w32 number ≡ unready → Later ≡ judged_error e
+  unfolding judged_error
+  told_later a b = rw (← x, is_no interrupted number a, is_yes unready number f (omega arith) b)
 
-pub told_failed :
-    (e : Error) → (error_kind e ≡ Interrupted → ⊥) → (error_kind e ≡ WouldBlock → ⊥) → Failed e ≡ judged_error e
-unfolding judged_error
-told_failed e a b = rw (interrupted_not (error_kind e) a, unready_not (error_kind e) b) refl
+  pub told_failed : (of_z w32 number ≡ interrupted → ⊥) → (of_z w32 number ≡ unready → ⊥) → Failed e ≡ judged_error e
+  unfolding judged_error
+  told_failed a b = rw (← x, is_no interrupted number a, is_no unready number b)
 
 pub told_nothing : (n : ℕ) → n ≡ 0 → Nothing ≡ judged_count n
 unfolding judged_count
@@ -49,7 +53,7 @@ moved_within : (bytes : List ℕ) (n : ℕ) (went : Result ℕ Error) → Writes
 unfolding judged judged_count judged_error
 moved_within bytes n (Ok zero) m h = absurd (cc)
 moved_within bytes n (Ok (suc k)) m h = let e : n ≡ suc k = cc in omega arith
-moved_within bytes n (Err error) m h = go (interrupted (error_kind error)) (unready (error_kind error)) h
+moved_within bytes n (Err error) m h = go (is interrupted (number_of error)) (is unready (number_of error)) h
   where
     go : (t u : Bool) → Bytes n ≡ cond t Again (cond u Later (Failed error)) → n ≤ length bytes
     go true u h = absurd (cc)

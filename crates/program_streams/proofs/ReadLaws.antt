@@ -4,11 +4,10 @@ use Rattle.std.proofs.Common.{Bool, true, false, cond, ◌||◌, List, [], ◌�
 use Rattle.std.proofs.lemmas.List.{take-append-le}
 use lib.Seq.{take-append-add}
 use borrow.Rule.Slice.PartMut.{put_mid, same_len_mid}
-use Rattle.std.specs.IoError.{error_kind}
 use Rattle.std.specs.Io.{WritesAtMost}
 use Rattle.std.specs.declared.io.Error.{Error}
 use Rattle.common_laws.proofs.TextLists.{part_rest_length}
-use Rattle.program_streams.specs.Calls.{interrupted, unready, retried, judged, judged_count, judged_error, Call}
+use Rattle.program_streams.specs.Calls.{interrupted, unready, is, number_of, retried, judged, judged_count, judged_error, Call}
 use Rattle.program_streams.specs.Reading.{Answer, gave, failed, given, gathered, Standing, ended, broken, going, standing, Lent, outcome_of, most_reads, Marks, Gathered}
 use Rattle.program_streams.specs.declared.Got.{Got}
 use Rattle.program_streams.specs.declared.Told.{Told}
@@ -107,7 +106,7 @@ behind end (Failed error) = end
 -- a read's answer, by what it left in the room that it was lent
 unfoldable answered : Result ℕ Error → List ℕ → Answer
 answered (Ok n) room = gave (take n room)
-answered (Err error) room = failed error
+answered (Err error) room = failed (number_of error)
 
 -- r tells of the answer a of a read into a room
 record Tells (room : List ℕ) (a : Answer) (end : ℕ) (r : Told) : Type 0 where
@@ -132,8 +131,8 @@ tells_of (b ∷ room) end (Ok (suc n)) m =
     }
 tells_of room end (Err error) m =
     record {
-      stand = stand (interrupted (error_kind error)) (unready (error_kind error));
-      count = count (interrupted (error_kind error)) (unready (error_kind error));
+      stand = stand (is interrupted (number_of error)) (is unready (number_of error));
+      count = count (is interrupted (number_of error)) (is unready (number_of error));
       front = refl;
       fits = omega arith;
     }

@@ -1,31 +1,40 @@
 -- What one call of read or write did, by its answer.
 -- Assumes nothing.
-use Rattle.std.specs.Prelude.{Bool, true, false, cond, ◌||◌, List, ◌≡◌, ℕ, zero, suc, ℤ, pos, Option, None, Some, Result, Ok, Err}
+use Rattle.std.specs.Prelude.{Bool, false, cond, ◌||◌, List, ◌≡◌, ℕ, zero, suc, eqb, ℤ, pos, negsuc, Option, None, Some, Result, Ok, Err}
 use Rattle.std.specs.Io.{WritesAtMost}
-use Rattle.std.specs.IoError.{error_kind, raw_os_error}
+use Rattle.std.specs.IoError.{raw_os_error}
 use Rattle.std.specs.declared.io.Error.{Error}
-use Rattle.std.specs.declared.io.ErrorKind.{ErrorKind}
-use Rattle.std.specs.declared.io.ErrorKind.TheVariants.{Interrupted, WouldBlock}
 use Rattle.program_streams.specs.declared.Told.{Told}
 use Rattle.program_streams.specs.declared.Told.TheVariants.{Bytes, Nothing, Again, Later, Failed}
 
--- a signal came before a byte was moved
-unfoldable pub interrupted : ErrorKind → Bool
-interrupted Interrupted = true
-interrupted _ = false
+unfoldable pub number_or_zero : Option ℤ → ℤ
+number_or_zero (Some number) = number
+number_or_zero None = pos 0
 
--- the call would have to wait, and the stream says that it is not to
-unfoldable pub unready : ErrorKind → Bool
-unready WouldBlock = true
-unready _ = false
+-- the operating system's number of an error, 0 where it has none
+unfoldable pub number_of : Error → ℤ
+number_of error = number_or_zero (raw_os_error error)
+
+-- EINTR: a signal came before a byte was moved
+abbrev pub interrupted : ℕ
+interrupted = 4
+
+-- EAGAIN: the call would have to wait, and the descriptor says that it is not to
+abbrev pub unready : ℕ
+unready = 11
+
+-- error is the one with the number n
+unfoldable pub is : ℕ → ℤ → Bool
+is n (pos k) = eqb k n
+is n (negsuc k) = false
 
 -- the errors after which a call is tried again
-unfoldable pub retried : Error → Bool
-retried error = interrupted (error_kind error) || unready (error_kind error)
+unfoldable pub retried : ℤ → Bool
+retried error = is interrupted error || is unready error
 
 -- what a call did that failed with an error
 unfoldable pub judged_error : Error → Told
-judged_error error = cond (interrupted (error_kind error)) Again (cond (unready (error_kind error)) Later (Failed error))
+judged_error error = cond (is interrupted (number_of error)) Again (cond (is unready (number_of error)) Later (Failed error))
 
 -- what a call did that moved so many bytes: 0 alone is the end
 unfoldable pub judged_count : ℕ → Told
@@ -36,14 +45,6 @@ judged_count (suc n) = Bytes (suc n)
 unfoldable pub judged : Result ℕ Error → Told
 judged (Ok got) = judged_count got
 judged (Err error) = judged_error error
-
-unfoldable pub number_or_zero : Option ℤ → ℤ
-number_or_zero (Some number) = number
-number_or_zero None = pos 0
-
--- the operating system's number of an error, 0 where it has none
-unfoldable pub number_of : Error → ℤ
-number_of error = number_or_zero (raw_os_error error)
 
 -- r tells of a call that was lent `bytes`. Of its answer nothing is promised but that it moved no more than their number.
 pub record Call (bytes : List ℕ) (r : Told) : Type 0 where

@@ -3,14 +3,13 @@
 -- Assumes nothing.
 use Rattle.std.specs.Prelude.{Bool, true, false, cond, List, [], ◌∷◌, ◌++◌, ◌⊎◌, ◌≡◌, ℕ, ◌-◌, ◌^◌, ◌≤◌, ◌<◌, ℤ, length, take}
 use Rattle.io.specs.Counts.{IsPrefixLen}
-use Rattle.std.specs.declared.io.Error.{Error}
 use Rattle.program_streams.specs.Calls.{retried}
 use Rattle.program_streams.specs.declared.Got.{Got}
 
 -- what one read did: it gave bytes, none at the end of the input, or it failed with an error
 pub data Answer : Type 0 where
   gave : List ℕ → Answer
-  failed : Error → Answer
+  failed : ℤ → Answer
 
 -- the bytes that an answer gave
 unfoldable pub given : Answer → List ℕ

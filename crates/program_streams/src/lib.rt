@@ -43,19 +43,23 @@ pub fn number_of(error: &Error) -> i32
     }
 }
 
+// The operating system's numbers of these two failures: a signal came before a byte was moved, and the call would have to wait.
+const EINTR: i32 = 4;
+
+const EAGAIN: i32 = 11;
+
 // What a call did that failed.
 fn judge_error(error: Error) -> Told
     ensures { result ≡ judged_error error }
 {
-    match error.kind() {
-        ErrorKind::Interrupted => {
-            return Told::Again;
-        }
-        ErrorKind::WouldBlock => {
-            return Told::Later;
-        }
-        _ => Told::Failed(error),
+    let number = number_of(&error);
+    if number == EINTR {
+        return Told::Again;
     }
+    if number == EAGAIN {
+        return Told::Later;
+    }
+    Told::Failed(error)
 }
 
 // What a call did that moved so many bytes.
