@@ -7,7 +7,7 @@ usage: tests/names.py [--write]
   of a section stand in the order of their numbers, but for section 7, which is by who causes a refusal;
 - a crate, file, definition, function, law or must-fail edit that a document names in backquotes exists;
 - each label of a must-fail edit is named in docs/PROMISES.md, and those of rules 10.1 to 10.12 have files of their own;
-- the constants of include/fabric.h are those of crate common_numbers;
+- the constants of include/fabric.h are those of crate common_numbers, and its refusals' numbers;
 - each row of a document's table has as many cells as the table's heading;
 - no two definitions that docs/READING.md lists for the fabric have the same name, and no two laws the same statement;
 - a figure that changes with the product stands in one document: how long the gate takes, how many numbers a board and a state are, and
@@ -137,7 +137,7 @@ class Names:
 
 def documents():
     found = [ROOT / "README.md", ROOT / "CONTRIBUTING.md", ROOT / "clients/c/README.md"]
-    found += [path for path in sorted((ROOT / "docs").glob("*.md")) if not path.name.startswith(("LANDINGS", "PORT"))]
+    found += [path for path in sorted((ROOT / "docs").glob("*.md")) if not path.name.startswith(("LANDINGS", "PORT", "DESIGN-PASS"))]
     return [path for path in found if path.exists()]
 
 
@@ -180,9 +180,16 @@ def value_of(expression, values):
     return eval(re.sub(r"[A-Z]\w*", lambda m: str(values[m.group(0)]), expression), {"__builtins__": {}})
 
 
+def refusals():
+    """The numbers of crate common_numbers' enum of refusals, by names as a constant has them: BAD_TEXT of BadText."""
+    cases = re.search(r"pub enum Refusal \{(.*?)\}", text_of(ROOT / "crates/common_numbers/src/lib.rt"), re.S).group(1)
+    return {re.sub(r"(?<=[a-z])(?=[A-Z])", "_", case).upper(): int(number) for case, number in re.findall(r"(\w+) = (\d+)", cases)}
+
+
 def constants():
-    """The constants of crate common_numbers, by name."""
-    values = {}
+    """The constants of crate common_numbers and its refusals, by name; TAKEN is the number of an answer that is not refused."""
+    accepted = re.search(r"^refusal_in \(Ok x\) = (\d+)$", text_of(ROOT / "crates/common_numbers/specs/Refusals.antt"), re.M).group(1)
+    values = refusals() | {"TAKEN": int(accepted)}
     for name, expression in re.findall(r"pub const (\w+): \w+ = ([^;]+);", text_of(ROOT / "crates/common_numbers/src/lib.rt")):
         values[name] = value_of(expression, values)
     return values
@@ -197,9 +204,9 @@ def constant_complaints():
             continue
         if values.get(name) != int(value):
             yield f"include/fabric.h: FABRIC_{name} is {value}, common_numbers has {values.get(name)}"
-    lacking = [n for n, v in values.items() if re.search(rf"^pub const {n}: u32", text_of(ROOT / "crates/common_numbers/src/lib.rt"), re.M)]
-    for name in lacking:
-        if name not in defined and name != "LAST_REFUSAL":
+    code = text_of(ROOT / "crates/common_numbers/src/lib.rt")
+    for name in [n for n in values if n in refusals() or re.search(rf"^pub const {n}: u32", code, re.M)]:
+        if name not in defined:
             yield f"include/fabric.h: no FABRIC_{name}"
 
 
@@ -365,7 +372,11 @@ def named_by_call(crate, name):
     """What the head of a public call names: its contract, and a record that it answers."""
     path, head = head_of(crate, name)
     found = list(imported(text_of(path), set(re.findall(r"[\w']+", head)))) + re.findall(FULL, head, re.M)
-    return found + ([(crate, "specs", "declared")] if re.search(r"-> [A-Z]", head) else [])
+    answer = re.search(r"-> (.*)", head)
+    for record in set(re.findall(r"\b[A-Z]\w*", answer.group(1) if answer else "")) - {"Result", "Option"}:
+        brought = re.search(rf"^use (\w+)::(?:\{{[^}}]*\b)?{record}\b", text_of(path), re.M)
+        found.append((brought.group(1) if brought else crate, "specs", "declared"))
+    return found
 
 
 def call_complaints(calls):

@@ -2,55 +2,80 @@
 // include/fabric.h has those that C needs, under the same names with FABRIC_ in front; tests/names.py compares the two.
 #![tactic(auto)]
 
-// Refusal k is rule 7.k; 0: not refused.
-pub const TAKEN: u32 = 0;
+ghost use Rattle.std.specs.Prelude.{◌≡◌};
+ghost use Rattle.common_numbers.specs.Refusals.{refusal_number, refusal_in};
 
-pub const BAD_TEXT: u32 = 1;
+// Why something is refused; refusal k is rule 7.k.
+#[derive(Clone, Copy, PartialEq, Eq)]
+pub enum Refusal {
+    BadText = 1,
+    BadOrder = 2,
+    BadValue = 3,
+    BadBase = 4,
+    Overlap = 5,
+    SpanTotal = 6,
+    BadShare = 7,
+    BadLength = 8,
+    BadState = 9,
+    ShortOutput = 10,
+    NoMaster = 11,
+    Held = 12,
+    BadBeats = 13,
+    BadAddress = 14,
+    BadLanes = 15,
+    NotConnected = 16,
+    PastEnd = 17,
+    BadWords = 18,
+    TooNarrow = 19,
+    NoShare = 20,
+    ShareOrder = 21,
+    EmptyLog = 22,
+}
 
-pub const BAD_ORDER: u32 = 2;
+impl Refusal {
+    // All of them, in the order of their numbers.
+    pub const ALL: [Refusal; 22] = [
+        Refusal::BadText,
+        Refusal::BadOrder,
+        Refusal::BadValue,
+        Refusal::BadBase,
+        Refusal::Overlap,
+        Refusal::SpanTotal,
+        Refusal::BadShare,
+        Refusal::BadLength,
+        Refusal::BadState,
+        Refusal::ShortOutput,
+        Refusal::NoMaster,
+        Refusal::Held,
+        Refusal::BadBeats,
+        Refusal::BadAddress,
+        Refusal::BadLanes,
+        Refusal::NotConnected,
+        Refusal::PastEnd,
+        Refusal::BadWords,
+        Refusal::TooNarrow,
+        Refusal::NoShare,
+        Refusal::ShareOrder,
+        Refusal::EmptyLog,
+    ];
 
-pub const BAD_VALUE: u32 = 3;
+    // The number that C, the programs and the rules have for it.
+    pub fn number(self) -> u32
+        ensures { result ≡ refusal_number self }
+    {
+        self as u32
+    }
+}
 
-pub const BAD_BASE: u32 = 4;
-
-pub const OVERLAP: u32 = 5;
-
-pub const SPAN_TOTAL: u32 = 6;
-
-pub const BAD_SHARE: u32 = 7;
-
-pub const BAD_LENGTH: u32 = 8;
-
-pub const BAD_STATE: u32 = 9;
-
-pub const SHORT_OUTPUT: u32 = 10;
-
-pub const NO_MASTER: u32 = 11;
-
-pub const HELD: u32 = 12;
-
-pub const BAD_BEATS: u32 = 13;
-
-pub const BAD_ADDRESS: u32 = 14;
-
-pub const BAD_LANES: u32 = 15;
-
-pub const NOT_CONNECTED: u32 = 16;
-
-pub const PAST_END: u32 = 17;
-
-pub const BAD_WORDS: u32 = 18;
-
-pub const TOO_NARROW: u32 = 19;
-
-pub const NO_SHARE: u32 = 20;
-
-pub const SHARE_ORDER: u32 = 21;
-
-pub const EMPTY_LOG: u32 = 22;
-
-// The highest refusal.
-pub const LAST_REFUSAL: u32 = EMPTY_LOG;
+// The number that is told of an answer: that of its refusal, or 0.
+pub fn number_in<T: Copy>(answer: Result<T, Refusal>) -> u32
+    ensures { result ≡ refusal_in answer }
+{
+    match answer {
+        Ok(_) => 0,
+        Err(refusal) => refusal.number(),
+    }
+}
 
 // The responses of a clock (rules 4.13, 4.17).
 pub const OKAY: u32 = 0;
