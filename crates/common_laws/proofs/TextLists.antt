@@ -3,41 +3,18 @@
 use mathlib.Core.Bool.{Bool, true, false, cond, false≢true}
 use mathlib.Core.List.{List, [], ◌∷◌, ◌++◌}
 use mathlib.Core.Path.{◌≡◌, refl, ap, sym, ◌∙◌}
-use Prim.Native.Nat.{ℕ, suc, ◌+◌, ◌-◌, ◌≤◌, ◌<◌}
+use Prim.Native.Nat.{ℕ, suc, ◌+◌, ◌-◌}
 use native.Mathlib.Nat.{le_of_eq}
-use native.Mathlib.Numerals.{add-one}
 use native.Mathlib.Omega.{arith}
 use lib.Dec.{eqb}
-use lib.ListN.{length, get_or, take, drop, set, drop_of_length-le, length-drop, length-take}
-use lib.Seq.{drop-cons, take-suc, take_all, sets}
+use lib.ListN.{length, take, drop, set, length-drop}
+use lib.Seq.{take_all, sets}
 use borrow.Author.Tests.{eq-eqb, ne_eqb, eqb-true}
+use Rattle.std.specs.Bool.{Decides}
+use Rattle.std.specs.Cmp.Lexicographic.{pointwise}
+use Rattle.std.proofs.lemmas.Bool.Decides.{Decides-eqb}
+use Rattle.std.proofs.lemmas.Slice.Eq.{slice_eq-Decides}
 use Rattle.common_laws.specs.Lists.{same, member}
-
--- lists of different lengths
-pub same_lengths : (a b : List ℕ) → (length a ≡ length b → ⊥) → same a b ≡ false
-unfolding same
-same_lengths [] [] h = absurd (h refl)
-same_lengths [] (y ∷ ys) h = refl
-same_lengths (x ∷ xs) [] h = refl
-same_lengths (x ∷ xs) (y ∷ ys) h = go (eqb x y) (same_lengths xs ys (λ e. h (ap suc e)))
-  where
-    go : (t : Bool) → same xs ys ≡ false → cond t (same xs ys) false ≡ false
-    go true e = e
-    go false e = refl
-
--- one element more
-module _ (a b : List ℕ) (i : ℕ) (la : i < length a) (lb : i < length b) where
-  pub same_step : get_or a i 0 ≡ get_or b i 0 → same (drop i a) (drop i b) ≡ same (drop (i + 1) a) (drop (i + 1) b)
-  unfolding same
-  same_step e = rw (add-one, drop-cons a i 0, drop-cons b i 0, eq-eqb _ _ e)
-
-  pub same_differ : (get_or a i 0 ≡ get_or b i 0 → ⊥) → same (drop i a) (drop i b) ≡ false
-  unfolding same
-  same_differ e = rw (drop-cons a i 0, drop-cons b i 0, ne_eqb _ _ e)
-
-pub same_end : (a b : List ℕ) (i : ℕ) → length a ≤ i → length b ≤ i → same (drop i a) (drop i b) ≡ true
-unfolding same
-same_end a b i la lb = rw (drop_of_length-le a la, drop_of_length-le b lb)
 
 -- the test is equality
 pub same_refl : (a : List ℕ) → same a a ≡ true
@@ -57,6 +34,18 @@ same_true (x ∷ xs) (y ∷ ys) h = go (eqb x y) refl h (same_true xs ys)
         → x ∷ xs ≡ y ∷ ys
     go true e h more = rw (eqb-true x y e, more h)
     go false e h more = absurd (false≢true h)
+
+-- so it is what `==` says of two texts, the second lent
+pub same_lent : (a b w : List ℕ) (r : Bool) → r ≡ pointwise eqb a b → b ≡ w → r ≡ same a w
+same_lent a b w r e f = go r (slice_eq-Decides Decides-eqb a b r e) ∙ ap (same a) f
+  where
+    other : (t : Bool) → same a b ≡ t → (a ≡ b → false ≡ true) → false ≡ t
+    other true e h = h (same_true a b e)
+    other false e h = refl
+
+    go : (t : Bool) → Decides t (a ≡ b) → t ≡ same a b
+    go true d = rw (d.0 refl) (sym (same_refl b))
+    go false d = other (same a b) refl d.1
 
 -- the part of a slice from `at` to its end, as a lent part comes
 pub part_rest : (s : List ℕ) (at : ℕ) → take (length s - at) (drop at s) ≡ drop at s
@@ -88,11 +77,3 @@ sets_append l i [] ws = ap (λ (k : ℕ). sets l k ws) (omega arith)
 sets_append l i (v ∷ vs) ws =
     sets_append (set l i v) (suc i) vs ws
     ∙ ap (λ (k : ℕ). sets (sets (set l i v) (suc i) vs) k ws) (omega arith)
-
--- one store more
-pub sets_take :
-    (l : List ℕ) (i : ℕ) (s : List ℕ) (k : ℕ) → k < length s
-    → set (sets l i (take k s)) (i + k) (get_or s k 0) ≡ sets l i (take (k + 1) s)
-sets_take l i s k h =
-    let e : i + length (take k s) ≡ i + k = simp length-take (omega arith) in
-    rw (add-one, take-suc s k 0, sets_append l i (take k s) (get_or s k 0 ∷ []), e)

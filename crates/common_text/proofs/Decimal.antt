@@ -94,6 +94,14 @@ unfolding two_digits four_digits
 digits_last_four_length n h g =
     ap length (digits_last_four n h g) ∙ length-append (digits (n / 10000)) (four_digits (n % 10000))
 
+-- the digits of n, by the greatest power of ten that n reaches
+pub digits_power_length :
+    (k n : ℕ) → 10 ^ k ≤ n → n < 10 * 10 ^ k → n < 10 ^ 20 → length (digits n) ≡ k + 1
+digits_power_length zero n h g b = digits_small_length n g
+digits_power_length (suc k) n h g b =
+    let p = pow-suc 10 k in
+    omega (arith, digits_large_length n (omega arith) b, digits_power_length k (n / 10) (omega arith) (omega arith) (omega arith))
+
 pub digits_in_most : (k j n : ℕ) → n < 10 ^ (suc j) → length (digits_in k n) ≤ suc j
 unfolding digits_in
 digits_in_most zero j n h = omega arith

@@ -5,7 +5,9 @@ use mathlib.Core.Path.{◌≡◌, refl, ap, ap₂, sym, ◌∙◌}
 use Prim.Native.Nat.{ℕ, ◌+◌, ◌/◌, ◌%◌, ◌^◌, ◌≤◌, ◌<◌}
 use native.Mathlib.Omega.{arith}
 use lib.ListN.{length, get_or, take, drop, length-append}
-use lib.Seq.{sets, length-sets, sets-eq}
+use lib.Seq.{sets, length-sets, sets-eq, take_all}
+use borrow.Rule.Slice.PartMut.{put_mid}
+use Rattle.std.proofs.lemmas.Slice.{put_mid-paste}
 use Rattle.common_laws.proofs.TextLists.{sets_append}
 use Rattle.common_text.specs.Digits.{digits, fields_text}
 use Rattle.common_text.specs.Fields.{comma}
@@ -23,6 +25,19 @@ put_then {o} {p} {q} {at} {r} {t} {A} {B} x y =
     record {
       end = omega (arith, x.end, y.end, length-append A B);
       bytes = y.bytes ∙ ap₂ (λ (l : List ℕ) (k : ℕ). sets l k B) x.bytes x.end ∙ sym (sets_append o at A B);
+    }
+
+-- a text copied into its part
+pub put_part :
+    (o s : List ℕ) (at k : ℕ) (copied : List ℕ) → copied ≡ s → length s ≡ k → at + length s ≤ length o
+    → Put o at s (put_mid at k o copied) (at + length s)
+put_part o s at k copied e f h =
+    record {
+      end = refl;
+      bytes =
+          put_mid-paste at k o copied s (length s) e f refl
+          ∙ ap (λ (l : List ℕ). take at o ++ l ++ drop (at + length s) o) (take_all (length s) s (omega arith))
+          ∙ sym (sets-eq s o at h);
     }
 
 -- the length stays

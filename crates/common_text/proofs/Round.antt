@@ -16,15 +16,15 @@ use Rattle.common_laws.specs.Lists.{member}
 use Rattle.common_text.specs.Digits.{digits_in, digits, fields_text, line_text}
 use Rattle.common_text.specs.Fields.{comma, line_feed, push, split, is_digit, scan}
 use Rattle.common_text.specs.Fields.{number_of, most_numbers, no_numbers, with_number, collect, numbers_of}
-use Rattle.common_text.specs.declared.Number.TheVariants.{Malformed, Value}
+use Rattle.std.proofs.Common.{Some, None}
 use Rattle.common_text.specs.declared.Numbers.{Numbers}
 use Rattle.common_text.proofs.Decimal.{digits_in_small, digits_in_large, digits_short, member_digits}
 use Rattle.common_text.proofs.Values.{digit_yes, number_one, number_more, collect_value, collect_end}
 
 -- one digit behind a number
 pub scan_snoc :
-    (a v c : ℕ) (xs : List ℕ) → 48 ≤ c → c ≤ 57 → scan a xs ≡ Value v
-    → scan a (xs ++ (c ∷ [])) ≡ Value (v * 10 + (c - 48))
+    (a v c : ℕ) (xs : List ℕ) → 48 ≤ c → c ≤ 57 → scan a xs ≡ Some v
+    → scan a (xs ++ (c ∷ [])) ≡ Some (v * 10 + (c - 48))
 unfolding scan
 scan_snoc a v c [] l h e =
     let q : a ≡ v = cc in
@@ -32,22 +32,22 @@ scan_snoc a v c [] l h e =
 scan_snoc a v c (x ∷ xs) l h e = go (is_digit x) e (scan_snoc (a * 10 + (x - 48)) v c xs l h)
   where
     go :
-        (t : Bool) → cond t (scan (a * 10 + (x - 48)) xs) Malformed ≡ Value v
-        → (scan (a * 10 + (x - 48)) xs ≡ Value v → scan (a * 10 + (x - 48)) (xs ++ (c ∷ [])) ≡ Value (v * 10 + (c - 48)))
-        → cond t (scan (a * 10 + (x - 48)) (xs ++ (c ∷ []))) Malformed ≡ Value (v * 10 + (c - 48))
+        (t : Bool) → cond t (scan (a * 10 + (x - 48)) xs) None ≡ Some v
+        → (scan (a * 10 + (x - 48)) xs ≡ Some v → scan (a * 10 + (x - 48)) (xs ++ (c ∷ [])) ≡ Some (v * 10 + (c - 48)))
+        → cond t (scan (a * 10 + (x - 48)) (xs ++ (c ∷ []))) None ≡ Some (v * 10 + (c - 48))
     go true e more = more e
     go false e more = let z : ◌≡◌ {A = ℕ} 0 1 = cc in absurd (omega arith)
 
-scan_one : (n : ℕ) → n < 10 → scan 0 ((48 + n) ∷ []) ≡ Value n
+scan_one : (n : ℕ) → n < 10 → scan 0 ((48 + n) ∷ []) ≡ Some n
 unfolding scan
 scan_one n h =
     let l : 48 ≤ 48 + n = omega arith in
     let g : 48 + n ≤ 57 = omega arith in
-    simp (digit_yes (48 + n) l g) (ap Value (omega arith))
+    simp (digit_yes (48 + n) l g) (ap Some (omega arith))
 
 -- the digits of n: they spell it, there is at least one, only 0 begins with "0", and a number below 10 has one
 pub record Spells (n : ℕ) (l : List ℕ) : Type 0 where
-  pub value : scan 0 l ≡ Value n
+  pub value : scan 0 l ≡ Some n
   pub some : 1 ≤ length l
   pub lead : 1 ≤ n → 49 ≤ get_or l 0 0
   pub one : n < 10 → length l ≡ 1
@@ -62,7 +62,7 @@ spells_large k n h s =
     let l = digits_in k (n / 10) in
     rw (digits_in_large k n h)
     (record {
-      value = scan_snoc 0 (n / 10) (48 + n % 10) l (omega arith) (omega arith) s.value ∙ ap Value (omega arith);
+      value = scan_snoc 0 (n / 10) (48 + n % 10) l (omega arith) (omega arith) s.value ∙ ap Some (omega arith);
       some = omega (arith, length-append l ((48 + n % 10) ∷ []));
       lead = λ p. rw (get_or-append l ((48 + n % 10) ∷ []) 0 0 s.some) (s.lead (omega arith));
       one = λ p. absurd (omega arith);
@@ -79,10 +79,10 @@ spells (suc k) n h = go (ltb n 10) refl (spells k (n / 10))
     go false e more =
         spells_large (suc k) n (ltb-false n 10 e) (more (omega (arith, pow-suc 10 (suc k))))
 
-pub number_spelt : (n : ℕ) (l : List ℕ) → Spells n l → length l ≤ 10 → number_of l ≡ Value n
+pub number_spelt : (n : ℕ) (l : List ℕ) → Spells n l → length l ≤ 10 → number_of l ≡ Some n
 number_spelt n l s h = go (ltb n 10) refl (eqb (length l) 1) refl
   where
-    go : (t : Bool) → ltb n 10 ≡ t → (u : Bool) → eqb (length l) 1 ≡ u → number_of l ≡ Value n
+    go : (t : Bool) → ltb n 10 ≡ t → (u : Bool) → eqb (length l) 1 ≡ u → number_of l ≡ Some n
     go t e true g = number_one l (eqb-true (length l) 1 g) ∙ s.value
     go true e false g = absurd (eqb-false (length l) 1 g (s.one (ltb-true n 10 e)))
     go false e false g =
@@ -91,12 +91,12 @@ number_spelt n l s h = go (ltb n 10) refl (eqb (length l) 1) refl
         number_more l (omega (arith, s.some)) h (λ q. omega arith) ∙ s.value
 
 -- every number of 64 bits is written whole
-pub digits_value : (n : ℕ) → n < 10 ^ 20 → scan 0 (digits n) ≡ Value n
+pub digits_value : (n : ℕ) → n < 10 ^ 20 → scan 0 (digits n) ≡ Some n
 unfolding digits
 digits_value n h = (spells 19 n h).value
 
 -- a number written and read
-pub number_digits : (n : ℕ) → n < 10 ^ 10 → number_of (digits n) ≡ Value n
+pub number_digits : (n : ℕ) → n < 10 ^ 10 → number_of (digits n) ≡ Some n
 unfolding digits
 number_digits n h = number_spelt n (digits_in 20 n) (spells 19 n (omega arith)) (digits_short n h)
 

@@ -14,8 +14,7 @@ use Rattle.common_laws.proofs.FillLaws.{table_is}
 use Rattle.common_text.specs.Digits.{digits, fields_text, line_text}
 use Rattle.common_text.specs.Fields.{comma, line_feed, push, split, scan, zero_digit, shaped, number_of, number_refusal}
 use Rattle.common_text.specs.Fields.{most_numbers, no_numbers, with_number, collect, numbers_of}
-use Rattle.common_text.specs.declared.Number.{Number}
-use Rattle.common_text.specs.declared.Number.TheVariants.{Malformed, Value}
+use Rattle.std.proofs.Common.{Option, Some, None}
 use Rattle.common_text.specs.declared.Numbers.{Numbers}
 use Rattle.common_text.proofs.Decimal.{digits_small, digits_large}
 use Rattle.common_text.proofs.Round.{numbered, more, more_none, more_one}
@@ -24,14 +23,14 @@ use Rattle.common_text.proofs.Values.{number_none, number_long, number_zero}
 use Rattle.common_text.proofs.Values.{collect_full, collect_malformed, collect_value, collect_end}
 
 -- a malformed field has no value
-no_value : {n : ℕ} → Malformed ≡ Value n → ⊥
+no_value : {n : ℕ} → None ≡ Some n → ⊥
 unfolding number_refusal
 no_value e = let z = ap number_refusal e in omega arith
 
 -- the first byte of a number is a digit's, and the others spell the rest
 scan_first :
-    (a n c : ℕ) (cs : List ℕ) → scan a (c ∷ cs) ≡ Value n
-    → (48 ≤ c) × ((c ≤ 57) × (scan (a * 10 + (c - 48)) cs ≡ Value n))
+    (a n c : ℕ) (cs : List ℕ) → scan a (c ∷ cs) ≡ Some n
+    → (48 ≤ c) × ((c ≤ 57) × (scan (a * 10 + (c - 48)) cs ≡ Some n))
 unfolding scan
 scan_first a n c cs e =
     let l : c < 48 → ⊥ = λ h. no_value (rw (digit_low c h) at e) in
@@ -48,7 +47,7 @@ digits_snoc a c h g l m =
 
 -- the number that bytes spell behind the digits of a, which can be 0 only where there are no such bytes
 scan_digits :
-    (k a n : ℕ) (cs : List ℕ) → a < 10 ^ k → k + length cs ≤ 10 → (1 ≤ length cs → 1 ≤ a) → scan a cs ≡ Value n
+    (k a n : ℕ) (cs : List ℕ) → a < 10 ^ k → k + length cs ≤ 10 → (1 ≤ length cs → 1 ≤ a) → scan a cs ≡ Some n
     → digits n ≡ digits a ++ cs
 unfolding scan
 scan_digits k a n [] b h p e =
@@ -65,16 +64,16 @@ scan_digits k a n (c ∷ cs) b h p e =
     ∙ append_assoc (digits a) (c ∷ []) cs
 
 -- a field that is a number is that of all its bytes
-number_scan : (f : List ℕ) (n : ℕ) → number_of f ≡ Value n → scan 0 f ≡ Value n
+number_scan : (f : List ℕ) (n : ℕ) → number_of f ≡ Some n → scan 0 f ≡ Some n
 unfolding number_of
 number_scan f n e = go (shaped f) e
   where
-    go : (t : Bool) → cond t (scan 0 f) Malformed ≡ Value n → scan 0 f ≡ Value n
+    go : (t : Bool) → cond t (scan 0 f) None ≡ Some n → scan 0 f ≡ Some n
     go true e = e
     go false e = absurd (no_value e)
 
 -- rule 1.5: a field that is a number is that number's digits
-pub number_spelling : (f : List ℕ) (n : ℕ) → number_of f ≡ Value n → digits n ≡ f
+pub number_spelling : (f : List ℕ) (n : ℕ) → number_of f ≡ Some n → digits n ≡ f
 number_spelling [] n e = absurd (no_value (sym (number_none [] refl) ∙ e))
 number_spelling (c ∷ cs) n e =
     let s = scan_first 0 n c cs (number_scan (c ∷ cs) n e) in
@@ -103,11 +102,11 @@ fields_spelling ms (f ∷ fs) h =
     none e = h (ap (λ (ns : Numbers). ns.count) e)
 
     go :
-        (t : Bool) → eqb ms.count most_numbers ≡ t → (x : Number) → number_of f ≡ x
+        (t : Bool) → eqb ms.count most_numbers ≡ t → (x : Option ℕ) → number_of f ≡ x
         → ((v : ℕ) → ((collect (with_number ms v) fs).count ≡ 0 → ⊥) → Spelled (with_number ms v) fs) → Spelled ms (f ∷ fs)
     go true t x e next = absurd (none (collect_full ms f fs (eqb-true _ _ t)))
-    go false t Malformed e next = absurd (none (collect_malformed ms f fs (eqb-false _ _ t) e))
-    go false t (Value v) e next =
+    go false t None e next = absurd (none (collect_malformed ms f fs (eqb-false _ _ t) e))
+    go false t (Some v) e next =
         let m = collect_value ms f fs v (eqb-false _ _ t) e in
         let s = next v (rw m at h) in
         record {

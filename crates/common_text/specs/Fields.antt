@@ -1,9 +1,7 @@
 -- Lines, fields and decimal numbers of a text (rules 1.2, 1.3, 1.5).
 -- Assumes nothing.
-use Rattle.std.specs.Prelude.{Bool, cond, not, ◌&&◌, List, [], ◌∷◌, ℕ, ◌+◌, ◌-◌, ◌*◌, leb, ltb, eqb, length, get_or, set, replicate}
+use Rattle.std.specs.Prelude.{Bool, cond, not, ◌&&◌, List, [], ◌∷◌, ℕ, ◌+◌, ◌-◌, ◌*◌, leb, ltb, eqb, length, get_or, set, replicate, Option, Some, None}
 use Rattle.common_numbers.specs.Numbers.{slave_length}
-use Rattle.common_text.specs.declared.Number.{Number}
-use Rattle.common_text.specs.declared.Number.TheVariants.{Malformed, Value}
 use Rattle.common_text.specs.declared.Numbers.{Numbers}
 
 -- rule 1.2: the byte behind a line
@@ -28,10 +26,11 @@ split separator (c ∷ cs) = cond (eqb c separator) ([] ∷ split separator cs) 
 unfoldable pub is_digit : ℕ → Bool
 is_digit c = leb 48 c && leb c 57
 
--- rule 1.5: the number that the digits spell behind those of n. A difference stops at 0; the test leaves no c below 48.
-unfoldable pub scan : ℕ → List ℕ → Number
-scan n [] = Value n
-scan n (c ∷ cs) = cond (is_digit c) (scan (n * 10 + (c - 48)) cs) Malformed
+-- rule 1.5: the number that the digits spell behind those of n; none if a byte is no digit's. A difference stops at 0; the test
+-- leaves no c below 48.
+unfoldable pub scan : ℕ → List ℕ → Option ℕ
+scan n [] = Some n
+scan n (c ∷ cs) = cond (is_digit c) (scan (n * 10 + (c - 48)) cs) None
 
 -- rule 1.5: the byte of the digit 0, which is the first of a number only where it is the only one
 abbrev pub zero_digit : ℕ
@@ -41,19 +40,19 @@ zero_digit = 48
 unfoldable pub shaped : List ℕ → Bool
 shaped field = leb 1 (length field) && (leb (length field) 10 && not (eqb (get_or field 0 0) zero_digit && ltb 1 (length field)))
 
--- rule 1.5: the number that a field spells
-unfoldable pub number_of : List ℕ → Number
-number_of field = cond (shaped field) (scan 0 field) Malformed
+-- rule 1.5: the number that a field spells, if it spells one
+unfoldable pub number_of : List ℕ → Option ℕ
+number_of field = cond (shaped field) (scan 0 field) None
 
 -- rule 7.1: refusal 1 of a field that is no number, else 0
-unfoldable pub number_refusal : Number → ℕ
-number_refusal Malformed = 1
-number_refusal (Value n) = 0
+unfoldable pub number_refusal : Option ℕ → ℕ
+number_refusal None = 1
+number_refusal (Some n) = 0
 
 -- rule 1.5: the value of a field that is a number, else 0
-unfoldable pub number_value : Number → ℕ
-number_value Malformed = 0
-number_value (Value n) = n
+unfoldable pub number_value : Option ℕ → ℕ
+number_value None = 0
+number_value (Some n) = n
 
 -- the most numbers that a line has behind its word: those of a slave line (rule 1.3)
 abbrev pub most_numbers : ℕ

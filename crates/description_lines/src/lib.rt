@@ -22,63 +22,78 @@ pub struct LineRead {
 const SLAVE_COUNT: u8 = SLAVE_FIELDS as u8;
 
 // What a master line's numbers say (rules 1.3, 7.1).
+#[tactic(auto, unfolding(crate::specs::Reader::master_line))]
 fn master_line(ns: Numbers) -> Item
     ensures { result ≡ master_line ns }
 {
-    if ns.count == 2 {
-        return Item::MasterLine(ns.values[0], ns.values[1]);
+    if ns.count != 2 {
+        return Item::Malformed;
     }
-    Item::Malformed
+    let [width, burst, ..] = ns.values;
+    Item::MasterLine(width, burst)
 }
 
 // What a slave line's numbers say (rules 1.3, 7.1).
+#[tactic(auto, unfolding(crate::specs::Reader::slave_line))]
 fn slave_line(ns: Numbers) -> Item
     ensures { result ≡ slave_line ns }
 {
-    if ns.count == SLAVE_COUNT {
-        let n = SlaveNumbers {
-            base: ns.values[0],
-            span: ns.values[1],
-            width: ns.values[2],
-            burst: ns.values[3],
-            read_wait: ns.values[4],
-            write_wait: ns.values[5],
-            native: ns.values[6],
-            latency: ns.values[7],
-        };
-        return Item::SlaveLine(n);
+    if ns.count != SLAVE_COUNT {
+        return Item::Malformed;
     }
-    Item::Malformed
+    let [
+        base,
+        span,
+        width,
+        burst,
+        read_wait,
+        write_wait,
+        native,
+        latency,
+    ] = ns.values;
+    Item::SlaveLine(SlaveNumbers {
+        base,
+        span,
+        width,
+        burst,
+        read_wait,
+        write_wait,
+        native,
+        latency,
+    })
 }
 
 // What a share line's numbers say (rules 1.3, 7.1).
+#[tactic(auto, unfolding(crate::specs::Reader::share_line))]
 fn share_line(ns: Numbers) -> Item
     ensures { result ≡ share_line ns }
 {
-    if ns.count == 3 {
-        return Item::ShareLine(ns.values[0], ns.values[1], ns.values[2]);
+    if ns.count != 3 {
+        return Item::Malformed;
     }
-    Item::Malformed
+    let [master, slave, shares, ..] = ns.values;
+    Item::ShareLine(master, slave, shares)
 }
 
-// What a line without its line feed says (rules 1.3, 7.1). The numbers are read before the word is known, once for all three.
+// What a line without its line feed says (rules 1.3, 7.1). The numbers are read before the word is known, once for all three. Of a
+// `match` on byte strings a proof learns their lengths alone, so the words are compared one by one.
 fn item_of(line: &[u8]) -> Item
     ensures { result ≡ item_of line.now }
 {
     let e = common_text::find_byte(line, b',');
     let word = &line[..e];
     let ns = common_text::numbers_behind(line, e);
-    if common_text::same(word, b"master") {
+    if word == b"master".as_slice() {
         return master_line(ns);
     }
-    if common_text::same(word, b"slave") {
+    if word == b"slave".as_slice() {
         return slave_line(ns);
     }
-    if common_text::same(word, b"share") {
+    if word == b"share".as_slice() {
         return share_line(ns);
     }
     // `default` has no field behind its word: the whole line is looked at
-    if common_text::same(line, b"default") {
+    if line == b"default".as_slice() {
         return Item::DefaultLine;
     }
     Item::Malformed
@@ -97,26 +112,28 @@ pub fn line_from(text: &[u8], at: usize) -> LineRead
             next: text.len(),
         };
     }
-    let item = item_of(&rest[..e]);
     LineRead {
-        item: item,
+        item: item_of(&rest[..e]),
         next: at + e + 1,
     }
 }
 
-// The numbers of a slave line in the order of its fields (rule 1.3).
+// The numbers of a slave line in the order of its fields (rule 1.3). Each is named, so that none can be left out.
 fn slave_fields(n: SlaveNumbers) -> [u64; SLAVE_FIELDS]
     ensures { result ≡ slave_fields n }
 {
+    let SlaveNumbers {
+        base,
+        span,
+        width,
+        burst,
+        read_wait,
+        write_wait,
+        native,
+        latency,
+    } = n;
     [
-        n.base,
-        n.span,
-        n.width,
-        n.burst,
-        n.read_wait,
-        n.write_wait,
-        n.native,
-        n.latency,
+        base, span, width, burst, read_wait, write_wait, native, latency,
     ]
 }
 
@@ -128,22 +145,14 @@ pub fn put_item(out: &mut [u8], at: usize, x: Item) -> usize
     match x {
         Item::Malformed => at,
         Item::MasterLine(width, burst) => common_text::put_line(
-            &mut *out,
+            out,
             at,
             b"master",
             &[width, burst],
         ),
-        Item::SlaveLine(n) => {
-            let numbers = slave_fields(n);
-            common_text::put_line(&mut *out, at, b"slave", &numbers)
-        }
-        Item::ShareLine(m, s, shares) => common_text::put_line(
-            &mut *out,
-            at,
-            b"share",
-            &[m, s, shares],
-        ),
-        Item::DefaultLine => common_text::put_line(&mut *out, at, b"default", &[]),
+        Item::SlaveLine(n) => common_text::put_line(out, at, b"slave", &slave_fields(n)),
+        Item::ShareLine(m, s, shares) => common_text::put_line(out, at, b"share", &[m, s, shares]),
+        Item::DefaultLine => common_text::put_line(out, at, b"default", &[]),
     }
 }
 
@@ -154,10 +163,7 @@ pub fn item_length(x: Item) -> usize
     match x {
         Item::Malformed => 0,
         Item::MasterLine(width, burst) => 7 + common_text::fields_length(&[width, burst]),
-        Item::SlaveLine(n) => {
-            let numbers = slave_fields(n);
-            6 + common_text::fields_length(&numbers)
-        }
+        Item::SlaveLine(n) => 6 + common_text::fields_length(&slave_fields(n)),
         Item::ShareLine(m, s, shares) => 6 + common_text::fields_length(&[m, s, shares]),
         Item::DefaultLine => 8,
     }

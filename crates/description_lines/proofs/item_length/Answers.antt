@@ -32,7 +32,7 @@ pub returns-in-SlaveLine : goal.returns-in-SlaveLine
 unfolding item_text bytes_of
 returns-in-SlaveLine c =
     rw c.in-SlaveLine.is
-    (line_counted slave_word _ _ (rw c.slave_fields-numbers.ensures at c.fields_length-in-SlaveLine.ensures))
+    (line_counted slave_word _ _ (rw c.slave_fields.ensures at c.fields_length-in-SlaveLine.ensures))
 
 pub returns-in-ShareLine : goal.returns-in-ShareLine
 unfolding item_text bytes_of

@@ -14,4 +14,4 @@ slice_bounds-item_of-end c = sym (length-take-le _ _ c.find_byte-e.ensures.withi
 pub returns : goal.returns
 returns c =
     let w = c.find_byte-e.ensures.within in
-    line_ended c.args.text.now c.args.at _ c.find_byte-e.ensures c.requires _ (omega arith) c.item_of-item.ensures
+    line_ended c.args.text.now c.args.at _ c.find_byte-e.ensures c.requires _ (omega arith) c.item_of.ensures

@@ -14,7 +14,7 @@ put_line-requires c = line_room_lem _ _ master_word _ _ refl (rw c.in-MasterLine
 pub put_line-requires-in-SlaveLine : goal.put_line-requires-in-SlaveLine
 unfolding item_text bytes_of
 put_line-requires-in-SlaveLine c =
-    rw c.slave_fields-numbers.ensures
+    rw c.slave_fields.ensures
     (line_room_lem _ _ slave_word _ _ refl (rw c.in-SlaveLine.is at c.requires))
 
 pub put_line-requires-in-ShareLine : goal.put_line-requires-in-ShareLine
@@ -36,7 +36,7 @@ returns-in-MasterLine c = rw c.in-MasterLine.is c.put_line.ensures
 pub returns-in-SlaveLine : goal.returns-in-SlaveLine
 unfolding item_text bytes_of
 returns-in-SlaveLine c =
-    rw c.in-SlaveLine.is (rw c.slave_fields-numbers.ensures at c.put_line-in-SlaveLine.ensures)
+    rw c.in-SlaveLine.is (rw c.slave_fields.ensures at c.put_line-in-SlaveLine.ensures)
 
 pub returns-in-ShareLine : goal.returns-in-ShareLine
 unfolding item_text bytes_of
