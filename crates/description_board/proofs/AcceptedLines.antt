@@ -16,7 +16,7 @@ use Rattle.common_laws.proofs.ListLaws.{gather_suc}
 use Rattle.common_laws.proofs.FrontLaws.{gather_same, gather_end, table_more}
 use Rattle.common_laws.proofs.TableLaws.{get_or_replicate_all}
 use Rattle.description_board.specs.declared.Master.{Master}
-use Rattle.description_board.specs.declared.SlaveNumbers.{SlaveNumbers}
+use Rattle.description_board.specs.Records.{SlaveNumbers}
 use Rattle.description_board.specs.declared.Board.{Board}
 use Rattle.description_board.specs.declared.Item.{Item}
 use Rattle.description_board.specs.declared.Item.TheVariants.{Malformed, MasterLine, SlaveLine, ShareLine, DefaultLine}

@@ -13,7 +13,7 @@ use lib.Seq.{get_or-set_same, get_or-set_other, take-set-le}
 use borrow.Author.Tests.{eqb-true, eqb-false}
 use Rattle.common_laws.proofs.FrontLaws.{set_each}
 use Rattle.common_laws.proofs.TableLaws.{get_or_replicate_all}
-use Rattle.description_board.specs.declared.SlaveNumbers.{SlaveNumbers}
+use Rattle.description_board.specs.Records.{SlaveNumbers}
 use Rattle.description_board.specs.declared.Board.{Board}
 use Rattle.description_board.specs.declared.Item.{Item}
 use Rattle.description_board.specs.declared.Item.TheVariants.{Malformed, MasterLine, SlaveLine, ShareLine, DefaultLine}

@@ -12,8 +12,7 @@ use borrow.Author.Tests.{eqb-true, eqb-false, leb-true, leb-false, ltb-true, ltb
 use Rattle.common_laws.specs.Lists.{member}
 use Rattle.common_laws.proofs.ListLaws.{member_within, drop_take_next, drop_take_end}
 use Rattle.common_laws.proofs.Tests.{both, neither, passed, at_most}
-use Rattle.description_board.specs.declared.Slave.{Slave}
-use Rattle.description_board.specs.declared.SlaveNumbers.{SlaveNumbers}
+use Rattle.description_board.specs.Records.{Slave, SlaveNumbers}
 use Rattle.description_board.specs.declared.Board.{Board}
 use Rattle.description_board.specs.declared.Item.{Item}
 use Rattle.description_board.specs.declared.Item.TheVariants.{Malformed, MasterLine, SlaveLine, ShareLine, DefaultLine}

@@ -10,7 +10,7 @@ use native.Mathlib.Omega.{arith}
 use lib.ListN.{get_or, take}
 use borrow.Author.Tests.{le-ltb}
 use Rattle.common_laws.proofs.Tests.{neither}
-use Rattle.description_board.specs.declared.Slave.{Slave}
+use Rattle.description_board.specs.Records.{Slave}
 use Rattle.description_board.specs.Records.{no_slave, total_span}
 use Rattle.description_board.specs.Rules.{meets, overlaps}
 

@@ -4,7 +4,7 @@
 use Rattle.std.specs.Prelude.{◌≡◌, true, false, ◌≢◌, ℕ, ◌/◌, ◌%◌, ◌≤◌, ◌<◌, get_or}
 use Rattle.common_laws.specs.Lists.{member}
 use Rattle.description_board.specs.declared.Master.{Master}
-use Rattle.description_board.specs.declared.Slave.{Slave}
+use Rattle.description_board.specs.Records.{Slave}
 use Rattle.description_board.specs.declared.Board.{Board}
 use Rattle.description_board.specs.Records.{master_at, slave_at, memory_length}
 use Rattle.description_board.specs.Rules.{widths, bursts, spans, meets, too_narrow, has_share}

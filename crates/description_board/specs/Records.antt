@@ -2,8 +2,16 @@
 -- Assumes nothing.
 use Rattle.std.specs.Prelude.{Bool, false, ◌&&◌, List, [], ◌∷◌, ℕ, ◌+◌, ◌*◌, ltb, eqb, get_or, take, replicate}
 use Rattle.description_board.specs.declared.Master.{Master}
-use Rattle.description_board.specs.declared.Slave.{Slave}
+use Rattle.description_board.specs.declared.SlaveFields.{SlaveFields}
 use Rattle.description_board.specs.declared.Board.{Board}
+
+-- rule 1.3: a slave of a board
+abbrev pub Slave : Type 0
+Slave = SlaveFields ℕ
+
+-- rule 1.3: the numbers on a slave's line
+abbrev pub SlaveNumbers : Type 0
+SlaveNumbers = SlaveFields ℕ
 
 -- a master of zeros
 abbrev pub no_master : Master

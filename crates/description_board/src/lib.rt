@@ -3,38 +3,53 @@
 // The numbers of a master and of a slave are those of their lines (rules 1.3, 1.6).
 #![tactic(auto)]
 
-#[derive(Clone, Copy)]
+ghost use Rattle.std.specs.Prelude.{◌≡◌};
+ghost use Rattle.description_board.specs.Items.{slave_numbers};
+
+#[derive(Clone, Copy, Default)]
 pub struct Master {
     pub width: u32,
     pub burst: u32,
 }
 
-#[derive(Clone, Copy)]
-pub struct Slave {
-    pub base: u32,
-    pub span: u32,
-    pub width: u32,
-    pub burst: u32,
-    pub read_wait: u32,
-    pub write_wait: u32,
-    pub native: u32,
-    pub latency: u32,
+// The numbers of a slave, in the order of its line's fields (rule 1.3): those of a board's slave are u32, those of a line not yet
+// checked u64.
+#[derive(Clone, Copy, Default)]
+pub struct SlaveFields<T> {
+    pub base: T,
+    pub span: T,
+    pub width: T,
+    pub burst: T,
+    pub read_wait: T,
+    pub write_wait: T,
+    pub native: T,
+    pub latency: T,
 }
 
-// What stands for a slave past the array of a board.
-pub const NO_SLAVE: Slave = Slave {
-    base: 0,
-    span: 0,
-    width: 0,
-    burst: 0,
-    read_wait: 0,
-    write_wait: 0,
-    native: 0,
-    latency: 0,
-};
+pub type Slave = SlaveFields<u32>;
+
+pub type SlaveNumbers = SlaveFields<u64>;
+
+// The numbers of a slave's line (rule 1.3).
+impl From<Slave> for SlaveNumbers {
+    ghost from_gives = { λ s n. n ≡ slave_numbers s };
+
+    fn from(s: Slave) -> SlaveNumbers {
+        SlaveFields {
+            base: u64::from(s.base),
+            span: u64::from(s.span),
+            width: u64::from(s.width),
+            burst: u64::from(s.burst),
+            read_wait: u64::from(s.read_wait),
+            write_wait: u64::from(s.write_wait),
+            native: u64::from(s.native),
+            latency: u64::from(s.latency),
+        }
+    }
+}
 
 // The shares of master m at slave s stand at index 16 * m + s; 0: not connected (rule 1.8). default_line: the board has the line
-// `default` (rule 1.11).
+// `default` (rule 1.11). The counts stand beside arrays of fixed length, as in the numbers that are lent: there is no heap.
 #[derive(Clone, Copy)]
 pub struct Board {
     pub master_count: u32,
@@ -45,20 +60,8 @@ pub struct Board {
     pub default_line: bool,
 }
 
-// The numbers of a slave line (rule 1.3), not yet checked.
-#[derive(Clone, Copy)]
-pub struct SlaveNumbers {
-    pub base: u64,
-    pub span: u64,
-    pub width: u64,
-    pub burst: u64,
-    pub read_wait: u64,
-    pub write_wait: u64,
-    pub native: u64,
-    pub latency: u64,
-}
-
-// One line of a description (rule 1.3): the numbers of its fields, or a line that is none of the four kinds (rule 7.1).
+// One line of a description (rule 1.3): the numbers of its fields, or a line that is none of the four kinds (rule 7.1). That is a case
+// of its own in the definitions, as `item_refusal`, and so here.
 #[derive(Clone, Copy)]
 pub enum Item {
     Malformed,

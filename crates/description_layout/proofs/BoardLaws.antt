@@ -10,7 +10,7 @@ use Rattle.common_laws.proofs.TableLaws.{length_table, get_or_table, get_or_repl
 use Rattle.common_laws.proofs.FillLaws.{table_is}
 use Rattle.common_numbers.specs.Numbers.{slave_length}
 use Rattle.description_board.specs.declared.Master.{Master}
-use Rattle.description_board.specs.declared.Slave.{Slave}
+use Rattle.description_board.specs.Records.{Slave}
 use Rattle.description_board.specs.declared.Board.{Board}
 use Rattle.description_board.specs.Records.{no_master, no_slave, no_board, master_at, slave_at, shares_at}
 use Rattle.description_board.specs.Rules.{with_share}

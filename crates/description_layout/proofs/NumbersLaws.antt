@@ -3,16 +3,14 @@
 use mathlib.Core.Path.{◌≡◌, refl, sym, ap, ◌∙◌}
 use mathlib.Core.Bool.{Bool, true, false}
 use mathlib.Core.List.{List, [], ◌∷◌, ◌++◌}
-use Prim.Native.Nat.{ℕ, ◌+◌, ◌*◌, ◌<◌}
+use Prim.Native.Nat.{ℕ, ◌+◌, ◌*◌}
 use native.Mathlib.Nat.{zero-add, add-zero}
 use native.Mathlib.Omega.{arith}
 use lib.ListN.{length, get_or, set, length-set, get_or-append}
 use lib.Seq.{get_or-set_same, get_or-set_other, get_or_at}
-use borrow.Author.Tests.{lt-ltb}
 use Rattle.common_laws.specs.Lists.{gather, table}
 use Rattle.common_laws.proofs.TableLaws.{length_table, get_or_table}
 use Rattle.common_laws.proofs.FrontLaws.{table_same}
-use Rattle.common_laws.proofs.FillLaws.{filled}
 use Rattle.common_laws.proofs.PartLaws.{part, part_whole, part_one, part_join, part_cons, part_gather}
 use Rattle.common_numbers.specs.Numbers.{slave_length}
 use Rattle.description_board.specs.Records.{master_at, slave_at}
@@ -61,28 +59,19 @@ module _ (l : List ℕ) where
       (ap (λ (x : List ℕ). x ++ z)
       (ap (λ (x : List ℕ). get_or l 0 0 ∷ x) (part_cons l 1 (16 + cards + 128)) ∙ part_cons l 0 (17 + cards + 128)))
 
--- what a copy leaves: the numbers of l in front of the mark, and the mark put anew
-module _ (l : List ℕ) (g : ℕ → ℕ) {r : List ℕ} (e : r ≡ filled (λ i. get_or l i 0) g board_length default_at) where
-  copied_length : length r ≡ board_length
-  unfolding filled
-  copied_length = ap length e ∙ length_table _ board_length
-
-  copied_at : (i : ℕ) → i < default_at → get_or r i 0 ≡ get_or l i 0
-  unfolding filled
-  copied_at i h =
-      ap (λ (x : List ℕ). get_or x i 0) e ∙ get_or_table _ board_length 0 i (omega arith) ∙ rw (lt-ltb i default_at h)
-
-  copied_front : (n : ℕ) → part (set r default_at n) 0 default_at ≡ part l 0 default_at
+-- what a copy leaves: the numbers of l before the mark, and the mark put anew
+module _ (l : List ℕ) (fits : length l ≡ board_length) where
+  copied_front : (n : ℕ) → part (set l default_at n) 0 default_at ≡ part l 0 default_at
   unfolding part
   copied_front n = table_same _ _ default_at (λ i h.
-      rw (zero-add i) (get_or-set_other r default_at i n 0 (λ q. absurd (omega arith)) ∙ copied_at i h))
+      rw (zero-add i) (get_or-set_other l default_at i n 0 (λ q. absurd (omega arith))))
 
-  pub copied : {n : ℕ} → n ≡ mark_of (board_in l).default_line → set r default_at n ≡ numbers_of_board (board_in l)
+  pub copied : {n : ℕ} → n ≡ mark_of (board_in l).default_line → set l default_at n ≡ numbers_of_board (board_in l)
   copied {n} q =
-      let s = set r default_at n in
-      let m : get_or s default_at 0 ≡ n = get_or-set_same r default_at n 0 (rw copied_length (omega arith)) in
+      let s = set l default_at n in
+      let m : get_or s default_at 0 ≡ n = get_or-set_same l default_at n 0 (rw fits (omega arith)) in
       let split : part s 0 default_at ++ part s default_at 1 ≡ part s 0 board_length = part_join s 0 default_at 1 in
-      part_whole s board_length (length-set r default_at n ∙ copied_length)
+      part_whole s board_length (length-set l default_at n ∙ fits)
       ∙ sym split
       ∙ rw (← part_one s default_at, m, copied_front n, q) (sym (front_spelled l))
 

@@ -13,7 +13,7 @@ use Rattle.common_laws.proofs.FrontLaws.{table_same}
 use Rattle.common_laws.proofs.SetsLaws.{five, two_sets, six_sets, Agree, five_same, sets_apart}
 use Rattle.common_laws.proofs.SetsLaws.{counted_apart, counted_inside, records_apart}
 use Rattle.common_numbers.specs.Numbers.{slave_length}
-use Rattle.description_board.specs.declared.Slave.{Slave}
+use Rattle.description_board.specs.Records.{Slave}
 use Rattle.description_board.specs.Rules.{with_master, with_slave, with_default}
 use Rattle.description_layout.specs.Layout.{marked, shares_from, default_at, board_length}
 use Rattle.description_layout.specs.Layout.{master_from, slave_from, numbers_of_slave, board_in}

@@ -5,7 +5,7 @@ use Rattle.std.specs.Prelude.{Bool, cond, not, List, [], ◌∷◌, ◌++◌, �
 use Rattle.common_laws.specs.Lists.{gather, table}
 use Rattle.common_numbers.specs.Numbers.{slave_length}
 use Rattle.description_board.specs.declared.Master.{Master}
-use Rattle.description_board.specs.declared.Slave.{Slave}
+use Rattle.description_board.specs.Records.{Slave}
 use Rattle.description_board.specs.declared.Board.{Board}
 use Rattle.description_board.specs.Records.{master_at, slave_at}
 

@@ -1,4 +1,4 @@
-// A board in a lent array of numbers (rule 1.10): each record is read and put at its index.
+// A board in a lent array of numbers (rule 1.10), as the library keeps and allocates nothing: each record is read and put at its index.
 // specs/Layout.antt says what the numbers mean.
 #![tactic(auto)]
 
@@ -14,21 +14,16 @@ use common_numbers::{
 };
 use description_board::{Master, Slave};
 
-// The count of numbers lent. A call of it with an array tells a proof that array's length, and costs nothing.
-pub fn count(l: &[u32]) -> usize
-    ensures { result ≡ length l.now }
-{
-    l.len()
-}
-
 // The number of a mark (rule 2.4).
+#[tactic(auto, unfolding(crate::specs::Layout::mark_of))]
 pub fn mark_of(b: bool) -> u32
     ensures { result ≡ mark_of b }
 {
-    if b { 1 } else { 0 }
+    u32::from(b)
 }
 
 // The count of masters (rules 1.1, 1.10).
+#[tactic(auto, unfolding(crate::specs::Layout::board_in))]
 pub fn master_count(board: &[u32; BOARD_NUMBERS]) -> u32
     ensures { result ≡ (board_in board.now).master_count }
 {
@@ -36,6 +31,7 @@ pub fn master_count(board: &[u32; BOARD_NUMBERS]) -> u32
 }
 
 // The count of slaves (rules 1.1, 1.10).
+#[tactic(auto, unfolding(crate::specs::Layout::board_in))]
 pub fn slave_count(board: &[u32; BOARD_NUMBERS]) -> u32
     ensures { result ≡ (board_in board.now).slave_count }
 {
@@ -43,6 +39,7 @@ pub fn slave_count(board: &[u32; BOARD_NUMBERS]) -> u32
 }
 
 // Master m (rules 1.1, 1.10).
+#[tactic(auto, using(crate::proofs::BoardLaws::master_read), unfolding(crate::specs::Layout::master_from))]
 pub fn master_at(board: &[u32; BOARD_NUMBERS], m: usize) -> Master
     requires { m < 8 }
     ensures { result ≡ master_at (board_in board.now) m }
@@ -55,6 +52,7 @@ pub fn master_at(board: &[u32; BOARD_NUMBERS], m: usize) -> Master
 }
 
 // Slave s (rules 1.1, 1.10).
+#[tactic(auto, using(crate::proofs::BoardLaws::slave_read), unfolding(crate::specs::Layout::slave_from))]
 pub fn slave_at(board: &[u32; BOARD_NUMBERS], s: usize) -> Slave
     requires { s < 16 }
     ensures { result ≡ slave_at (board_in board.now) s }
@@ -73,6 +71,7 @@ pub fn slave_at(board: &[u32; BOARD_NUMBERS], s: usize) -> Slave
 }
 
 // The shares at index i of the 128 (rules 1.8, 1.10).
+#[tactic(auto, using(crate::proofs::BoardLaws::share_found))]
 pub fn share_in(board: &[u32; BOARD_NUMBERS], i: usize) -> u32
     requires { i < 128 }
     ensures { result ≡ get_or (board_in board.now).shares i 0 }
@@ -81,6 +80,7 @@ pub fn share_in(board: &[u32; BOARD_NUMBERS], i: usize) -> u32
 }
 
 // The shares of master m at slave s (rules 1.8, 1.10); 0: not connected.
+#[tactic(auto, using(crate::proofs::BoardLaws::share_read))]
 pub fn shares_at(board: &[u32; BOARD_NUMBERS], m: usize, s: usize) -> u32
     requires { (m < 8) × (s < 16) }
     ensures { result ≡ shares_at (board_in board.now) m s }
@@ -89,6 +89,7 @@ pub fn shares_at(board: &[u32; BOARD_NUMBERS], m: usize, s: usize) -> u32
 }
 
 // Whether the board has the line `default` (rules 1.10, 1.11).
+#[tactic(auto, unfolding(crate::specs::Layout::board_in))]
 pub fn default_at(board: &[u32; BOARD_NUMBERS]) -> bool
     ensures { result ≡ (board_in board.now).default_line }
 {
@@ -96,11 +97,11 @@ pub fn default_at(board: &[u32; BOARD_NUMBERS]) -> bool
 }
 
 // One master more (rules 1.1, 1.10).
+#[tactic(auto, using(crate::proofs::PutLaws::master_put))]
 pub fn put_master(board: &mut [u32; BOARD_NUMBERS], width: u32, burst: u32)
     requires { (board_in board.old).master_count < 8 }
     ensures { board_in board.new ≡ with_master (board_in board.old) width burst }
 {
-    count(board);
     let n = master_count(board);
     let p = MASTERS_FROM + MASTER_NUMBERS * n as usize;
     board[p] = width;
@@ -109,11 +110,11 @@ pub fn put_master(board: &mut [u32; BOARD_NUMBERS], width: u32, burst: u32)
 }
 
 // One slave more (rules 1.1, 1.10).
+#[tactic(auto, using(crate::proofs::PutLaws::slave_put))]
 pub fn put_slave(board: &mut [u32; BOARD_NUMBERS], s: Slave)
     requires { (board_in board.old).slave_count < 16 }
     ensures { board_in board.new ≡ with_slave (board_in board.old) s }
 {
-    count(board);
     let n = slave_count(board);
     let p = SLAVES_FROM + SLAVE_NUMBERS * n as usize;
     board[p] = s.base;
@@ -128,33 +129,28 @@ pub fn put_slave(board: &mut [u32; BOARD_NUMBERS], s: Slave)
 }
 
 // Sets the shares at index i of the 128 (rules 1.8, 1.10).
+#[tactic(auto, using(crate::proofs::PutLaws::share_put))]
 pub fn put_share_at(board: &mut [u32; BOARD_NUMBERS], i: usize, n: u32)
     requires { i < 128 }
     ensures { board_in board.new ≡ with_share_at (board_in board.old) i n }
 {
-    count(board);
     board[SHARES_FROM + i] = n;
 }
 
 // The line `default` (rules 1.10, 1.11).
+#[tactic(auto, using(crate::proofs::PutLaws::default_put))]
 pub fn put_default(board: &mut [u32; BOARD_NUMBERS])
     ensures { board_in board.new ≡ with_default (board_in board.old) }
 {
-    count(board);
     board[DEFAULT_AT] = 1;
 }
 
 // A board's numbers, copied as they stand, and its mark, which is put as 0 or 1 (rules 1.10, 2.4).
+#[tactic(auto, using(crate::proofs::NumbersLaws::copied))]
 pub fn copy(to: &mut [u32; BOARD_NUMBERS], from: &[u32; BOARD_NUMBERS])
     ensures { to.new ≡ numbers_of_board (board_in from.now) }
 {
-    count(to);
-    count(from);
-    let mut i: usize = 0;
-    while i < DEFAULT_AT {
-        to[i] = from[i];
-        i += 1;
-    }
+    *to = *from;
     to[DEFAULT_AT] = mark_of(default_at(from));
 }
 
@@ -162,10 +158,5 @@ pub fn copy(to: &mut [u32; BOARD_NUMBERS], from: &[u32; BOARD_NUMBERS])
 pub fn clear(board: &mut [u32; BOARD_NUMBERS])
     ensures { board.new ≡ replicate board_length 0 }
 {
-    count(board);
-    let mut i: usize = 0;
-    while i < BOARD_NUMBERS {
-        board[i] = 0;
-        i += 1;
-    }
+    *board = [0; BOARD_NUMBERS];
 }

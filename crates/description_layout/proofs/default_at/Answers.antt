@@ -1,9 +1,0 @@
--- `description_layout::default_at` meets its contract.
--- Assumes nothing.
-use mathlib.Core.Path.{refl}
-use Rattle.description_layout.specs.Layout.{board_in}
-use Rattle.description_layout.proofs.default_at.Goals as goal
-
-pub returns : goal.returns
-unfolding board_in
-returns c = refl
