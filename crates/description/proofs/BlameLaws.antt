@@ -1,31 +1,37 @@
 -- The lines of a text, read and counted from a position of it on.
 -- Assumes nothing.
-use mathlib.Core.Bool.{cond}
+use Rattle.std.specs.Prelude.{Result, Ok, Err, IfErr}
+use mathlib.Core.Bool.{Bool, true, false, cond}
 use mathlib.Core.List.{List, ◌∷◌}
 use mathlib.Core.Logic.{◌≢◌}
 use mathlib.Core.Path.{◌≡◌, refl, ap, ap₂, sym, ◌∙◌}
 use Prim.Native.Nat.{ℕ, ◌+◌, ◌≤◌, ◌<◌}
 use native.Mathlib.Omega.{arith}
 use lib.Dec.{eqb}
-use lib.ListN.{length, drop, drop_of_length-le}
+use lib.ListN.{length, drop, replicate, drop_of_length-le}
 use borrow.Author.Tests.{lt-ltb, le-ltb, eq-eqb, ne_eqb}
 use Rattle.common_text.specs.Fields.{split}
+use Rattle.common_numbers.specs.declared.Refusal.{Refusal}
+use Rattle.common_numbers.specs.declared.Refusal.TheVariants.{BadText}
+use Rattle.common_numbers.specs.Refusals.{refusal_number}
+use Rattle.common_numbers.proofs.RefusalLaws.{refusal_not_zero}
 use Rattle.description_board.specs.declared.Item.{Item}
-use Rattle.description_board.specs.declared.Item.TheVariants.{Malformed}
 use Rattle.description_board.specs.declared.Reading.{Reading}
 use Rattle.description_board.specs.Rules.{refused, start, step, step_all, without_share, finish, described}
 use Rattle.description_board.proofs.StepAllLaws.{run_stays, finish_stays, step_number}
-use Rattle.description_layout.specs.Layout.{board_in, numbers_of_board}
+use Rattle.description_layout.specs.Layout.{board_length, board_in, numbers_of_board}
+use Rattle.description_layout.proofs.BoardLaws.{board_none}
 use Rattle.description_layout.proofs.NumbersLaws.{numbers_read}
-use Rattle.description_rules.specs.declared.Progress.{Progress}
 use Rattle.description_rules.specs.Code.Readings.{reading_of}
 use Rattle.description_lines.specs.Reader.{items_of, items_of_pieces, unended}
 use Rattle.description_lines.specs.Code.LineFrom.{LineFrom}
 use Rattle.description.specs.Reader.{most_bytes, reading, read_text}
-use Rattle.description.specs.declared.Refusal.{Refusal}
-use Rattle.description.specs.Blame.{first_refused, charged_line, master_named_by, named_master, refused_at}
+use Rattle.description.specs.declared.Blame.{Blame}
+use Rattle.description.specs.declared.Charged.TheVariants.{Line, Text}
+use Rattle.description.specs.Blame.{first_refused, charged_line, master_named_by, named_master}
+use Rattle.description.specs.Blame.{Charge, refused_at, charge_of, charged_by}
 use Rattle.description.specs.Lent.{Read}
-use Rattle.description.specs.Code.Reading.{Comes, LinesCome}
+use Rattle.description.specs.Code.Reading.{named, Comes, LinesCome}
 use Rattle.description.proofs.TextLengths.{reading_short, reading_long}
 
 -- one line more
@@ -69,13 +75,13 @@ end_named : (xs : List Item) (r q : Reading) (master lowest : ℕ) → step_all 
 unfolding master_named_by described
 end_named xs r q master lowest e f g h = h ∙ rw (e, f, g)
 
--- none where a line is refused
+-- none if a line is refused
 line_named : (xs : List Item) → ((described xs).number ≡ 20 → ⊥) → 0 ≡ master_named_by xs
 unfolding master_named_by
 line_named xs h = rw (ne_eqb (described xs).number 20 h)
 
 module _ (s : List ℕ) (r q : Reading) (n at : ℕ) (before : Counted s r n at) where
-  -- behind the last line
+  -- after the last line
   pub counted_end : (master lowest : ℕ) → length s ≤ at → q ≡ finish r → lowest ≡ without_share r.board
       → master ≡ cond (eqb q.number 20) lowest 0 → Whole s q 0 master
   unfolding described step_all first_refused items_of items_of_pieces unended split
@@ -102,6 +108,9 @@ module _ (s : List ℕ) (r q : Reading) (n at : ℕ) (before : Counted s r n at)
       line = before.line ∙ rw line.lines (first_taken n r q x _ e none);
     }
 
+    pub not_twenty : q.number ≡ 20 → ⊥
+    not_twenty z = step_number r x (λ y. omega (arith, before.none)) (rw e at z)
+
     pub counted_refused : (q.number ≡ 0 → ⊥) → Whole s q (n + 1) 0
     unfolding described
     counted_refused some =
@@ -113,61 +122,92 @@ module _ (s : List ℕ) (r q : Reading) (n at : ℕ) (before : Counted s r n at)
           named = line_named (items_of s) other;
         }
 
--- the same of a reading whose board is an array
-pub whole_comes : (s : List ℕ) (p : Progress) (l : List ℕ) (line master : ℕ) → Whole s (reading_of p l) line master
-    → LinesCome s l (record { number = p.number; line = line; master = master })
-unfolding reading_of
-whole_comes s p l line master e = record {
-  number = ap (λ (q : Reading). q.number) e.reading;
-  charged = e.charged;
-  named = e.named;
-  board = ap (λ (q : Reading). q.board) e.reading;
-}
+-- what is charged is what the numbers say
+charged_line_lem : (e : Refusal) (n : ℕ) → (refusal_number e ≡ 20 → ⊥) → Line (n + 1) ≡ charged_by (charge_of (Err (record { refusal = e; charged = Line (n + 1) })))
+unfolding charged_by
+charged_line_lem e n h = rw (ne_eqb (refusal_number e) 20 h, ne_eqb (n + 1) 0 (λ z. omega (arith, z)))
+
+module _ (e : Refusal) (lowest : ℕ) where
+  named_lem : (t : Bool) → eqb (refusal_number e) 20 ≡ t
+      → (charge_of (Err (named e lowest)) ≡ record { number = refusal_number e; line = 0; master = cond t lowest 0 })
+      × ((named e lowest).charged ≡ charged_by (charge_of (Err (named e lowest))))
+  unfolding named charged_by
+  named_lem true h = rw h (refl, refl)
+  named_lem false h = rw h (refl, refl)
+
+-- the same of an answer, and a reading whose board is an array: a line refused, the end refused, nothing refused
+module _ (s l : List ℕ) where
+  pub line_comes : (e : Refusal) (n : ℕ) → Whole s (reading_of (Err e) l) (n + 1) 0 → (refusal_number e ≡ 20 → ⊥)
+      → LinesCome s l (Err (record { refusal = e; charged = Line (n + 1) }))
+  unfolding reading_of
+  line_comes e n w h = record {
+    charge = ap₂ (λ (q : Reading) (k : ℕ). record { number = q.number; line = k; master = 0 }) w.reading w.charged
+        ∙ ap (λ (m : ℕ). record { number = (described (items_of s)).number; line = first_refused 0 start (items_of s); master = m }) w.named;
+    charged = charged_line_lem e n h;
+    board = ap (λ (q : Reading). q.board) w.reading;
+  }
+
+  pub end_comes : (e : Refusal) (lowest : ℕ) (b : Blame)
+      → Whole s (reading_of (Err e) l) 0 (cond (eqb (refusal_number e) 20) lowest 0) → b ≡ named e lowest → LinesCome s l (Err b)
+  unfolding reading_of
+  end_comes e lowest b w h =
+      let p = named_lem e lowest (eqb (refusal_number e) 20) refl in
+      rw h (record {
+        charge = p.0
+            ∙ ap₂ (λ (q : Reading) (k : ℕ). record { number = q.number; line = k; master = cond (eqb (refusal_number e) 20) lowest 0 }) w.reading w.charged
+            ∙ ap (λ (m : ℕ). record { number = (described (items_of s)).number; line = first_refused 0 start (items_of s); master = m }) w.named;
+        charged = p.1;
+        board = ap (λ (q : Reading). q.board) w.reading;
+      })
+
+  pub none_comes : (above : ℕ) (u : Unit) → Whole s (reading_of (Ok above) l) 0 0 → LinesCome s l (Ok u)
+  unfolding reading_of
+  none_comes above u w = record {
+    charge = ap₂ (λ (q : Reading) (k : ℕ). record { number = q.number; line = k; master = 0 }) w.reading w.charged
+        ∙ ap (λ (m : ℕ). record { number = (described (items_of s)).number; line = first_refused 0 start (items_of s); master = m }) w.named;
+    charged = tt;
+    board = ap (λ (q : Reading). q.board) w.reading;
+  }
 
 -- the length goes first
-module _ (s : List ℕ) (l : List ℕ) where
-  pub comes_short : (r : Refusal) → length s ≤ most_bytes
+module _ (s l : List ℕ) where
+  pub comes_short : (r : Result Unit Blame) → length s ≤ most_bytes
       → LinesCome s l r → Comes (reading s) (charged_line s) (named_master s) l r
   unfolding charged_line named_master
-  comes_short r h e = record {
-    number = e.number ∙ ap (λ (q : Reading). q.number) (sym (reading_short s h));
-    charged = e.charged ∙ sym (rw (le-ltb most_bytes (length s) h));
-    named = e.named ∙ sym (rw (le-ltb most_bytes (length s) h));
-    board = e.board ∙ ap (λ (q : Reading). q.board) (sym (reading_short s h));
-  }
+  comes_short r h e =
+      rw (reading_short s h, le-ltb most_bytes (length s) h) e
 
-  pub comes_long : (p : Progress) → most_bytes < length s → reading_of p l ≡ step start Malformed
-      → Comes (reading s) (charged_line s) (named_master s) l (record { number = p.number; line = 0; master = 0 })
-  unfolding charged_line named_master reading_of
-  comes_long p h e = record {
-    number = ap (λ (q : Reading). q.number) (e ∙ sym (reading_long s h));
-    charged = sym (rw (lt-ltb most_bytes (length s) h));
-    named = sym (rw (lt-ltb most_bytes (length s) h));
-    board = ap (λ (q : Reading). q.board) (e ∙ sym (reading_long s h));
-  }
+  pub comes_long : most_bytes < length s → l ≡ replicate board_length 0
+      → Comes (reading s) (charged_line s) (named_master s) l (Err (record { refusal = BadText; charged = Text }))
+  unfolding charged_line named_master charged_by refused
+  comes_long h z =
+      rw (reading_long s h, lt-ltb most_bytes (length s) h)
+      (record { charge = refl; charged = refl; board = rw (z, board_none) })
 
 -- what is answered and what the array holds then
-module _ (s : List ℕ) (l : List ℕ) (r : Refusal) (e : Comes (reading s) (charged_line s) (named_master s) l r) where
-  pub read_refused : (before : List ℕ) → (r.number ≡ 0 → ⊥) → Read s before before r.number
+module _ (s l : List ℕ) where
+  pub read_refused : (before : List ℕ) (b : Blame) → Comes (reading s) (charged_line s) (named_master s) l (Err b)
+      → Read s before before (refusal_number b.refusal)
   unfolding read_text
-  read_refused before h = record {
-    number = e.number;
-    board = λ z. absurd (h z);
-    numbers = λ z. absurd (h z);
+  read_refused before b e = record {
+    number = ap (λ (c : Charge). c.number) e.charge;
+    board = λ z. refusal_not_zero b.refusal z;
+    numbers = λ z. refusal_not_zero b.refusal z;
     kept = λ _. refl;
   }
 
-  pub read_taken : (before after : List ℕ) → r.number ≡ 0 → after ≡ numbers_of_board (board_in l) → Read s before after 0
+  pub read_taken : (before after : List ℕ) (u : Unit) → Comes (reading s) (charged_line s) (named_master s) l (Ok u)
+      → after ≡ numbers_of_board (board_in l) → Read s before after 0
   unfolding read_text
-  read_taken before after h put = record {
-    number = sym h ∙ e.number;
+  read_taken before after u e put = record {
+    number = ap (λ (c : Charge). c.number) e.charge;
     board = λ _. ap board_in put ∙ numbers_read l ∙ e.board;
     numbers = λ _. put ∙ ap numbers_of_board e.board;
     kept = λ z. absurd (z refl);
   }
 
-  pub refusal_is : r ≡ refused_at s
+  pub refusal_is : (r : Result Unit Blame) → Comes (reading s) (charged_line s) (named_master s) l r
+      → (charge_of r ≡ refused_at s) × IfErr r (λ b. b.charged ≡ charged_by (refused_at s))
   unfolding refused_at read_text
-  refusal_is =
-      ap₂ (λ (n k : ℕ). record { number = n; line = k; master = r.master }) e.number e.charged
-      ∙ ap (λ (m : ℕ). record { number = (reading s).number; line = charged_line s; master = m }) e.named
+  refusal_is (Ok u) e = (e.charge, tt)
+  refusal_is (Err b) e = (e.charge, e.charged ∙ ap charged_by e.charge)

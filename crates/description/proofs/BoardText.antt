@@ -1,6 +1,7 @@
 -- A board's lines written one behind another, and how many bytes they take.
 -- Assumes nothing.
-use mathlib.Core.List.{List, [], ◌∷◌, ◌++◌}
+use Rattle.std.specs.Prelude.{Option, Some, None, option_to_list}
+use mathlib.Core.List.{List, [], ◌∷◌, ◌++◌, append-nil}
 use mathlib.Core.Path.{◌≡◌, refl, ap}
 use Prim.Native.Nat.{ℕ, zero, suc, ◌+◌, ◌*◌, ◌/◌, ◌%◌, ◌≤◌, ◌<◌}
 use native.Mathlib.Nat.{mul-suc}
@@ -13,16 +14,15 @@ use Rattle.common_text.specs.Code.Scanning.{Put}
 use Rattle.common_text.proofs.Puts.{put_then, put_front}
 use Rattle.description_board.specs.declared.Board.{Board}
 use Rattle.description_board.specs.declared.Item.{Item}
-use Rattle.description_board.specs.declared.Item.TheVariants.{Malformed, MasterLine, SlaveLine, ShareLine, DefaultLine}
+use Rattle.description_board.specs.declared.Item.TheVariants.{ShareLine}
 use Rattle.description_board.specs.Items.{master_item, slave_item, share_item, default_item, items, board_refusal}
 use Rattle.description_board.proofs.Accepted.{accepted_legal}
 use Rattle.description_board.proofs.ItemLaws.{line_none, line_some}
-use Rattle.description_check.specs.Code.Entries.{entry_count, line_at, present, lines_to}
+use Rattle.description_check.specs.Code.Entries.{entry_count, line_at, lines_to}
 use Rattle.description_check.proofs.EntryLaws.{lines_all, lines_next}
 use Rattle.description_lines.specs.Writer.{item_text, items_text}
 use Rattle.description_lines.proofs.WriteLaws.{line_room, item_fits, text_append, text_one, length_text}
-use Rattle.description.specs.Writer.{write_text, write_refusal, write_answer, write_output}
-use Rattle.description.specs.declared.Written.{Written}
+use Rattle.description.specs.Writer.{Written, write_text, write_refusal, write_answer, write_output}
 
 -- The lines of the numbers below n.
 module _ (f : ℕ → List Item) where
@@ -64,14 +64,11 @@ module _ (shares : List ℕ) (i : ℕ) where
       (ShareLine (i / 16) (i % 16) (get_or shares i 0))
   pair_some h = rw (line_some shares i h) (text_one (ShareLine (i / 16) (i % 16) (get_or shares i 0)))
 
--- the text of an entry: an entry with no line has no bytes
-text_present : (x : Item) → items_text (present x) ≡ item_text x
-unfolding present items_text item_text
-text_present Malformed = refl
-text_present (MasterLine w u) = text_one (MasterLine w u)
-text_present (SlaveLine n) = text_one (SlaveLine n)
-text_present (ShareLine m s n) = text_one (ShareLine m s n)
-text_present DefaultLine = text_one DefaultLine
+-- the text of an entry, with a line or without, is short
+entry_fits : (x : Option Item) → length (items_text (option_to_list x)) ≤ line_room
+unfolding items_text
+entry_fits None = omega arith
+entry_fits (Some x) = rw (text_one x) (item_fits x)
 
 -- an accepted board has at most 8 masters and 16 slaves
 pub few_places : (b : Board) → board_refusal b ≡ 0 → entry_count b ≤ 153
@@ -83,26 +80,32 @@ module _ (b : Board) where
   unfolding write_text
   text_all k e = rw (e, lines_all b)
 
-  text_next : (k : ℕ) → items_text (lines_to b (k + 1)) ≡ items_text (lines_to b k) ++ item_text (line_at b k)
-  text_next k = rw (lines_next b k, text_append, text_present)
-
-  pub length_next : (k : ℕ) → length (items_text (lines_to b (k + 1))) ≡ length (items_text (lines_to b k)) + length
-      (item_text (line_at b k))
-  length_next k = rw (text_next k) (length-append (items_text (lines_to b k)) (item_text (line_at b k)))
-
-  pub room_next : (k : ℕ) → k < entry_count b
-      → length (items_text (lines_to b k)) + length (item_text (line_at b k)) ≤ length (write_text b)
-  unfolding lines_to
-  room_next k h = rw (text_present, text_all (entry_count b) refl) at (gather_room (λ j. present (line_at b j)) (entry_count b) k h)
+  -- an entry with no line has no bytes
+  pub no_line : (k : ℕ) (r : Option Item) → r ≡ line_at b k → ((x : Item) → r ≡ Some x → ⊥)
+      → items_text (lines_to b (k + 1)) ≡ items_text (lines_to b k)
+  no_line k None e h = rw (lines_next b k, ← e, append-nil (lines_to b k))
+  no_line k (Some x) e h = absurd (h x refl)
 
   pub lines_fit : (k : ℕ) → length (items_text (lines_to b k)) ≤ line_room * k
   unfolding lines_to
-  lines_fit k = gather_most (λ j. present (line_at b j)) line_room k (λ i l. rw text_present (item_fits (line_at b i)))
+  lines_fit k = gather_most (λ j. option_to_list (line_at b j)) line_room k (λ i l. entry_fits (line_at b i))
 
-  pub put_next :
-      {o p q : List ℕ} {at r t : ℕ} (k : ℕ) → Put o at (items_text (lines_to b k)) p r → Put p r (item_text (line_at b k)) q t
-      → Put o at (items_text (lines_to b (k + 1))) q t
-  put_next k x y = rw (text_next k) (put_then x y)
+  -- an entry with a line
+  module _ (k : ℕ) {x : Item} (e : Some x ≡ line_at b k) where
+    text_next : items_text (lines_to b (k + 1)) ≡ items_text (lines_to b k) ++ item_text x
+    text_next = rw (lines_next b k, ← e, text_append (lines_to b k) (x ∷ []), text_one x)
+
+    pub length_next : length (items_text (lines_to b (k + 1))) ≡ length (items_text (lines_to b k)) + length (item_text x)
+    length_next = rw text_next (length-append (items_text (lines_to b k)) (item_text x))
+
+    pub room_next : k < entry_count b → length (items_text (lines_to b k)) + length (item_text x) ≤ length (write_text b)
+    unfolding lines_to
+    room_next h =
+        rw (← e, text_one x, text_all (entry_count b) refl) at (gather_room (λ j. option_to_list (line_at b j)) (entry_count b) k h)
+
+    pub put_next : {o p q : List ℕ} {at r t : ℕ} → Put o at (items_text (lines_to b k)) p r → Put p r (item_text x) q t
+        → Put o at (items_text (lines_to b (k + 1))) q t
+    put_next y z = rw text_next (put_then y z)
 
 -- a board's text in four parts
 module _ (b : Board) where

@@ -1,6 +1,6 @@
 pub mod TextLengths
 pub mod BlameLaws
-pub mod Charged
+pub mod ChargedLaws
 pub mod BoardText
 pub mod LineTrip
 pub mod LineText

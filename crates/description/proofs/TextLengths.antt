@@ -5,8 +5,7 @@ use mathlib.Core.Path.{◌≡◌}
 use Prim.Native.Nat.{ℕ, ◌≤◌, ◌<◌}
 use lib.ListN.{length}
 use borrow.Author.Tests.{lt-ltb, le-ltb}
-use Rattle.description_board.specs.declared.Item.TheVariants.{Malformed}
-use Rattle.description_board.specs.Rules.{item_refusal, refused, start, step, described}
+use Rattle.description_board.specs.Rules.{refused, described}
 use Rattle.description_lines.specs.Reader.{items_of}
 use Rattle.description.specs.Reader.{most_bytes, reading}
 
@@ -15,6 +14,6 @@ pub reading_short : (s : List ℕ) → length s ≤ most_bytes → reading s ≡
 unfolding reading
 reading_short s h = rw (le-ltb most_bytes (length s) h)
 
-pub reading_long : (s : List ℕ) → most_bytes < length s → reading s ≡ step start Malformed
-unfolding reading step item_refusal start refused
+pub reading_long : (s : List ℕ) → most_bytes < length s → reading s ≡ refused 1
+unfolding reading
 reading_long s h = rw (lt-ltb most_bytes (length s) h)

@@ -9,17 +9,18 @@ use native.Mathlib.Nat.{div-add-mod', mod-lt}
 use native.Mathlib.Numerals.{add-one}
 use native.Mathlib.Omega.{arith}
 use lib.Bits.{bit_and, bit_or, and_mask, and_le_l, and_le_r, or_add_and}
+use lib.Count.{ones, ones_in}
 use lib.Dec.{leb, ltb, eqb}
 use lib.ListN.{get_or, take}
 use borrow.Author.Count.{below_none, below_more}
-use borrow.Author.Tests.{eqb-true, leb-true, ltb-true, ltb-false, lt-ltb, le-ltb, le-leb, not-false}
+use borrow.Author.Tests.{eqb-true, leb-true, ltb-true, ltb-false, le-ltb, le-leb, not-false}
 use Rattle.common_laws.specs.Lists.{member, agree}
 use Rattle.common_laws.proofs.Finite.{each, agree_eq}
 use Rattle.common_laws.proofs.Tests.{both, neither}
 use Rattle.description_board.specs.declared.Master.{Master}
-use Rattle.description_board.specs.declared.Slave.{Slave}
+use Rattle.description_board.specs.Records.{Slave}
 use Rattle.description_board.specs.declared.Board.{Board}
-use Rattle.description_board.specs.Records.{no_master, no_slave, is_native, master_at, slave_at, shares_at, total_span}
+use Rattle.description_board.specs.Records.{no_master, no_slave, is_native, master_at, slave_at, total_span}
 use Rattle.description_board.specs.Records.{start_of, memory_length}
 use Rattle.description_board.specs.Rules.{widths, bursts, spans, slave_values, meets, overlaps, too_narrow, without_share}
 use Rattle.description_board.specs.Items.{board_refusal}
@@ -28,37 +29,37 @@ use Rattle.description_board.proofs.EndLaws.{each_shared}
 use Rattle.description_board.proofs.SpanLaws.{apart_at, total_suc}
 use Rattle.description_board.proofs.BoardSound.{values_legal}
 use Rattle.description_board.proofs.Accepted.{legal_accepted}
-use Rattle.description_check.specs.Code.Accept.{MastersFit, SlaveFits, Clear, NativesUpTo, SlavesFit}
-use Rattle.description_check.specs.Code.Accept.{Narrowest, ColumnFits, WideEnough, NativesFit}
-use Rattle.description_check.specs.Code.Accept.{share_limit, RowFits, RowEmpty, RowPasses, SharesFit}
+use Rattle.description_check.specs.Code.Accept.{power_up_to, MastersFit, SlaveFits, Clear, NativesUpTo, SlavesFit}
+use Rattle.description_check.specs.Code.Accept.{ColumnFits, WideEnough, NativesFit}
+use Rattle.description_check.specs.Code.Accept.{share_limit, RowFits, RowEmpty, SharesFit}
 use Rattle.description_check.proofs.LowBitLaws.{one_bit, listed_is}
 
--- up to the largest of the list, one bit set
-pub width_is : (x low : ℕ) → low ≡ x - 1 → (leb x 8 && (ltb 0 x && eqb (bit_and x low) 0)) ≡ member x widths
-unfolding member
-width_is x low e = rw e (listed_is widths 8 (λ n h. (width_bound n h).1) tt x)
+-- the legal widths and bursts: up to the largest of the list, one bit set
+pub width_is : (x : ℕ) → power_up_to 8 x ≡ member x widths
+unfolding power_up_to member ones ones_in
+width_is = listed_is widths 8 (λ n h. (width_bound n h).1) tt
 
-pub burst_is : (x low : ℕ) → low ≡ x - 1 → (leb x 64 && (ltb 0 x && eqb (bit_and x low) 0)) ≡ member x bursts
-unfolding member
-burst_is x low e = rw e (listed_is bursts 64 (λ n h. (burst_bound n h).1) tt x)
+pub burst_is : (x : ℕ) → power_up_to 64 x ≡ member x bursts
+unfolding power_up_to member ones ones_in
+burst_is = listed_is bursts 64 (λ n h. (burst_bound n h).1) tt
 
 -- a span with one bit set, and a base that has none of the bits below it
 span_is : (j : ℕ) → j < 17 → leb 8 (2 ^ j) ≡ member (2 ^ j) spans
 unfolding member
 span_is j h = agree_eq _ _ (each (λ k. agree (leb 8 (2 ^ k)) (member (2 ^ k) spans)) 17 tt j h)
 
-pub span_tested : (base span low : ℕ) → low ≡ span - 1
-    → ((eqb (bit_and span low) 0 && eqb (bit_and base low) 0) && (leb 8 span && leb span 65536)) ≡ true
+pub span_tested : (base span low : ℕ) (power : Bool) → low ≡ span - 1 → power ≡ power_up_to 65536 span
+    → ((power && leb 8 span) && eqb (bit_and base low) 0) ≡ true
     → (member span spans ≡ true) × (base % span ≡ 0)
-span_tested base span low l e =
-    let e1 = both (eqb (bit_and span (span - 1)) 0 && eqb (bit_and base (span - 1)) 0) _ (rw l at e) in
-    let e2 = both (eqb (bit_and span (span - 1)) 0) _ e1.0 in
-    let e3 = both (leb 8 span) _ e1.1 in
-    let least : 8 ≤ span = leb-true _ _ e3.0 in
-    let most : span ≤ 65536 = leb-true _ _ e3.1 in
-    let p = one_bit 17 span (omega arith) (omega arith) (eqb-true _ _ e2.0) in
-    let low : bit_and base (2 ^ p.0 - 1) ≡ 0 = rw p.2 at (eqb-true (bit_and base (span - 1)) 0 e2.1) in
-    let listed : leb 8 (2 ^ p.0) ≡ true = rw p.2 at e3.0 in
+unfolding power_up_to
+span_tested base span low power l w e =
+    let e1 = both (power && leb 8 span) _ e in
+    let e2 = both power _ e1.0 in
+    let e3 = both (leb span 65536) _ (sym w ∙ e2.0) in
+    let most : span ≤ 65536 = leb-true _ _ e3.0 in
+    let p = one_bit 17 span (omega arith) (eqb-true _ _ e3.1) in
+    let low : bit_and base (2 ^ p.0 - 1) ≡ 0 = rw (l, p.2) at (eqb-true (bit_and base low) 0 e1.1) in
+    let listed : leb 8 (2 ^ p.0) ≡ true = rw p.2 at e2.1 in
     (rw p.2 (sym (span_is p.0 p.1) ∙ listed), rw p.2 (sym (and_mask base p.0) ∙ low))
 
 -- a share within the limit is 0, or at most 100 and inside the count
@@ -88,13 +89,6 @@ row_empty_next shares m s used x e f q =
     let p = or_none used x q in
     record { each = below_more _ s (f p.0).each (sym e ∙ p.1) }
 
-pub row_inside : (shares : List ℕ) (m masters slaves : ℕ) → m < masters → RowFits shares m slaves 16
-    → RowPasses shares m masters slaves
-row_inside shares m masters slaves h r = record { each = λ s l z. let p = r.each s l z in (p.0, h, p.1) }
-
-pub row_outside : (shares : List ℕ) (m masters slaves : ℕ) → RowEmpty shares m 16 → RowPasses shares m masters slaves
-row_outside shares m masters slaves r = record { each = λ s l z. absurd (z (r.each s l)) }
-
 -- row by row, so share by share
 all_shares : (shares : List ℕ) (masters slaves : ℕ) → SharesFit shares masters slaves 8 → (i : ℕ) → i < 128 → get_or shares i 0 ≢ 0
     → (get_or shares i 0 ≤ 100) × (i / 16 < masters) × (i % 16 < slaves)
@@ -117,25 +111,6 @@ master_next masters i m width burst e w u t f =
     record { each = below_more _ i f.each (rw e at q) }
 
 -- ---- a slave and its masters
-
--- one master more
-pub narrowest_next : (masters : List Master) (i : ℕ) (m : Master) (least r : ℕ) → m ≡ get_or masters i no_master
-    → (r ≤ least) × (r ≤ m.width) → Narrowest masters i least → Narrowest masters (i + 1) r
-narrowest_next masters i m least r e l f =
-    let here : r ≤ (get_or masters i no_master).width = rw e at l.1 in
-    record { each = below_more _ i (λ k h. omega (arith, f.each k h, l.0)) here }
-
--- one master more: no share, or wide enough
-pub column_next : (b : Board) (s width m : ℕ) (bad : Bool) (x : ℕ) (ma : Master) → x ≡ shares_at b m s → ma ≡ master_at b m
-    → (bad ≡ false → ColumnFits b s width m) → (bad || (ltb 0 x && ltb ma.width width)) ≡ false
-    → ColumnFits b s width (m + 1)
-column_next b s width m bad x ma e g f q =
-    let p = neither bad _ q in
-    let here : shares_at b m s ≢ 0 → width ≤ (master_at b m).width = rw (e, g) at (held x ma.width p.1) in
-    record { each = below_more _ m (f p.0).each here }
-  where
-    held : (n w : ℕ) → (ltb 0 n && ltb w width) ≡ false → n ≢ 0 → width ≤ w
-    held n w c z = ltb-false w width (rw (lt-ltb 0 n (omega (arith, z))) at c)
 
 -- a slave that is not native has no master that is too narrow, and no master is so that is as wide
 not_native : (ma : Master) (sl : Slave) → sl.native ≡ 0 → too_narrow ma sl ≡ false
@@ -168,13 +143,6 @@ none_wide b n native masters f e = record {
 -- or its masters are wide enough
 pub wide_by_column : (b : Board) (s : ℕ) (sl : Slave) (least : ℕ) → ColumnFits b s sl.width 8 → WideEnough b s sl least
 wide_by_column b s sl least f = record { each = λ m l z w. as_wide (master_at b m) sl (f.each m l z) }
-
--- one slave more
-pub natives_next : (b : Board) (i masters least : ℕ) (s : Slave) → s ≡ slave_at b i → masters ≤ 8
-    → Narrowest b.masters masters least → NativesFit b i masters → WideEnough b i s least → NativesFit b (i + 1) masters
-natives_next b i masters least s e few l f w =
-    let here : WideEnough b i (slave_at b i) least = rw e at w in
-    record { each = below_more _ i f.each (λ m k z. here.each m (omega arith) z (l.each m k)) }
 
 -- a slave that passes every test
 pub slave_passed : (s : Slave) (span width burst : Bool) → s.base ≤ 4294967295
@@ -259,28 +227,10 @@ next slaves native last total i r p q = record {
   up_to = up_to_next slaves native i p.up_to;
 }
 
-pub so_far_next : (slaves : List Slave) (native last total i r : ℕ) (s : Slave) → s ≡ get_or slaves i no_slave
+pub so_far_next : (slaves : List Slave) (native last total i r span : ℕ) (s : Slave) → s ≡ get_or slaves i no_slave → span ≡ s.span
     → SoFar slaves native last total i → Next slaves last i r s
-    → SoFar slaves (bit_or native s.native) r (total + s.span) (i + 1)
-so_far_next slaves native last total i r s e p q = rw e (next slaves native last total i r p (rw e at q))
-
-pub so_far_end : (slaves : List Slave) (native last total i n : ℕ) → SoFar slaves native last total i → i ≡ n
-    → (leb total 65536 && leb native 1) ≡ true → SlavesFit slaves n native
-so_far_end slaves native last total i n p e l =
-    let q = both (leb total 65536) _ l in
-    let few : total ≤ 65536 = leb-true _ _ q.0 in rw (← e) (record {
-      each = λ k h. (p.passed k h).fits;
-      apart = λ j k g h. (p.passed k h).apart j g;
-      total = omega (arith, p.sum);
-      up_to = p.up_to;
-      small = leb-true native 1 q.1;
-    })
-
--- a count that passes
-pub counted : (n most : ℕ) → (ltb n 1 || ltb most n) ≡ false → (0 < n) × (n ≤ most)
-counted n most e =
-    let p = neither (ltb n 1) _ e in
-    (ltb-false _ _ p.0, ltb-false _ _ p.1)
+    → SoFar slaves (bit_or native s.native) r (total + span) (i + 1)
+so_far_next slaves native last total i r span s e f p q = rw (f, e) (next slaves native last total i r p (rw e at q))
 
 -- a board whose parts pass is accepted
 parts_legal : (b : Board)

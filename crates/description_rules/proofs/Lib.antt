@@ -1,1 +1,2 @@
+pub mod Contained
 pub mod ReadingLaws

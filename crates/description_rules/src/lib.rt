@@ -4,24 +4,17 @@
 
 mod refusals;
 
-ghost use Rattle.std.specs.Prelude.{◌≡◌, true, ◌+◌, ◌*◌, ltb, replicate};
-ghost use Rattle.description_board.specs.declared.Item.TheVariants.{MasterLine, SlaveLine, ShareLine, DefaultLine};
-ghost use Rattle.description_board.specs.Rules.{slave_values, slave_of, refused, start, step, finish};
-ghost use Rattle.description_layout.specs.Layout.{board_length};
-ghost use Rattle.description_rules.specs.Code.Readings.{reading_of};
+ghost use Rattle.std.specs.Prelude.{◌≡◌, true, ◌+◌, ◌*◌, ltb};
+ghost use Rattle.description_board.specs.declared.Item.TheVariants.{ShareLine};
+ghost use Rattle.description_board.specs.Rules.{slave_values, slave_of, step, finish};
+ghost use Rattle.description_rules.specs.Code.Readings.{reading_of, Added};
 
-use common_numbers::{BAD_TEXT, BOARD_NUMBERS};
+use common_numbers::{BOARD_NUMBERS, Refusal};
 use description_board::{Item, Slave, SlaveNumbers};
 pub use refusals::{memory_length, overlaps, share_or_none, without_share};
 
-// The refusal's number or 0, and the rank of the pair on the line above, from 1; 0 where that is no share line (rules 1.4, 8.2).
-#[derive(Clone, Copy)]
-pub struct Progress {
-    pub number: u32,
-    pub above: u64,
-}
-
-// The slave of a line whose values are in their lists and ranges (rules 1.3, 1.6).
+// The slave of a line whose values are in their lists and ranges (rules 1.3, 1.6). No TryFrom: the test of the values has said that
+// they fit, so that nothing is left to refuse.
 fn slave_of(n: SlaveNumbers) -> Slave
     requires { slave_values n ≡ true }
     ensures { result ≡ slave_of n }
@@ -38,140 +31,84 @@ fn slave_of(n: SlaveNumbers) -> Slave
     }
 }
 
-// A refusal: its number, and a board that is all zero (rule 8.1).
-fn refused(board: &mut [u32; BOARD_NUMBERS], number: u32) -> Progress
-    ensures { reading_of result board.new ≡ refused number }
-{
-    description_layout::clear(board);
-    Progress {
-        number: number,
-        above: 0,
-    }
-}
-
-// Before the first line (rule 8.2). The board is an array of zeros then.
-pub fn start() -> Progress
-    ensures { reading_of result (replicate board_length 0) ≡ start }
-{
-    Progress {
-        number: 0,
-        above: 0,
-    }
-}
-
-// A master line after lines of which none was refused (rules 7.2, 7.3).
-fn step_master(board: &mut [u32; BOARD_NUMBERS], p: Progress, width: u64, burst: u64) -> Progress
-    requires { p.number ≡ 0 }
-    ensures { reading_of result board.new ≡ step (reading_of p board.old) (MasterLine width burst) }
-{
-    let number = refusals::master_refusal(board, width, burst);
-    if number != 0 {
-        return refused(board, number);
-    }
-    description_layout::put_master(board, width as u32, burst as u32);
-    Progress {
-        number: 0,
-        above: 0,
-    }
-}
-
-// A slave line after lines of which none was refused (rules 7.2 to 7.6).
-fn step_slave(board: &mut [u32; BOARD_NUMBERS], p: Progress, n: SlaveNumbers) -> Progress
-    requires { p.number ≡ 0 }
-    ensures { reading_of result board.new ≡ step (reading_of p board.old) (SlaveLine n) }
-{
-    let number = refusals::slave_refusal(board, 0 < p.above, n);
-    if number != 0 {
-        return refused(board, number);
-    }
-    description_layout::put_slave(board, slave_of(n));
-    Progress {
-        number: 0,
-        above: 0,
-    }
-}
-
 // Whether the shares of master m at slave s are among the 128 (rule 1.8). The first two tests keep the sum in a u64.
 fn in_table(m: u64, s: u64) -> bool
     ensures { result ≡ ltb (16 * m + s) 128 }
 {
-    if 8 <= m {
-        return false;
-    }
-    if 128 <= s {
-        return false;
-    }
-    16 * m + s < 128
+    m < 8 && s < 128 && 16 * m + s < 128
 }
 
-// A share line after lines of which none was refused (rules 7.2, 7.3, 7.7, 7.19, 7.21). Past the 128 there are no shares, as in
-// share_or_none.
-fn step_share(
+// A share line more, if it is not refused (rules 7.2, 7.3, 7.7, 7.19, 7.21). Past the 128 there are no shares, as in share_or_none.
+fn add_share(
     board: &mut [u32; BOARD_NUMBERS],
-    p: Progress,
+    above: u64,
     m: u64,
     s: u64,
     shares: u64,
-) -> Progress
-    requires { p.number ≡ 0 }
-    ensures { reading_of result board.new ≡ step (reading_of p board.old) (ShareLine m s shares) }
+) -> Result<u64, Refusal>
+    ensures { Added (reading_of (Ok above) board.old) (ShareLine m s shares) result board.new }
 {
-    let number = refusals::share_refusal(board, p.above, m, s, shares);
-    if number != 0 {
-        return refused(board, number);
-    }
-    let rank = refusals::pair_rank(m, s);
+    refusals::share_refusal(board, above, m, s, shares)?;
     if in_table(m, s) {
         description_layout::put_share_at(board, (16 * m + s) as usize, shares as u32);
     }
-    Progress {
-        number: 0,
-        above: rank,
-    }
+    Ok(refusals::pair_rank(m, s))
 }
 
-// The line `default` after lines of which none was refused (rule 7.2).
-fn step_default(board: &mut [u32; BOARD_NUMBERS], p: Progress) -> Progress
-    requires { p.number ≡ 0 }
-    ensures { reading_of result board.new ≡ step (reading_of p board.old) DefaultLine }
+// A line more, if it is not refused (rules 7.1 to 7.7, 7.19, 7.21): then the rank of its pair, from 1, or 0 if it is no share line
+// (rule 1.4); above is that of the line above.
+fn add_line(board: &mut [u32; BOARD_NUMBERS], above: u64, x: Item) -> Result<u64, Refusal>
+    ensures { Added (reading_of (Ok above) board.old) x result board.new }
 {
-    let number = refusals::default_refusal(board);
-    if number != 0 {
-        return refused(board, number);
-    }
-    description_layout::put_default(board);
-    Progress {
-        number: 0,
-        above: 0,
-    }
-}
-
-// One line more (rules 7.1 to 7.7, 7.19, 7.21, 8.2); a refusal stays.
-pub fn step(board: &mut [u32; BOARD_NUMBERS], p: Progress, x: Item) -> Progress
-    ensures { reading_of result board.new ≡ step (reading_of p board.old) x }
-{
-    if p.number != 0 {
-        return p;
-    }
     match x {
-        Item::Malformed => refused(board, BAD_TEXT),
-        Item::MasterLine(width, burst) => step_master(board, p, width, burst),
-        Item::SlaveLine(n) => step_slave(board, p, n),
-        Item::ShareLine(m, s, shares) => step_share(board, p, m, s, shares),
-        Item::DefaultLine => step_default(board, p),
+        Item::Malformed => Err(Refusal::BadText),
+        Item::MasterLine(width, burst) => {
+            refusals::master_refusal(board, width, burst)?;
+            description_layout::put_master(board, width as u32, burst as u32);
+            Ok(0)
+        }
+        Item::SlaveLine(n) => {
+            refusals::slave_refusal(board, 0 < above, n)?;
+            description_layout::put_slave(board, slave_of(n));
+            Ok(0)
+        }
+        Item::ShareLine(m, s, shares) => add_share(board, above, m, s, shares),
+        Item::DefaultLine => {
+            refusals::default_refusal(board)?;
+            description_layout::put_default(board);
+            Ok(0)
+        }
     }
 }
 
-// After the last line (rules 7.2, 7.20, 8.2).
-pub fn finish(board: &mut [u32; BOARD_NUMBERS], p: Progress) -> Progress
-    ensures { reading_of result board.new ≡ finish (reading_of p board.old) }
+// One line more (rules 7.1 to 7.7, 7.19, 7.21, 8.2), after what the line above was answered. With a refusal the board is all zero (rule
+// 8.1), and the refusal stays.
+#[tactic(auto, using(crate::proofs::ReadingLaws::step_stopped, crate::proofs::ReadingLaws::step_passed))]
+pub fn step(
+    board: &mut [u32; BOARD_NUMBERS],
+    above: Result<u64, Refusal>,
+    x: Item,
+) -> Result<u64, Refusal>
+    ensures { reading_of result board.new ≡ step (reading_of above board.old) x }
 {
-    if p.number != 0 {
-        return p;
+    let rank = above?;
+    let answer = add_line(board, rank, x);
+    if answer.is_err() {
+        description_layout::clear(board);
     }
-    let number = refusals::end_refusal(board);
-    if number != 0 {
-        return refused(board, number);
+    answer
+}
+
+// After the last line (rules 7.2, 7.20, 8.2), likewise.
+pub fn finish(board: &mut [u32; BOARD_NUMBERS], above: Result<u64, Refusal>) -> Result<u64, Refusal>
+    ensures { reading_of result board.new ≡ finish (reading_of above board.old) }
+{
+    let rank = above?;
+    match refusals::end_refusal(board) {
+        Ok(()) => Ok(rank),
+        Err(refusal) => {
+            description_layout::clear(board);
+            Err(refusal)
+        }
     }
-    p
 }

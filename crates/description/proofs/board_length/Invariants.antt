@@ -3,7 +3,6 @@
 -- An accepted board has at most 153 entries, so that no sum wraps.
 -- Assumes nothing.
 use mathlib.Core.Path.{◌≡◌}
-use Prim.Native.Nat.{◌-◌, ◌≤◌}
 use lib.ListN.{length}
 use Rattle.description_lines.specs.Writer.{items_text}
 use Rattle.description_check.specs.Code.Entries.{lines_to}
@@ -12,8 +11,4 @@ use Rattle.description.proofs.board_length.Given as goal
 
 abbrev pub invariant-loop-k : goal.invariant-loop-k
 invariant-loop-k l =
-    (l.k ≤ l.n) × (l.sum ≡ length (items_text (lines_to (board_in l.board) l.k)))
-
-abbrev pub decreases-loop-k : goal.decreases-loop-k
-decreases-loop-k l =
-    l.n - l.k
+    l.sum ≡ length (items_text (lines_to (board_in l.board) l.k))

@@ -1,7 +1,5 @@
 -- `description::put_board` meets its contract. The loop's invariant: the lines of the first k entries are stored.
--- The measure is how many are left.
 -- Assumes nothing.
-use Prim.Native.Nat.{◌-◌, ◌≤◌}
 use Rattle.description_lines.specs.Writer.{items_text}
 use Rattle.description_check.specs.Code.Entries.{lines_to}
 use Rattle.description_layout.specs.Layout.{board_in}
@@ -10,8 +8,4 @@ use Rattle.description.proofs.put_board.Given as goal
 
 abbrev pub invariant-loop-k : goal.invariant-loop-k
 invariant-loop-k l =
-    (l.k ≤ l.n) × Put l.initial.out 0 (items_text (lines_to (board_in l.board) l.k)) l.out l.next
-
-abbrev pub decreases-loop-k : goal.decreases-loop-k
-decreases-loop-k l =
-    l.n - l.k
+    Put l.initial.out 0 (items_text (lines_to (board_in l.board) l.k)) l.out l.next

@@ -3,8 +3,8 @@
 use Rattle.description.proofs.BlameLaws.{read_refused, read_taken}
 use Rattle.description.proofs.read.Goals as goal
 
-pub returns-then-outcome-ne0 : goal.returns-then-outcome-ne0
-returns-then-outcome-ne0 c = read_refused _ _ _ c.read_bounded-outcome.ensures _ c.if-outcome-ne0.true
+pub returns-in-Ok : goal.returns-in-Ok
+returns-in-Ok c = read_taken _ _ _ _ _ c.in-Ok.ensures c.copy.ensures
 
-pub returns : goal.returns
-returns c = read_taken _ _ _ c.read_bounded-outcome.ensures _ _ c.if-outcome-ne0.false c.copy.ensures
+pub returns-in-Err : goal.returns-in-Err
+returns-in-Err c = read_refused _ _ _ _ c.in-Err.ensures

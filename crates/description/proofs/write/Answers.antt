@@ -5,13 +5,14 @@ use mathlib.Core.List.{List}
 use Prim.Native.Nat.{ℕ, ◌≤◌}
 use native.Mathlib.Omega.{arith}
 use lib.ListN.{length}
+use Rattle.std.proofs.lemmas.Result.{err_from_is_err_and}
+use Rattle.common_numbers.proofs.RefusalLaws.{refusal_not_zero}
 use Rattle.description_board.specs.Items.{board_refusal}
 use Rattle.description_board.specs.declared.Board.{Board}
 use Rattle.description.proofs.Trip.{text_room}
 use Rattle.description.proofs.BoardText.{Writes, board_refused, room_refused, text_written}
-use Rattle.description.specs.Writer.{write_answer, write_output}
+use Rattle.description.specs.Writer.{Written, write_answer, write_output}
 use Rattle.description.specs.Longest.{longest}
-use Rattle.description.specs.declared.Written.{Written}
 use Rattle.description_layout.specs.Layout.{board_in}
 use Rattle.description.proofs.write.Goals as goal
 
@@ -31,23 +32,24 @@ promised b out most l w = record {
   room = λ h. ap (λ (r : Written). r.number) w.0 ∙ text_room b out (omega arith);
 }
 
-pub returns-then-number-ne0 : goal.returns-then-number-ne0
+pub returns-in_err-board_refusal : goal.returns-in_err-board_refusal
 unfolding longest
-returns-then-number-ne0 c =
+returns-in_err-board_refusal c =
+    let p = err_from_is_err_and c.from_residual.result c.from_residual.ensures.1 in
     let a = c.args in
     let b = board_in a.board.now in
     let w = promised b a.out.now _ (omega arith)
-    (board_refused b _ _ c.board_refusal-number.ensures c.if-number-ne0.true) in
-    record { answer = w.answer; output = w.output; room = w.room }
+    (board_refused b a.out.now _ c.in_err-board_refusal.ensures (λ z. refusal_not_zero _ z)) in
+    rw (p.1, p.2) (record { answer = w.answer; output = w.output; room = w.room })
 
 pub returns-then-out-length : goal.returns-then-out-length
 unfolding longest
 returns-then-out-length c =
     let a = c.args in
     let b = board_in a.board.now in
-    let accepted = sym c.board_refusal-number.ensures ∙ c.if-number-ne0.false in
     let w = promised b a.out.now _ (omega arith)
-    (room_refused b _ accepted (omega (arith, c.board_length-length.ensures, c.if-out-length.true))) in
+    (room_refused b a.out.now (sym c.in_ok-board_refusal.ensures)
+    (omega (arith, c.board_length-length.ensures, c.if-out-length.true))) in
     record { answer = w.answer; output = w.output; room = w.room }
 
 pub returns : goal.returns
@@ -55,11 +57,7 @@ unfolding longest
 returns c =
     let a = c.args in
     let b = board_in a.board.now in
-    let accepted = sym c.board_refusal-number.ensures ∙ c.if-number-ne0.false in
     let w = promised b a.out.now _ (omega arith)
-    (text_written b _ accepted _ _ (omega (
-      arith,
-      c.board_length-length.ensures,
-      c.if-out-length.false,
-    )) c.put_board-end.ensures) in
+    (text_written b a.out.now (sym c.in_ok-board_refusal.ensures) _ _
+    (omega (arith, c.board_length-length.ensures, c.if-out-length.false)) c.put_board.ensures) in
     record { answer = w.answer; output = w.output; room = w.room }

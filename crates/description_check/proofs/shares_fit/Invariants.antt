@@ -1,14 +1,8 @@
 -- `description_check::shares_fit` meets its contract. The loop's invariant: the shares of each master passed are legal.
 -- Assumes nothing.
-use Prim.Native.Nat.{◌≤◌, ◌-◌}
 use Rattle.description_check.specs.Code.Accept.{SharesFit}
 use Rattle.description_layout.specs.Layout.{board_in}
 use Rattle.description_check.proofs.shares_fit.Given as goal
 
 abbrev pub invariant-loop-m : goal.invariant-loop-m
-invariant-loop-m l =
-    (l.m ≤ 8) × SharesFit (board_in l.board).shares l.masters l.slaves l.m
-
-abbrev pub decreases-loop-m : goal.decreases-loop-m
-decreases-loop-m l =
-    8 - l.m
+invariant-loop-m l = SharesFit (board_in l.board).shares l.masters l.slaves l.m

@@ -5,4 +5,4 @@ use Rattle.description_check.proofs.AcceptLaws.{span_tested}
 use Rattle.description_check.proofs.span_fits.Goals as goal
 
 pub returns : goal.returns
-returns c = span_tested _ _ _ c.below-low.ensures
+returns c = span_tested _ _ _ _ c.saturating_sub-low.ensures c.is_power_up_to.ensures

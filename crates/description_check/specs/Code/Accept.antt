@@ -1,13 +1,18 @@
 -- Gives the code of description_check its shape: what the fast accept finds of a board's masters, slaves and shares.
 -- Assumes nothing.
-use Rattle.std.specs.Prelude.{◌≡◌, true, false, cond, List, ◌≢◌, ℕ, ◌+◌, ◌*◌, ◌%◌, ◌≤◌, ◌<◌, ltb, get_or, take}
+use Rattle.std.specs.Prelude.{◌≡◌, Bool, true, false, cond, ◌&&◌, List, ◌≢◌, ℕ, ◌+◌, ◌*◌, ◌%◌, ◌≤◌, ◌<◌, leb, ltb, get_or, take}
+use Rattle.std.specs.Int.{is_power_of_two}
 use Rattle.common_laws.specs.Lists.{member}
 use Rattle.description_board.specs.declared.Master.{Master}
-use Rattle.description_board.specs.declared.Slave.{Slave}
+use Rattle.description_board.specs.Records.{Slave}
 use Rattle.description_board.specs.declared.Board.{Board}
 use Rattle.description_board.specs.Records.{no_master, no_slave, master_at, slave_at, shares_at, total_span}
 use Rattle.description_board.specs.Rules.{widths, bursts, slave_values, meets, too_narrow}
 use Rattle.description_board.specs.Items.{slave_numbers}
+
+-- a power of two, which has one bit set, up to so much (rule 1.6)
+unfoldable pub power_up_to : ℕ → ℕ → Bool
+power_up_to most x = leb x most && is_power_of_two x
 
 -- the first n masters (rule 1.6)
 pub record MastersFit (masters : List Master) (n : ℕ) : Type 0 where

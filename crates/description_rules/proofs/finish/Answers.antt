@@ -1,20 +1,16 @@
--- `description_rules::finish` meets its contract. A refusal stays, what is missing is refused, or the board is taken.
+-- `description_rules::finish` meets its contract.
 -- Assumes nothing.
-use mathlib.Core.Path.{sym, ◌∙◌}
-use Rattle.description_board.proofs.StepAllLaws.{finish_stays, finish_refused, finish_taken}
-use Rattle.description_rules.specs.Code.Readings.{reading_of}
+use Rattle.std.proofs.lemmas.Result.{err_from_is_err_and}
+use Rattle.description_rules.proofs.ReadingLaws.{end_refused, end_passed, refusal_finishes}
 use Rattle.description_rules.proofs.finish.Goals as goal
 
-pub returns-then-p-ne0 : goal.returns-then-p-ne0
-unfolding reading_of
-returns-then-p-ne0 c = sym (finish_stays _ c.if-p-ne0.true)
+pub returns-in_err-rank : goal.returns-in_err-rank
+returns-in_err-rank c =
+    let p = err_from_is_err_and c.from_residual.result c.from_residual.ensures.1 in
+    rw (p.1, p.2, c.in_err-rank.was) (refusal_finishes _ _)
 
-pub returns-then-number-ne0 : goal.returns-then-number-ne0
-unfolding reading_of
-returns-then-number-ne0 c =
-    c.refused.ensures
-    ∙ finish_refused _ c.if-p-ne0.false c.end_refusal-number.ensures c.if-number-ne0.true
+pub returns-in-Ok : goal.returns-in-Ok
+returns-in-Ok c = rw (c.in_ok-rank.was) (end_passed _ _ (c.in-Ok.ensures))
 
-pub returns : goal.returns
-unfolding reading_of
-returns c = finish_taken _ c.if-p-ne0.false c.end_refusal-number.ensures c.if-number-ne0.false
+pub returns-in-Err : goal.returns-in-Err
+returns-in-Err c = rw (c.in_ok-rank.was) (end_refused _ _ _ _ c.in-Err.ensures c.clear.ensures)

@@ -1,24 +1,24 @@
 -- `description_rules::refusals::master_refusal` meets its contract. Each way out answers the definition's tests in their order.
 -- Assumes nothing.
-use mathlib.Core.Path.{◌≡◌}
-use mathlib.Core.Bool.{cond, not, ◌&&◌}
-use Rattle.description_board.specs.Rules.{master_refusal}
+use Rattle.std.proofs.Common.{◌≡◌, cond, not, ◌&&◌}
+use Rattle.description_board.specs.Rules.{widths, bursts, master_refusal}
 use Rattle.description_layout.specs.Layout.{board_in}
-use Rattle.description_rules.proofs.refusals.master_refusal.Goals.{After-member-2}
+use Rattle.description_rules.proofs.Contained.{listed}
+use Rattle.description_rules.proofs.refusals.master_refusal.Goals.{After-contains-2}
 use Rattle.description_rules.proofs.refusals.master_refusal.Goals as goal
 
--- the definition behind the first test, by what the tests of the values answered
-tested : (c : After-member-2) → let a = c.args in
+-- the definition after the first test, by what the tests of the values answered
+tested : (c : After-contains-2) → let a = c.args in
     master_refusal (board_in a.board.now) a.width a.burst
-    ≡ cond (not (c.member.result && c.member-2.result)) 3 0
+    ≡ cond (not (c.contains.result && c.contains-2.result)) 3 0
 unfolding master_refusal
 tested c =
     rw (
       ← c.master_count-masters.ensures,
       ← c.slave_count-slaves.ensures,
       c.if-slaves-masters.false,
-      ← c.member.ensures,
-      ← c.member-2.ensures,
+      ← listed c.args.width widths c.contains.ensures.value,
+      ← listed c.args.burst bursts c.contains-2.ensures.value,
     )
 
 pub returns-then-slaves-masters : goal.returns-then-slaves-masters
@@ -26,8 +26,8 @@ unfolding master_refusal
 returns-then-slaves-masters c =
     rw (← c.master_count-masters.ensures, ← c.slave_count-slaves.ensures, c.if-slaves-masters.true)
 
-pub returns-then-not-member : goal.returns-then-not-member
-returns-then-not-member c = rw (tested (goal.at.returns-then-not-member c).After-member-2, c.if-not-member.true)
+pub returns-then-not-contains : goal.returns-then-not-contains
+returns-then-not-contains c = rw (tested (goal.at.returns-then-not-contains c).After-contains-2, c.if-not-contains.true)
 
 pub returns : goal.returns
-returns c = rw (tested (goal.at.returns c).After-member-2, c.if-not-member.false)
+returns c = rw (tested (goal.at.returns c).After-contains-2, c.if-not-contains.false)

@@ -22,13 +22,13 @@ room c =
     let slaves = c.slave_count-slaves.result in
     let order = neither (eqb masters 0) _ c.if-masters-sharing.false in
     let above = neither c.args.sharing _ order.1 in
-    let l : slaves < 16 = leb-false 16 slaves (neither c.default_at-behind.result _ above.1).1 in
+    let l : slaves < 16 = leb-false 16 slaves (neither c.default_at-after.result _ above.1).1 in
     omega (arith, c.slave_count-slaves.ensures)
 
 fits : (c : Else-not-slave_values) → Values c.args.n
 fits c = values_fit _ (sym c.slave_values.ensures ∙ c.if-not-slave_values.false)
 
--- what is left of the definition behind the values, and behind the overlap
+-- what is left of the definition after the values, and after the overlap
 legal : (c : Else-not-slave_values) → let a = c.args in
     let b = board_in a.board.now in
     let earlier = take b.slave_count b.slaves in
@@ -41,7 +41,7 @@ legal c =
     rw (
       ← c.master_count-masters.ensures,
       ← c.slave_count-slaves.ensures,
-      ← c.default_at-behind.ensures,
+      ← c.default_at-after.ensures,
       e,
       ← c.slave_values.ensures,
       c.if-not-slave_values.false,
@@ -73,7 +73,7 @@ returns-then-masters-sharing c =
     rw (
       ← c.master_count-masters.ensures,
       ← c.slave_count-slaves.ensures,
-      ← c.default_at-behind.ensures,
+      ← c.default_at-after.ensures,
       c.if-masters-sharing.true,
     )
 
@@ -83,7 +83,7 @@ returns-then-not-slave_values c =
     rw (
       ← c.master_count-masters.ensures,
       ← c.slave_count-slaves.ensures,
-      ← c.default_at-behind.ensures,
+      ← c.default_at-after.ensures,
       c.if-masters-sharing.false,
       ← c.slave_values.ensures,
       c.if-not-slave_values.true,

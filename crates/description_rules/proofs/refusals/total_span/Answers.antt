@@ -5,7 +5,7 @@ use mathlib.Core.Path.{ap}
 use native.Mathlib.Omega.{arith}
 use borrow.Author.Rules.{rules}
 use Rattle.description_board.proofs.RuleLaws.{total_next, total_end}
-use Rattle.description_board.specs.declared.Slave.{Slave}
+use Rattle.description_board.specs.Records.{Slave}
 use Rattle.description_layout.proofs.BoardLaws.{slaves_length}
 use Rattle.description_layout.specs.Layout.{board_in}
 use Rattle.description_rules.proofs.refusals.total_span.Goals as goal
@@ -19,7 +19,7 @@ loop-i-preserved c =
     let a = c.args in
     let g = slaves_length a.board.now in
     let t = total_next (board_in a.board.now).slaves a.n l.i (omega arith) (omega arith) in
-    let e = ap (λ (s : Slave). s.span) c.slave_at-s.ensures in
+    let e = ap (λ (s : Slave). s.span) c.slave_at.ensures in
     (omega arith, omega arith, omega (arith, l.invariant.2, t, e))
 
 pub returns : goal.returns

@@ -2,7 +2,7 @@
 -- The loop's invariant: the total so far and the spans that are left make the whole; the bound keeps the sum in a u64.
 -- Assumes nothing.
 use mathlib.Core.Path.{◌≡◌}
-use Prim.Native.Nat.{◌≤◌, ◌-◌, ◌+◌, ◌*◌}
+use Prim.Native.Nat.{◌≤◌, ◌+◌, ◌*◌}
 use lib.ListN.{drop, take}
 use Rattle.description_board.specs.Records.{total_span}
 use Rattle.description_layout.specs.Layout.{board_in}
@@ -14,7 +14,3 @@ invariant-loop-i l =
     (l.i ≤ l.n)
     × (l.total ≤ 4294967295 * (l.i + 1))
     × (total_span (take l.n slaves) + l.span ≡ l.total + total_span (drop l.i (take l.n slaves)))
-
-abbrev pub decreases-loop-i : goal.decreases-loop-i
-decreases-loop-i l =
-    l.n - l.i

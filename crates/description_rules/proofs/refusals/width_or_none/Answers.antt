@@ -7,11 +7,8 @@ use Rattle.description_layout.proofs.BoardLaws.{masters_length}
 use Rattle.description_layout.specs.Layout.{board_in}
 use Rattle.description_rules.proofs.refusals.width_or_none.Goals as goal
 
-pub returns-then-m-lt8 : goal.returns-then-m-lt8
-returns-then-m-lt8 c = rw c.master_at-master.ensures
-
-pub returns : goal.returns
-returns c =
+pub returns-else-m-lt8 : goal.returns-else-m-lt8
+returns-else-m-lt8 c =
     let a = c.args in
     let g = masters_length a.board.now in
     rw (get_or-eq_default (board_in a.board.now).masters no_master {n = a.m} (omega arith))

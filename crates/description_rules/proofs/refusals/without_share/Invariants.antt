@@ -17,7 +17,3 @@ from b m = first_from (λ k. not (has_share b k)) m (b.master_count - m)
 abbrev pub invariant-loop-m : goal.invariant-loop-m
 invariant-loop-m l =
     let b = board_in l.board in (l.m ≤ b.master_count) × (without_share b ≡ from b l.m)
-
-abbrev pub decreases-loop-m : goal.decreases-loop-m
-decreases-loop-m l =
-    (board_in l.board).master_count - l.m
