@@ -4,16 +4,15 @@ use mathlib.Core.Path.{◌≡◌, refl}
 use mathlib.Core.Bool.{Bool, true, false}
 use Prim.Native.Nat.{ℕ, zero, suc, ◌-◌}
 use native.Mathlib.Omega.{arith}
-use Rattle.fabric_arbiter.specs.declared.Choice.{Choice}
-use Rattle.fabric_arbiter.specs.declared.Choice.TheVariants.{Requester, Nobody}
+use Rattle.std.specs.Prelude.{Option, Some, None}
 use Rattle.fabric_arbiter.specs.Choosing.{next_master, tried}
 
 module _ (requests : ℕ → Bool) (n m : ℕ) where
-  pub tried_none : (k : ℕ) → k ≡ 0 → tried requests n m k ≡ Nobody
+  pub tried_none : (k : ℕ) → k ≡ 0 → tried requests n m k ≡ None
   unfolding tried
   tried_none k e = rw e
 
-  pub tried_found : (k : ℕ) → (k ≡ 0 → ⊥) → requests m ≡ true → tried requests n m k ≡ Requester m
+  pub tried_found : (k : ℕ) → (k ≡ 0 → ⊥) → requests m ≡ true → tried requests n m k ≡ Some m
   unfolding tried
   tried_found zero ne q = absurd (ne refl)
   tried_found (suc k) ne q = rw q
@@ -27,11 +26,11 @@ module _ (requests : ℕ → Bool) (n m : ℕ) where
 
 -- a turn of the loop: x is the whole search, m the master tried last, m' the next, left how many are left to try
 module _
-    (requests : ℕ → Bool) (n m m' left : ℕ) (x : Choice) (rest : x ≡ tried requests n (next_master n m) left)
+    (requests : ℕ → Bool) (n m m' left : ℕ) (x : Option ℕ) (rest : x ≡ tried requests n (next_master n m) left)
     (more : left ≡ 0 → ⊥) (next : m' ≡ next_master n m)
   where
     pub turn_on : requests m' ≡ false → x ≡ tried requests n (next_master n m') (left - 1)
     turn_on q = cc (tried_on requests n m' left more q)
 
-    pub turn_found : requests m' ≡ true → Requester m' ≡ x
+    pub turn_found : requests m' ≡ true → Some m' ≡ x
     turn_found q = cc (tried_found requests n m' left more q)

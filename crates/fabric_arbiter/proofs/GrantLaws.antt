@@ -4,24 +4,21 @@ use mathlib.Core.Path.{◌≡◌, refl, ◌∙◌}
 use mathlib.Core.Bool.{Bool, true, false, cond, ◌&&◌, and-false}
 use Prim.Native.Nat.{ℕ, zero, suc, ◌-◌, ◌≤◌, ◌<◌}
 use native.Mathlib.Omega.{arith}
+use Rattle.std.specs.Prelude.{Option, Some, None}
 use lib.Dec.{ltb}
 use borrow.Author.Tests.{lt-ltb, le-ltb}
 use Rattle.common_laws.specs.Bits.{bit}
 use Rattle.common_laws.proofs.BitLaws.{bit_above}
 use Rattle.fabric_arbiter.specs.declared.Arbiter.{Arbiter}
-use Rattle.fabric_arbiter.specs.declared.Choice.{Choice}
-use Rattle.fabric_arbiter.specs.declared.Choice.TheVariants.{Requester, Nobody}
 use Rattle.fabric_arbiter.specs.declared.Winner.{Winner}
 use Rattle.fabric_arbiter.specs.declared.Winner.TheVariants.{Again, First, NoOne}
-use Rattle.fabric_arbiter.specs.declared.Grant.{Grant}
-use Rattle.fabric_arbiter.specs.declared.Grant.TheVariants.{Granted, Silent}
 use Rattle.fabric_arbiter.specs.Choosing.{next_master, tried, first_requester}
-use Rattle.fabric_arbiter.specs.Granting.{kept, grant_to, granted, arbiter_after}
+use Rattle.fabric_arbiter.specs.Granting.{kept, grant, grant_to, granted, arbiter_after}
 use Rattle.fabric_arbiter.specs.Code.Winning.{first_of, winner_of, grant_by}
 
 -- ---- who is granted
 
-none_tried : (requests : ℕ → Bool) → ((m : ℕ) → requests m ≡ false) → (n m k : ℕ) → tried requests n m k ≡ Nobody
+none_tried : (requests : ℕ → Bool) → ((m : ℕ) → requests m ≡ false) → (n m k : ℕ) → tried requests n m k ≡ None
 unfolding tried
 none_tried requests f n m zero = refl
 none_tried requests f n m (suc k) = rw (f m) (none_tried requests f n (next_master n m) k)
@@ -49,57 +46,34 @@ module _ (n : ℕ) (requests : ℕ → Bool) (a : Arbiter) where
   unfolding winner_of
   owner_again q h = rw (q, lt-ltb _ _ h)
 
-  pub search_wins : (c : Choice) (w : Winner) → PassedOver → c ≡ first_requester requests n a.owner → w ≡ first_of c
-      → w ≡ winner_of n requests a
+  pub search_wins : (c : Option ℕ) → PassedOver → c ≡ first_requester requests n a.owner → first_of c ≡ winner_of n requests a
   unfolding winner_of PassedOver
-  search_wins c w p e f = rw (p, ← e, f)
+  search_wins c p e = rw (p, e)
 
-pub first_requester_lem : {c : Choice} {m : ℕ} → c ≡ Requester m → First m ≡ first_of c
-unfolding first_of
-first_requester_lem e = rw e
+-- ---- the winner's grant, and the arbiter after none
 
-pub first_none : {c : Choice} → c ≡ Nobody → NoOne ≡ first_of c
-unfolding first_of
-first_none e = rw e
+pub by_none : (a : Arbiter) (w : Winner) (shares beats : ℕ) → w ≡ NoOne → None ≡ grant_by a w shares beats
+unfolding grant_by
+by_none a w shares beats e = rw e
 
--- ---- the winner's grant
-
-module _ (a : Arbiter) (w : Winner) (shares beats : ℕ) where
-  pub by_again : {x v : ℕ} → w ≡ Again → x ≡ a.remaining - 1 → v ≡ kept beats x → Granted a.owner v ≡ grant_by a w shares beats
-  unfolding grant_by
-  by_again e f g = rw (e, g, f)
-
-  pub by_first : {m x v : ℕ} → w ≡ First m → x ≡ shares - 1 → v ≡ kept beats x → Granted m v ≡ grant_by a w shares beats
-  unfolding grant_by
-  by_first e f g = rw (e, g, f)
-
-  pub by_none : w ≡ NoOne → Silent ≡ grant_by a w shares beats
-  unfolding grant_by
-  by_none e = rw e
-
--- the arbiter after a grant, by cases
-pub after_granted : (a : Arbiter) (g : Grant) (m r : ℕ) → g ≡ Granted m r → record { owner = m; remaining = r } ≡ arbiter_after a g
+pub after_silent : (a : Arbiter) → arbiter_after a None ≡ record { owner = a.owner; remaining = 0 }
 unfolding arbiter_after
-after_granted a g m r e = rw e
-
-pub after_silent : (a : Arbiter) (g : Grant) → g ≡ Silent → record { owner = a.owner; remaining = 0 } ≡ arbiter_after a g
-unfolding arbiter_after
-after_silent a g e = rw e
+after_silent a = refl
 
 -- ---- both steps together are rule 1
 
 module _ (n : ℕ) (requests : ℕ → Bool) (shares beats : ℕ → ℕ) (a : Arbiter) where
   -- a winner w, and the grant that the rule gives
-  Rules : Winner → Grant → Type 0
+  Rules : Winner → Option Arbiter → Type 0
   Rules w g = (y x : ℕ) → (w ≡ Again → x ≡ beats a.owner) → ((m : ℕ) → w ≡ First m → (y ≡ shares m) × (x ≡ beats m))
       → grant_by a w y x ≡ g
 
-  first_rules : (c : Choice) → Rules (first_of c) (grant_to shares beats c)
+  first_rules : (c : Option ℕ) → Rules (first_of c) (grant_to shares beats c)
   unfolding Rules first_of grant_to grant_by
-  first_rules (Requester m) y x f g = rw ((g m refl).0, (g m refl).1)
-  first_rules Nobody y x f g = refl
+  first_rules (Some m) y x f g = rw ((g m refl).0, (g m refl).1)
+  first_rules None y x f g = refl
 
-  again_rules : Rules Again (Granted a.owner (kept (beats a.owner) (a.remaining - 1)))
+  again_rules : Rules Again (grant a.owner (kept (beats a.owner) (a.remaining - 1)))
   unfolding Rules grant_by
   again_rules y x f g = rw (f refl)
 
@@ -109,7 +83,7 @@ module _ (n : ℕ) (requests : ℕ → Bool) (shares beats : ℕ → ℕ) (a : A
     where
       go : (c : Bool)
           → Rules (cond c Again (first_of (first_requester requests n a.owner)))
-          (cond c (Granted a.owner (kept (beats a.owner) (a.remaining - 1)))
+          (cond c (grant a.owner (kept (beats a.owner) (a.remaining - 1)))
           (grant_to shares beats (first_requester requests n a.owner)))
       go true = again_rules
       go false = first_rules (first_requester requests n a.owner)

@@ -4,6 +4,7 @@ use mathlib.Core.Path.{◌≡◌, refl, sym, ◌∙◌}
 use mathlib.Core.Bool.{Bool, true, false, true≢false}
 use Prim.Native.Nat.{ℕ, ◌<◌}
 use lib.Dec.{ltb}
+use Rattle.std.specs.Prelude.{Option, None}
 use borrow.Author.Tests.{ltb-true, ltb-false}
 use Rattle.common_laws.specs.Bits.{bit}
 use Rattle.common_laws.proofs.BitLaws.{bit_above}
@@ -12,9 +13,6 @@ use Rattle.description_board.specs.Records.{shares_at}
 use Rattle.fabric_arbiter.specs.declared.Arbiter.{Arbiter}
 use Rattle.fabric_arbiter.specs.declared.Winner.{Winner}
 use Rattle.fabric_arbiter.specs.declared.Winner.TheVariants.{Again, First, NoOne}
-use Rattle.fabric_arbiter.specs.declared.Grant.{Grant}
-use Rattle.fabric_arbiter.specs.declared.Grant.TheVariants.{Granted, Silent}
-use Rattle.fabric_arbiter.specs.Granting.{arbiter_after}
 use Rattle.fabric_arbiter.specs.Code.Winning.{winner_of, grant_by}
 use Rattle.fabric_arbiter.proofs.GrantLaws.{by_none, again_wins, first_wins, none_wins}
 use Rattle.fabric_arbiter.proofs.OrderLaws.{winner_again, winner_first}
@@ -55,42 +53,22 @@ module _ (a : Arbiter) (b : Board) (st : State) (s mask : ℕ) {n : ℕ} {w : Wi
   of_board : w ≡ winner_of b.master_count (bit mask) a
   of_board = rw (← masters) won
 
-  pub grant_again : (y : ℕ) {x : ℕ} {g : Grant} → w ≡ Again → x ≡ beats a.owner → g ≡ grant_by a w y x
+  pub grant_again : (y : ℕ) {x : ℕ} {g : Option Arbiter} → w ≡ Again → x ≡ beats a.owner → g ≡ grant_by a w y x
       → g ≡ grant_chosen a b st s mask
   unfolding grant_chosen
   grant_again y {x} q f e = e ∙ again_wins b.master_count (bit mask) shares beats a of_board y x q f
 
-  pub grant_first : (m : ℕ) {y x : ℕ} {g : Grant} → w ≡ First m → y ≡ shares m → x ≡ beats m → g ≡ grant_by a (First m) y x
+  pub grant_first : (m : ℕ) {y x : ℕ} {g : Option Arbiter} → w ≡ First m → y ≡ shares m → x ≡ beats m → g ≡ grant_by a (First m) y x
       → g ≡ grant_chosen a b st s mask
   unfolding grant_chosen
   grant_first m {y} {x} q f k e =
       e ∙ rw (← q) (first_wins b.master_count (bit mask) shares beats a of_board m y x q f k)
 
-  pub grant_none : w ≡ NoOne → Silent ≡ grant_chosen a b st s mask
+  pub grant_none : w ≡ NoOne → None ≡ grant_chosen a b st s mask
   unfolding grant_chosen
   grant_none q = by_none a w 0 0 q ∙ none_wins b.master_count (bit mask) shares beats a of_board 0 0 q
 
--- ---- the lent arbiter
-
--- what was lent as a comes back as c, with the grant g
-pub came_back : (a : Arbiter) {c : Arbiter} {g k : Grant} → g ≡ k → c ≡ arbiter_after a g
-    → record { arbiter = c; grant = g } ≡ arbitrated a k
-unfolding arbitrated
-came_back a f e = rw (e, f)
-
 -- ---- the slot
-
-module _ (slot : Slot) (a : Arbiter) {g : Grant} where
-  pub by_granted : {m r : ℕ} → g ≡ Granted m r
-      → record { owner = a.owner; remaining = a.remaining; serving = true; done = 0; waited = 0 } ≡ slot_by slot a g
-  unfolding slot_by
-  by_granted e = rw e
-
-  pub by_silent : g ≡ Silent
-      → record { owner = a.owner; remaining = a.remaining; serving = false; done = slot.done; waited = slot.waited }
-      ≡ slot_by slot a g
-  unfolding slot_by
-  by_silent e = rw e
 
 module _ (b : Board) (st : State) (s mask : ℕ) {x : Slot} (own : x ≡ slot_at st s) where
   pub asked_serving : x.serving ≡ true → x ≡ slot_asked b st s mask

@@ -10,14 +10,14 @@ ghost use Rattle.fabric_layout.specs.Layout.{state_in};
 ghost use Rattle.fabric_grant.specs.Code.Asking.{grant_chosen, arbitrated, slot_asked};
 
 use common_numbers::{BOARD_NUMBERS, STATE_NUMBERS};
-use fabric_arbiter::{Arbiter, Grant, Winner};
+use fabric_arbiter::{Arbiter, Winner};
 use fabric_state::Slot;
 
 // A slave's arbiter after rule 1, and its grant (rules 4.3 to 4.6).
 #[derive(Clone, Copy)]
 pub struct Arbitrated {
     pub arbiter: Arbiter,
-    pub grant: Grant,
+    pub grant: Option<Arbiter>,
 }
 
 // The choice (rules 4.3 to 4.6): the grant of slave s, whose arbiter is `last`, by a mask of who requests it. Shares and beats are read
@@ -28,7 +28,7 @@ fn choose(
     st: &[u32; STATE_NUMBERS],
     s: usize,
     mask: u32,
-) -> Grant
+) -> Option<Arbiter>
     requires { (s < 16) × (mask < 256) }
     ensures { result ≡ grant_chosen last (board_in board.now) (state_in st.now) s mask }
 {
@@ -43,7 +43,7 @@ fn choose(
             description_layout::shares_at(board, m as usize, s),
             fabric_layout::beats_at(st, m as usize),
         ),
-        Winner::NoOne => Grant::Silent,
+        Winner::NoOne => None,
     }
 }
 
@@ -55,19 +55,19 @@ fn arbitrate_record(
     st: &[u32; STATE_NUMBERS],
     s: usize,
     mask: u32,
-) -> Grant
+) -> Option<Arbiter>
     requires { (s < 16) × (mask < 256) }
     ensures { (result ≡ grant_chosen a.old (board_in board.now) (state_in st.now) s mask)
         × (a.new ≡ arbiter_after a.old result) }
 {
     let last = *a;
-    let g = choose(last, board, st, s, mask);
-    let next = fabric_arbiter::arbiter_after(last, g);
-    *a = next;
-    g
+    let grant = choose(last, board, st, s, mask);
+    *a = fabric_arbiter::arbiter_after(last, grant);
+    grant
 }
 
 // The arbiter is lent to rule 1 (rules 4.3 to 4.6), and answered as it comes back, with the grant.
+#[tactic(auto, unfolding(crate::specs::Code::Asking::arbitrated))]
 fn arbitrate(
     mut a: Arbiter,
     board: &[u32; BOARD_NUMBERS],
@@ -78,43 +78,41 @@ fn arbitrate(
     requires { (s < 16) × (mask < 256) }
     ensures { result ≡ arbitrated a (grant_chosen a (board_in board.now) (state_in st.now) s mask) }
 {
-    let g = arbitrate_record(&mut a, board, st, s, mask);
-    Arbitrated {
-        arbiter: a,
-        grant: g,
-    }
+    let grant = arbitrate_record(&mut a, board, st, s, mask);
+    Arbitrated { arbiter: a, grant }
 }
 
 // The slave's arbiter (rule 4.1).
 fn arbiter_of(slot: Slot) -> Arbiter
     ensures { result ≡ arbiter_of slot }
 {
-    Arbiter {
-        owner: slot.owner,
-        remaining: slot.remaining,
-    }
+    let Slot {
+        owner,
+        remaining,
+        ..
+    } = slot;
+    Arbiter { owner, remaining }
 }
 
 // The slot by its arbiter after a grant, or after none (rule 4.7).
-fn slot_by(slot: Slot, a: Arbiter, g: Grant) -> Slot
+#[tactic(auto, unfolding(fabric_state::specs::Control::slot_by))]
+fn slot_by(slot: Slot, a: Arbiter, g: Option<Arbiter>) -> Slot
     ensures { result ≡ slot_by slot a g }
 {
-    let owner = a.owner;
-    let remaining = a.remaining;
+    let Arbiter { owner, remaining } = a;
     match g {
-        Grant::Granted(m, left) => Slot {
-            owner: owner,
-            remaining: remaining,
+        Some(_) => Slot {
+            owner,
+            remaining,
             serving: true,
             done: 0,
             waited: 0,
         },
-        Grant::Silent => Slot {
-            owner: owner,
-            remaining: remaining,
+        None => Slot {
+            owner,
+            remaining,
             serving: false,
-            done: slot.done,
-            waited: slot.waited,
+            ..slot
         },
     }
 }
@@ -133,8 +131,6 @@ pub fn slot_asked(
     if slot.serving {
         return slot;
     }
-    let after = arbitrate(arbiter_of(slot), board, st, s, mask);
-    let a = after.arbiter;
-    let g = after.grant;
-    slot_by(slot, a, g)
+    let Arbitrated { arbiter, grant } = arbitrate(arbiter_of(slot), board, st, s, mask);
+    slot_by(slot, arbiter, grant)
 }

@@ -3,9 +3,9 @@
 use mathlib.Core.Path.{◌≡◌, refl, ◌∙◌, ap}
 use mathlib.Core.Bool.{Bool, true, false}
 use Prim.Native.Nat.{ℕ, ◌≤◌, ◌<◌}
+use Rattle.std.specs.Prelude.{Option, Some, None}
 use Rattle.description_board.specs.declared.Board.{Board}
-use Rattle.fabric_arbiter.specs.declared.Grant.{Grant}
-use Rattle.fabric_arbiter.specs.declared.Grant.TheVariants.{Granted, Silent}
+use Rattle.fabric_arbiter.specs.declared.Arbiter.{Arbiter}
 use Rattle.fabric_arbiter.specs.Granting.{arbiter_after}
 use Rattle.fabric_state.specs.declared.Slot.{Slot}
 use Rattle.fabric_state.specs.declared.State.{State}
@@ -17,10 +17,10 @@ use Rattle.fabric_state.proofs.StateLaws.{slot_after_lem}
 use Rattle.fabric_state.proofs.StepLaws.{Outcome, rests, waiting, works, ends, outcome, grant_serving, grant_given}
 
 -- rule 1 changes a slot's arbiter as the arbiter's own rule says
-pub granted_record : (slot : Slot) (g : Grant) → arbiter_of (slot_granted slot g) ≡ arbiter_after (arbiter_of slot) g
+pub granted_record : (slot : Slot) (g : Option Arbiter) → arbiter_of (slot_granted slot g) ≡ arbiter_after (arbiter_of slot) g
 unfolding slot_granted slot_by
-granted_record slot (Granted m r) = refl
-granted_record slot Silent = refl
+granted_record slot (Some after) = refl
+granted_record slot None = refl
 
 -- rules 2 and 3 leave the arbiter
 step_record : (b : Board) (st : State) (s : ℕ) → arbiter_of (step_of b st s).slot ≡ arbiter_of (slot_after_grant b st s)

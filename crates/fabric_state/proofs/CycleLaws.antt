@@ -8,7 +8,7 @@ use native.Mathlib.Omega.{arith}
 use lib.Dec.{ltb, eqb}
 use borrow.Author.Tests.{ltb-false}
 use Rattle.description_board.specs.declared.Master.{Master}
-use Rattle.description_board.specs.declared.Slave.{Slave}
+use Rattle.description_board.specs.Records.{Slave}
 use Rattle.fabric_transfer.specs.declared.Transfer.{Transfer}
 use Rattle.fabric_transfer.specs.Accesses.{accesses, wait_of, own_length}
 use Rattle.fabric_state.specs.declared.Slot.{Slot}

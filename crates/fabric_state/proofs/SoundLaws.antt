@@ -7,6 +7,7 @@ use Prim.Native.Nat.{ℕ, ◌≤◌, ◌<◌}
 use native.Mathlib.Decide.{ℕ_discrete}
 use native.Mathlib.Omega.{arith}
 use lib.Dec.{ltb, leb, eqb}
+use Rattle.std.specs.Prelude.{Option, Some, None}
 use lib.ListN.{length, length-replicate, get_or-eq_default}
 use borrow.Author.Tests.{lt-ltb, le-leb, eq-eqb, ltb-true, ltb-false, leb-true, eqb-true, eqb-false}
 use Rattle.common_laws.specs.Lists.{every}
@@ -17,9 +18,8 @@ use Rattle.description_board.specs.Records.{master_at, slave_at, shares_at}
 use Rattle.description_board.specs.Legal.{Legal}
 use Rattle.fabric_transfer.specs.declared.Transfer.{Transfer}
 use Rattle.fabric_transfer.specs.Accesses.{no_transfer, accesses, wait_of}
-use Rattle.fabric_arbiter.specs.declared.Grant.{Grant}
-use Rattle.fabric_arbiter.specs.declared.Grant.TheVariants.{Granted, Silent}
-use Rattle.fabric_arbiter.specs.Granting.{arbiter_after}
+use Rattle.fabric_arbiter.specs.declared.Arbiter.{Arbiter}
+use Rattle.fabric_arbiter.specs.Granting.{grant, arbiter_after}
 use Rattle.fabric_arbiter.proofs.OrderLaws.{Grants, granted_facts}
 use Rattle.fabric_state.specs.declared.Slot.{Slot}
 use Rattle.fabric_state.specs.declared.State.{State}
@@ -338,7 +338,7 @@ module _ (b : Board) (st : State) (legal : Legal b) (x : Sound b st) where
       let r = x.holds m (requests_held b st s m e) in
       (r.0, accepted_at b legal m (transfer_at st m) r.1 s (requests_selects b st s m e))
 
-  pub grant_facts : (s : ℕ) → s < b.slave_count → (j r : ℕ) → grant_at b st s ≡ Granted j r
+  pub grant_facts : (s : ℕ) → s < b.slave_count → (j r : ℕ) → grant_at b st s ≡ grant j r
       → Grants b.master_count (requests b st s) (λ m. shares_at b m s) j r
   unfolding grant_at
   grant_facts s h j r e =
@@ -351,18 +351,18 @@ module _ (b : Board) (st : State) (legal : Legal b) (x : Sound b st) where
   unfolding slot_granted slot_by arbiter_after
   grant_sound s h = go (slot_at st s).serving refl
     where
-      given : (g : Grant) → grant_at b st s ≡ g → (slot_at st s).serving ≡ false → SlotSound b st s (slot_granted (slot_at st s) g)
-      given (Granted j r) e q =
-          let f = grant_facts s h j r e in
-          let q = requester s j f.asks in
-          let some = accepted_accesses b legal j s (transfer_at st j) q.0 q.1 in
+      given : (g : Option Arbiter) → grant_at b st s ≡ g → (slot_at st s).serving ≡ false → SlotSound b st s (slot_granted (slot_at st s) g)
+      given (Some g) e q =
+          let f = grant_facts s h g.owner g.remaining e in
+          let q = requester s g.owner f.asks in
+          let some = accepted_accesses b legal g.owner s (transfer_at st g.owner) q.0 q.1 in
           record {
             owner = f.within;
             remaining = inr f.left;
             serving = λ _. record { asks = f.asks; done = some; waited = omega arith };
             resting = λ p. absurd (true≢false p);
           }
-      given Silent e q =
+      given None e q =
           record {
             owner = x.owner s h;
             remaining = inl refl;

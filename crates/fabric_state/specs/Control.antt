@@ -1,17 +1,15 @@
 -- One clock without the bytes: slots, lines, the masters finished and their responses (rules 4.3 to 4.9, 4.13, 4.16, 4.17).
 -- Assumes nothing.
-use Rattle.std.specs.Prelude.{Bool, true, false, cond, not, ◌&&◌, ◌||◌, List, ℕ, ◌+◌, ◌-◌, ◌^◌, ltb, eqb}
+use Rattle.std.specs.Prelude.{Bool, true, false, cond, not, ◌&&◌, ◌||◌, List, ℕ, ◌+◌, ◌-◌, ◌^◌, ltb, eqb, Option, Some, None}
 use Rattle.common_laws.specs.Lists.{table, sum, some}
 use Rattle.description_board.specs.declared.Master.{Master}
-use Rattle.description_board.specs.declared.Slave.{Slave}
+use Rattle.description_board.specs.Records.{Slave}
 use Rattle.description_board.specs.declared.Board.{Board}
 use Rattle.description_board.specs.Records.{master_at, slave_at, shares_at}
 use Rattle.fabric_transfer.specs.declared.Transfer.{Transfer}
 use Rattle.fabric_transfer.specs.Accesses.{no_transfer, word_offset, slave_lanes, accesses, access_number, wait_of}
 use Rattle.fabric_transfer.specs.Runs.{run_of, place_of}
 use Rattle.fabric_arbiter.specs.declared.Arbiter.{Arbiter}
-use Rattle.fabric_arbiter.specs.declared.Grant.{Grant}
-use Rattle.fabric_arbiter.specs.declared.Grant.TheVariants.{Granted, Silent}
 use Rattle.fabric_arbiter.specs.Granting.{granted, arbiter_after}
 use Rattle.fabric_state.specs.declared.Slot.{Slot}
 use Rattle.fabric_state.specs.declared.State.{State}
@@ -22,19 +20,19 @@ use Rattle.fabric_state.specs.Soundness.{requests, unmapped_at, latency_at}
 use Rattle.fabric_state.specs.Logging.{log_after}
 
 -- rule 1 (rules 4.3 to 4.6): the grant of slave s, which does not serve
-unfoldable pub grant_at : Board → State → ℕ → Grant
+unfoldable pub grant_at : Board → State → ℕ → Option Arbiter
 grant_at b st s =
     granted b.master_count (requests b st s) (λ m. shares_at b m s) (λ m. (transfer_at st m).beats)
     (arbiter_of (slot_at st s))
 
 -- rule 4.7: the slot by its arbiter a after the grant g: a grant begins a service, with none the slave does not serve
-unfoldable pub slot_by : Slot → Arbiter → Grant → Slot
-slot_by slot a (Granted m r) = record { owner = a.owner; remaining = a.remaining; serving = true; done = 0; waited = 0 }
-slot_by slot a Silent =
+unfoldable pub slot_by : Slot → Arbiter → Option Arbiter → Slot
+slot_by slot a (Some after) = record { owner = a.owner; remaining = a.remaining; serving = true; done = 0; waited = 0 }
+slot_by slot a None =
     record { owner = a.owner; remaining = a.remaining; serving = false; done = slot.done; waited = slot.waited }
 
 -- rules 4.3 to 4.7: the slot after the grant g
-unfoldable pub slot_granted : Slot → Grant → Slot
+unfoldable pub slot_granted : Slot → Option Arbiter → Slot
 slot_granted slot g = slot_by slot (arbiter_after (arbiter_of slot) g) g
 
 -- rule 4.7: slave s after rule 1, before rules 2 and 3: it serves in the clock of its grant

@@ -3,7 +3,7 @@
 -- Assumes nothing.
 use Rattle.std.specs.Prelude.{Bool, true, cond, not, ◌||◌, List, ℕ, ◌+◌, ◌*◌, ◌%◌, ltb, eqb, set}
 use Rattle.description_board.specs.declared.Master.{Master}
-use Rattle.description_board.specs.declared.Slave.{Slave}
+use Rattle.description_board.specs.Records.{Slave}
 use Rattle.description_board.specs.declared.Board.{Board}
 use Rattle.description_board.specs.Records.{master_at, slave_at}
 use Rattle.fabric_transfer.specs.declared.Transfer.{Transfer}

@@ -3,7 +3,8 @@
 
 use fabric_transfer::Transfer;
 
-// One slave (rule 4.1): last owner, grants that remain to it, whether it serves, accesses done, waits passed.
+// One slave (rule 4.1): last owner, grants that remain to it, whether it serves, accesses done, waits passed. A slave that does not serve
+// has the last two as well: `slot_by` keeps them.
 #[derive(Clone, Copy)]
 pub struct Slot {
     pub owner: u32,
@@ -37,7 +38,8 @@ pub const NO_ENTRY: Entry = Entry {
     write: false,
 };
 
-// The log of unmapped transfers (rule 4.18): how many entries stand, whether one was dropped, the entries, the oldest first.
+// The log of unmapped transfers (rule 4.18): how many entries stand, whether one was dropped, the entries, the oldest first. The count
+// stands beside an array of fixed length, as in the lent state: the library allocates nothing.
 #[derive(Clone, Copy)]
 pub struct Log {
     pub count: u32,
@@ -55,7 +57,8 @@ pub struct State {
     pub log: Log,
 }
 
-// What one slave shows in one clock (rule 4.13): phase, owner, byte offset, lanes, length of the run, place in the run.
+// What one slave shows in one clock (rule 4.13): phase, owner, byte offset, lanes, length of the run, place in the run. The phase is a
+// number, since a caller's array of lines has any (include/fabric.h).
 #[derive(Clone, Copy)]
 pub struct Line {
     pub phase: u32,
@@ -65,6 +68,11 @@ pub struct Line {
     pub run: u32,
     pub place: u32,
 }
+
+// Rule 4.13: the phases of a slave that waits, and of one that carries out an access.
+pub const WAITING: u32 = 1;
+
+pub const ACCESS: u32 = 2;
 
 // Rule 4.13: a line of phase 0 is all 0.
 pub const NO_LINE: Line = Line {
@@ -84,7 +92,8 @@ pub struct Step {
     pub last: bool,
 }
 
-// The answer of clock (rule 4.13): bit m of the mask is 1 where master m is finished; each master's response, each slave's line.
+// The answer of clock (rule 4.13): bit m of the mask is 1 where master m is finished; each master's response, each slave's line. It is
+// the answer of a definition (`clocked_of`), which gives a refusal by its number; no code makes it.
 #[derive(Clone, Copy)]
 pub struct Clocked {
     pub number: u32,

@@ -11,7 +11,7 @@ use Rattle.common_laws.proofs.Arithmetic.{multiple_trans, rounded_room}
 use Rattle.common_laws.proofs.Members.{of_member}
 use Rattle.common_laws.proofs.FilteredLaws.{length_filtered}
 use Rattle.description_board.specs.declared.Master.{Master}
-use Rattle.description_board.specs.declared.Slave.{Slave}
+use Rattle.description_board.specs.Records.{Slave}
 use Rattle.description_board.specs.Rules.{widths, spans, too_narrow}
 use Rattle.description_board.proofs.RuleLaws.{width_bound}
 use Rattle.fabric_transfer.specs.declared.Transfer.{Transfer}

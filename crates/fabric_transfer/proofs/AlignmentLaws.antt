@@ -14,7 +14,7 @@ use Rattle.common_laws.proofs.Arithmetic.{multiple_trans, multiple_add, multiple
 use Rattle.common_laws.proofs.Finite.{agree_eq}
 use Rattle.common_laws.proofs.Members.{all, of_member}
 use Rattle.description_board.specs.declared.Master.{Master}
-use Rattle.description_board.specs.declared.Slave.{Slave}
+use Rattle.description_board.specs.Records.{Slave}
 use Rattle.description_board.specs.Records.{is_native}
 use Rattle.description_board.specs.Rules.{widths, too_narrow}
 use Rattle.description_board.proofs.RuleLaws.{width_bound}

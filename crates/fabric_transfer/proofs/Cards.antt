@@ -11,7 +11,7 @@ use borrow.Author.Tests.{le-ltb}
 use Rattle.common_laws.specs.Lists.{member, table}
 use Rattle.common_laws.proofs.TableLaws.{length_table, get_or_table}
 use Rattle.description_board.specs.declared.Master.{Master}
-use Rattle.description_board.specs.declared.Slave.{Slave}
+use Rattle.description_board.specs.Records.{Slave}
 use Rattle.description_board.specs.Records.{is_native}
 use Rattle.description_board.specs.Rules.{widths, too_narrow}
 use Rattle.description_board.proofs.PairLaws.{wide_enough}

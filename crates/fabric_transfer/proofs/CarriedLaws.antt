@@ -9,7 +9,7 @@ use native.Mathlib.Omega.{arith}
 use lib.ListN.{length, get_or}
 use Rattle.common_laws.specs.Bits.{bit}
 use Rattle.description_board.specs.declared.Master.{Master}
-use Rattle.description_board.specs.declared.Slave.{Slave}
+use Rattle.description_board.specs.Records.{Slave}
 use Rattle.fabric_transfer.specs.declared.Transfer.{Transfer}
 use Rattle.fabric_transfer.specs.Alignment.{lane_bytes, access_bytes, has_lane}
 use Rattle.fabric_transfer.specs.Accesses.{first_byte, access_offset}

@@ -8,7 +8,7 @@ use native.Mathlib.Omega.{arith}
 use Rattle.common_laws.specs.Lists.{table}
 use Rattle.common_laws.proofs.FilteredLaws.{filtered_member, filtered_rising, filtered_all}
 use Rattle.description_board.specs.declared.Master.{Master}
-use Rattle.description_board.specs.declared.Slave.{Slave}
+use Rattle.description_board.specs.Records.{Slave}
 use Rattle.fabric_transfer.specs.declared.Transfer.{Transfer}
 use Rattle.fabric_transfer.specs.Alignment.{ratio, leaves_out}
 use Rattle.fabric_transfer.specs.Accesses.{accessed, access_numbers, accesses, access_number}

@@ -12,7 +12,7 @@ use lib.Pow.{pow_pos, pow-add}
 use borrow.Author.Tests.{eq-eqb, ne_eqb, eqb-true, eqb-false}
 use Rattle.common_laws.specs.Lists.{member}
 use Rattle.common_laws.proofs.Members.{of_member}
-use Rattle.description_board.specs.declared.Slave.{Slave}
+use Rattle.description_board.specs.Records.{Slave}
 use Rattle.description_board.specs.Rules.{spans}
 use Rattle.fabric_transfer.specs.Decoding.{agrees}
 use Rattle.fabric_transfer.specs.Code.Pairs.{Span}

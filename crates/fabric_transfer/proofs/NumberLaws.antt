@@ -21,7 +21,7 @@ use Rattle.common_laws.proofs.Tests.{both}
 use Rattle.common_laws.proofs.TableLaws.{length_table, get_or_table}
 use Rattle.common_laws.proofs.FilteredLaws.{filtered_passes, filtered_all, filtered_between}
 use Rattle.description_board.specs.declared.Master.{Master}
-use Rattle.description_board.specs.declared.Slave.{Slave}
+use Rattle.description_board.specs.Records.{Slave}
 use Rattle.description_board.specs.Records.{is_native}
 use Rattle.description_board.proofs.RuleLaws.{width_bound}
 use Rattle.fabric_lanes.specs.Lanes.{lowest, all_lanes, legal_lanes, post_lanes}

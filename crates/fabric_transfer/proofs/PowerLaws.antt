@@ -10,7 +10,7 @@ use Rattle.common_laws.specs.Lists.{member}
 use Rattle.common_laws.proofs.TableLaws.{member_each}
 use Rattle.common_laws.proofs.Members.{of_member}
 use Rattle.description_board.specs.declared.Master.{Master}
-use Rattle.description_board.specs.declared.Slave.{Slave}
+use Rattle.description_board.specs.Records.{Slave}
 use Rattle.description_board.specs.Rules.{widths, bursts}
 use Rattle.description_board.specs.Legal.{LegalMaster, LegalSlave}
 use Rattle.fabric_transfer.specs.Code.Pairs.{Widths}

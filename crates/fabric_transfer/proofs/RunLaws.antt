@@ -11,7 +11,7 @@ use lib.Dec.{ltb}
 use Rattle.common_laws.specs.Lists.{member}
 use Rattle.common_laws.proofs.Arithmetic.{less_remainder}
 use Rattle.description_board.specs.declared.Master.{Master}
-use Rattle.description_board.specs.declared.Slave.{Slave}
+use Rattle.description_board.specs.Records.{Slave}
 use Rattle.description_board.specs.Rules.{bursts}
 use Rattle.description_board.proofs.RuleLaws.{burst_bound}
 use Rattle.fabric_transfer.specs.declared.Transfer.{Transfer}

@@ -8,7 +8,7 @@ use lib.Dec.{ltb}
 use borrow.Author.Tests.{lt-ltb, ltb-true, ltb-false}
 use Rattle.common_laws.proofs.Tests.{both}
 use Rattle.common_laws.proofs.TableLaws.{First, first_is, first_only}
-use Rattle.description_board.specs.declared.Slave.{Slave}
+use Rattle.description_board.specs.Records.{Slave}
 use Rattle.description_board.specs.declared.Board.{Board}
 use Rattle.description_board.specs.Records.{slave_at, shares_at, connected}
 use Rattle.description_board.specs.Rules.{meets}

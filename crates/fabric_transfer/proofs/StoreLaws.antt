@@ -12,7 +12,7 @@ use Rattle.common_laws.proofs.Tests.{both}
 use Rattle.common_laws.proofs.TableLaws.{get_or_replicate_all}
 use Rattle.common_laws.proofs.FillLaws.{table_is}
 use Rattle.description_board.specs.declared.Master.{Master}
-use Rattle.description_board.specs.declared.Slave.{Slave}
+use Rattle.description_board.specs.Records.{Slave}
 use Rattle.fabric_transfer.specs.declared.Transfer.{Transfer}
 use Rattle.fabric_transfer.specs.Alignment.{has_lane}
 use Rattle.fabric_transfer.specs.Moving.{all, bytes_from, index_from, move}

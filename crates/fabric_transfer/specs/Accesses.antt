@@ -7,7 +7,7 @@
 use Rattle.std.specs.Prelude.{Bool, true, cond, not, List, ℕ, ◌+◌, ◌*◌, ◌/◌, ◌%◌, ◌^◌, eqb, length, get_or}
 use Rattle.common_laws.specs.Lists.{filtered}
 use Rattle.description_board.specs.declared.Master.{Master}
-use Rattle.description_board.specs.declared.Slave.{Slave}
+use Rattle.description_board.specs.Records.{Slave}
 use Rattle.fabric_transfer.specs.declared.Transfer.{Transfer}
 use Rattle.fabric_lanes.specs.Lanes.{all_lanes}
 use Rattle.fabric_transfer.specs.Alignment.{ratio, leaves_out, lane_bytes, access_bytes, byte_offset}

@@ -4,7 +4,7 @@
 use Rattle.std.specs.Prelude.{◌≡◌, true, false, not, ◌&&◌, ℕ, ◌+◌, ◌*◌, ◌≤◌, ◌<◌, eqb, ltb}
 use Rattle.common_laws.specs.Lists.{member, table}
 use Rattle.description_board.specs.declared.Master.{Master}
-use Rattle.description_board.specs.declared.Slave.{Slave}
+use Rattle.description_board.specs.Records.{Slave}
 use Rattle.description_board.specs.Records.{is_native}
 use Rattle.description_board.specs.Rules.{widths}
 use Rattle.fabric_transfer.specs.declared.Transfer.{Transfer}

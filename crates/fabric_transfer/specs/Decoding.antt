@@ -1,7 +1,7 @@
 -- Address decoding (rule 3.6).
 -- Assumes nothing.
 use Rattle.std.specs.Prelude.{Bool, ◌&&◌, ℕ, ◌/◌, eqb}
-use Rattle.description_board.specs.declared.Slave.{Slave}
+use Rattle.description_board.specs.Records.{Slave}
 use Rattle.description_board.specs.declared.Board.{Board}
 use Rattle.description_board.specs.Records.{slave_at, connected}
 use Rattle.common_laws.specs.Lists.{first}

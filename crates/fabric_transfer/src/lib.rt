@@ -3,7 +3,8 @@
 #![tactic(auto)]
 
 // What a master posted (rule 3.1). Where `held` is false the master holds nothing and the other fields say nothing; a reset and a
-// finish leave the zero record (rules 4.2, 4.9).
+// finish leave the zero record (rules 4.2, 4.9). It is no `Option`: the lent array gives these numbers for each master (`state_in` of
+// fabric_layout), and what stands beside a `held` that is false is put back as it was.
 #[derive(Clone, Copy)]
 pub struct Transfer {
     pub held: bool,

@@ -9,11 +9,10 @@ use native.Mathlib.Nat.{add-zero, add-suc}
 use native.Mathlib.Numerals.{add-one}
 use native.Mathlib.Decide.{ℕ_discrete}
 use native.Mathlib.Omega.{arith}
+use Rattle.std.specs.Prelude.{Option, Some, None}
 use lib.Dec.{ltb, eqb}
 use borrow.Author.Tests.{ltb-true, ltb-false, eq-eqb, ne_eqb}
 use Rattle.common_laws.specs.Lists.{sum}
-use Rattle.fabric_arbiter.specs.declared.Choice.{Choice}
-use Rattle.fabric_arbiter.specs.declared.Choice.TheVariants.{Requester, Nobody}
 use Rattle.fabric_arbiter.specs.Choosing.{next_master, tried, first_requester}
 use Rattle.fabric_arbiter.proofs.OrderLaws.{above_lt}
 use Rattle.fabric_arbiter.proofs.ChoiceLaws.{tried_none, tried_found, tried_on}
@@ -220,9 +219,9 @@ passed_behind o m i j =
 
 -- The first requester upward from o, where m requests: m itself, or another before it. `skipped` is what the masters passed over
 -- cost.
-pub record Found (requests : ℕ → Bool) (cost : ℕ → ℕ) (n o m : ℕ) (x : Choice) : Type 0 where
+pub record Found (requests : ℕ → Bool) (cost : ℕ → ℕ) (n o m : ℕ) (x : Option ℕ) : Type 0 where
   pub master : ℕ
-  pub is : x ≡ Requester master
+  pub is : x ≡ Some master
   pub asks : requests master ≡ true
   pub low : master < n
   pub skipped : ℕ
@@ -296,10 +295,10 @@ module _ (requests : ℕ → Bool) (cost : ℕ → ℕ) (n m : ℕ) (hm : m < n)
   requester_found o ho = found n o ho (within_all n o m hm)
 
 -- with no requester there is no first one
-pub requester_nobody : (requests : ℕ → Bool) (n o : ℕ) → ((j : ℕ) → requests j ≡ false) → first_requester requests n o ≡ Nobody
+pub requester_nobody : (requests : ℕ → Bool) (n o : ℕ) → ((j : ℕ) → requests j ≡ false) → first_requester requests n o ≡ None
 unfolding first_requester
 requester_nobody requests n o h = go n o
   where
-    go : (k p : ℕ) → tried requests n (next_master n p) k ≡ Nobody
+    go : (k p : ℕ) → tried requests n (next_master n p) k ≡ None
     go zero p = tried_none requests n (next_master n p) 0 refl
     go (suc k) p = tried_next requests n k p (h (next_master n p)) ∙ go k (next_master n p)

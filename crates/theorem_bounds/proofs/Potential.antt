@@ -7,15 +7,14 @@ use mathlib.Core.Logic.{◌⊎◌, inl, inr, ⊎_elim, ◌≢◌}
 use Prim.Native.Nat.{ℕ, zero, suc, ◌+◌, ◌-◌, ◌≤◌, ◌<◌}
 use native.Mathlib.Decide.{ℕ_discrete}
 use native.Mathlib.Omega.{arith}
+use Rattle.std.specs.Prelude.{Option, Some, None}
 use lib.Dec.{ltb, eqb}
 use borrow.Author.Tests.{ltb-true, ltb-false}
 use Rattle.common_laws.specs.Lists.{sum}
-use Rattle.fabric_arbiter.specs.declared.Choice.{Choice}
-use Rattle.fabric_arbiter.specs.declared.Choice.TheVariants.{Requester, Nobody}
-use Rattle.fabric_arbiter.specs.declared.Grant.{Grant}
-use Rattle.fabric_arbiter.specs.declared.Grant.TheVariants.{Granted, Silent}
+use Rattle.fabric_arbiter.specs.declared.Arbiter.{Arbiter}
 use Rattle.fabric_arbiter.specs.Choosing.{first_requester}
-use Rattle.fabric_arbiter.specs.Granting.{kept, grant_to, granted}
+use Rattle.fabric_arbiter.specs.Granting.{kept, grant, grant_to, granted}
+use Rattle.fabric_arbiter.proofs.OrderLaws.{grant_parts}
 use Rattle.theorem_bounds.proofs.Order.{between, between_all, between_owner, sum_except, Passed, Found}
 use Rattle.theorem_bounds.proofs.Order.{requester_found}
 use Rattle.theorem_bounds.proofs.Credit.{credit, credit_zero, credit_le, spend}
@@ -30,7 +29,7 @@ pub record OwnerAgain (requests : ℕ → Bool) (o r j left : ℕ) : Type 0 wher
 
 -- the first requester upward from o is granted, and its shares less 1 are left: o has no grants, or does not request
 pub record FirstFound (n : ℕ) (requests : ℕ → Bool) (shares : ℕ → ℕ) (o r j left : ℕ) : Type 0 where
-  pub first : first_requester requests n o ≡ Requester j
+  pub first : first_requester requests n o ≡ Some j
   pub fresh : left ≡ shares j - 1
   pub lost : (r ≡ 0) ⊎ (requests o ≡ false)
 
@@ -40,30 +39,30 @@ pub record Next (n : ℕ) (requests : ℕ → Bool) (shares beats : ℕ → ℕ)
   pub remains : k ≡ kept (beats j) left
   pub how : OwnerAgain requests o r j left ⊎ FirstFound n requests shares o r j left
 
-granted_apart : (j p : ℕ) → Granted j p ≢ Silent
+granted_apart : (j p : ℕ) → grant j p ≢ None
 granted_apart j p e = let z : ◌≡◌ {A = ℕ} 0 1 = cc in omega arith
 
 pub grant_next : (n : ℕ) (requests : ℕ → Bool) (shares beats : ℕ → ℕ) (o r j k : ℕ)
-    → granted n requests shares beats (record { owner = o; remaining = r }) ≡ Granted j k
+    → granted n requests shares beats (record { owner = o; remaining = r }) ≡ grant j k
     → Next n requests shares beats o r j k
 unfolding granted grant_to
 grant_next n requests shares beats o r j k e = go (requests o) (ltb 0 r) refl refl e
   where
     -- what a granted master i is, and keeps
-    same : (i p : ℕ) → Granted i (kept (beats i) p) ≡ Granted j k → (i ≡ j) × (k ≡ kept (beats j) p)
-    same i p f = let q : i ≡ j = cc in let z : kept (beats i) p ≡ k = cc in (q, rw (← q) (sym z))
+    same : (i p : ℕ) → grant i (kept (beats i) p) ≡ grant j k → (i ≡ j) × (k ≡ kept (beats j) p)
+    same i p f = let q = grant_parts f in (q.0, rw (← q.0) (sym q.1))
 
-    fresh : (x : Choice) → first_requester requests n o ≡ x → (r ≡ 0) ⊎ (requests o ≡ false)
-        → grant_to shares beats x ≡ Granted j k → Next n requests shares beats o r j k
-    fresh (Requester i) c h f =
+    fresh : (x : Option ℕ) → first_requester requests n o ≡ x → (r ≡ 0) ⊎ (requests o ≡ false)
+        → grant_to shares beats x ≡ grant j k → Next n requests shares beats o r j k
+    fresh (Some i) c h f =
         let q = same i (shares i - 1) f in
         let found : FirstFound n requests shares o r j (shares i - 1) =
-        record { first = c ∙ ap Requester q.0; fresh = rw q.0; lost = h } in
+        record { first = c ∙ ap Some q.0; fresh = rw q.0; lost = h } in
         record { left = shares i - 1; remains = q.1; how = inr found }
-    fresh Nobody c h f = absurd (granted_apart j k (sym f))
+    fresh None c h f = absurd (granted_apart j k (sym f))
 
     go : (b c : Bool) → requests o ≡ b → ltb 0 r ≡ c
-        → cond (b && c) (Granted o (kept (beats o) (r - 1))) (grant_to shares beats (first_requester requests n o)) ≡ Granted j k
+        → cond (b && c) (grant o (kept (beats o) (r - 1))) (grant_to shares beats (first_requester requests n o)) ≡ grant j k
         → Next n requests shares beats o r j k
     go true true q c f =
         let p = same o (r - 1) f in
@@ -116,35 +115,35 @@ module _ (n : ℕ) (shares single serve : ℕ → ℕ) where
   -- what is asked of the slave, and how long each request lasts
   module _ (requests : ℕ → Bool) (beats long : ℕ → ℕ)
       (asks : (j : ℕ) → j < n → requests j ≡ true → (1 ≤ shares j) × (long j ≤ serve j) × (beats j ≤ 1 → long j ≤ single j)) where
-    abbrev given : ℕ → ℕ → Grant
+    abbrev given : ℕ → ℕ → Option Arbiter
     given o r = granted n requests shares beats (record { owner = o; remaining = r })
 
     -- a requester exists: somebody is granted
-    pub some_grant : (m o r : ℕ) → m < n → o < n → requests m ≡ true → given o r ≢ Silent
+    pub some_grant : (m o r : ℕ) → m < n → o < n → requests m ≡ true → given o r ≢ None
     unfolding granted grant_to
     some_grant m o r hm ho q e = go (requests o && ltb 0 r) e
       where
         f : Found requests turn n o m (first_requester requests n o)
         f = requester_found requests turn n m hm q o ho
 
-        fresh : (x : Choice) → x ≡ Requester f.master → grant_to shares beats x ≢ Silent
+        fresh : (x : Option ℕ) → x ≡ Some f.master → grant_to shares beats x ≢ None
         fresh x i d = granted_apart _ _ (ap (grant_to shares beats) (sym i) ∙ d)
 
         go : (b : Bool)
-            → cond b (Granted o (kept (beats o) (r - 1))) (grant_to shares beats (first_requester requests n o)) ≢ Silent
+            → cond b (grant o (kept (beats o) (r - 1))) (grant_to shares beats (first_requester requests n o)) ≢ None
         go true d = granted_apart _ _ d
         go false d = fresh (first_requester requests n o) f.is d
 
     -- where m requests, and j is granted
-    module _ (m o r : ℕ) (hm : m < n) (ho : o < n) (waiting : requests m ≡ true) (j k : ℕ) (g : given o r ≡ Granted j k) where
+    module _ (m o r : ℕ) (hm : m < n) (ho : o < n) (waiting : requests m ≡ true) (j k : ℕ) (g : given o r ≡ grant j k) where
       f : Found requests turn n o m (first_requester requests n o)
       f = requester_found requests turn n m hm waiting o ho
 
       next : Next n requests shares beats o r j k
       next = grant_next n requests shares beats o r j k g
 
-      fresh_master : first_requester requests n o ≡ Requester j → f.master ≡ j
-      fresh_master e = let z : Requester f.master ≡ Requester j = sym f.is ∙ e in cc
+      fresh_master : first_requester requests n o ≡ Some j → f.master ≡ j
+      fresh_master e = let z : Some f.master ≡ Some j = sym f.is ∙ e in cc
 
       -- the granted master requests, and its transfer with what remains is within its grants
       grant_asks : (j < n) × (requests j ≡ true)

@@ -21,8 +21,7 @@ use Rattle.fabric_calls.specs.Calls.{World, reset, post, buffer_after_post, afte
 use Rattle.fabric_calls.specs.Calls.{Take, taken_of, take_answer, state_after_take}
 use Rattle.wait_turns.specs.Waits.{quoted_wait}
 use Rattle.description.specs.Writer.{write_text}
-use Rattle.wait.specs.declared.Quoted.{Quoted}
-use Rattle.wait.specs.Calls.{quote_of}
+use Rattle.wait.specs.Calls.{Quoted, quote_of}
 use Rattle.theorem_history.specs.WaitCall.{WaitAnswered}
 
 -- ---- the list of calls (rules 6.1 and 6.2)

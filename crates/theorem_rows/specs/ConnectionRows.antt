@@ -4,9 +4,8 @@ use Rattle.std.specs.Prelude.{◌≡◌, true, false, List, [], ◌++◌, ℕ, s
 use Rattle.common_laws.specs.Bytes.{bytes_of}
 use Rattle.description_board.specs.declared.Board.{Board}
 use Rattle.description_board.specs.Items.{board_refusal}
-use Rattle.description.specs.declared.Refusal.{Refusal}
 use Rattle.description.specs.Reader.{read_text}
-use Rattle.description.specs.Blame.{refused_at}
+use Rattle.description.specs.Blame.{Charge, refused_at}
 use Rattle.description.specs.Writer.{write_refusal}
 use Rattle.fabric_calls.specs.Calls.{World, reset, post, clock}
 use Rattle.wait.specs.Answers.{wait_refusal}
@@ -25,7 +24,7 @@ unfoldable pub three_masters : List ℕ → List ℕ
 three_masters lines = bytes_of "master,4,8\nmaster,2,1\nmaster,1,1\nslave,4096,4096,2,8,1,0,0,0\n" ++ lines
 
 -- 20, with no line charged, and the master named
-abbrev pub lacks : ℕ → Refusal
+abbrev pub lacks : ℕ → Charge
 lacks m = record { number = 20; line = 0; master = m }
 
 -- the board of section 9 with another count of masters, and other shares of master 1

@@ -3,7 +3,7 @@
 use Rattle.std.specs.Prelude.{◌≡◌, true, false, List, [], ◌∷◌, ℕ, suc, take, drop, set, replicate}
 use Rattle.common_laws.specs.Bytes.{bytes_of}
 use Rattle.common_laws.specs.Lists.{table}
-use Rattle.description_board.specs.declared.Slave.{Slave}
+use Rattle.description_board.specs.Records.{Slave}
 use Rattle.description_board.specs.declared.Board.{Board}
 use Rattle.description.specs.Reader.{read_text}
 use Rattle.fabric_transfer.specs.declared.Transfer.{Transfer}

@@ -2,9 +2,8 @@
 -- Assumes nothing.
 use Rattle.std.specs.Prelude.{◌≡◌, List, [], ◌++◌, ℕ}
 use Rattle.common_laws.specs.Bytes.{bytes_of}
-use Rattle.description.specs.declared.Refusal.{Refusal}
 use Rattle.description.specs.Reader.{read_text}
-use Rattle.description.specs.Blame.{refused_at}
+use Rattle.description.specs.Blame.{Charge, refused_at}
 use Rattle.description.specs.Writer.{write_text}
 use Rattle.wait.specs.Answers.{wait_refusal}
 use Rattle.wait_table.specs.Tables.{printed, print_refusal}
@@ -15,7 +14,7 @@ behind_slaves lines =
     bytes_of "master,2,1\nmaster,4,8\nslave,4096,4096,2,8,1,0,0,0\nslave,0,16,4,1,0,0,1,0\nslave,16,16,1,1,0,0,0,0\n" ++ lines
 
 -- a line charged with a refusal that names no master
-abbrev pub charged : ℕ → ℕ → Refusal
+abbrev pub charged : ℕ → ℕ → Charge
 charged n k = record { number = n; line = k; master = 0 }
 
 -- all pairs but the one that is too narrow

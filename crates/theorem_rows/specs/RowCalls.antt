@@ -3,7 +3,7 @@
 use Rattle.std.specs.Prelude.{cond, not, ◌&&◌, List, [], ◌∷◌, ℕ, zero, suc, ltb, eqb, get_or, replicate}
 use Rattle.common_laws.specs.Lists.{gather}
 use Rattle.description_board.specs.declared.Master.{Master}
-use Rattle.description_board.specs.declared.Slave.{Slave}
+use Rattle.description_board.specs.Records.{Slave}
 use Rattle.description_board.specs.declared.Board.{Board}
 use Rattle.description_board.specs.Records.{memory_length}
 use Rattle.fabric_transfer.specs.declared.Transfer.{Transfer}

@@ -9,4 +9,4 @@ returns-then-slot c = asked_serving _ _ _ _ c.slot_at-slot.ensures c.if-slot.tru
 pub returns : goal.returns
 returns c =
     asked_free _ _ _ _ c.slot_at-slot.ensures c.if-slot.false c.arbiter_of.ensures
-    c.arbitrate-after.ensures c.slot_by.ensures
+    c.arbitrate-grant.ensures c.slot_by.ensures

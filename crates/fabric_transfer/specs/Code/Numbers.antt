@@ -4,7 +4,7 @@
 use Rattle.std.specs.Prelude.{◌≡◌, true, cond, ℕ, ◌+◌, ◌-◌, ◌/◌, ◌≤◌}
 use Rattle.std.specs.Int.Count.{ones}
 use Rattle.description_board.specs.declared.Master.{Master}
-use Rattle.description_board.specs.declared.Slave.{Slave}
+use Rattle.description_board.specs.Records.{Slave}
 use Rattle.fabric_transfer.specs.declared.Transfer.{Transfer}
 use Rattle.fabric_lanes.specs.Lanes.{lowest, post_lanes}
 use Rattle.fabric_transfer.specs.Alignment.{ratio, leaves_out, access_bytes}

@@ -8,13 +8,13 @@ use Prim.Native.Nat.{ℕ, zero, suc, ◌-◌, ◌≤◌, ◌<◌}
 use native.Mathlib.Decide.{ℕ_discrete}
 use native.Mathlib.Nat.{le_refl}
 use native.Mathlib.Omega.{arith}
+use Rattle.std.specs.Prelude.{None}
 use Rattle.description_board.specs.declared.Board.{Board}
 use Rattle.description_board.specs.Records.{slave_at, shares_at}
 use Rattle.description_board.specs.Items.{board_refusal}
 use Rattle.description_board.specs.Legal.{Legal}
 use Rattle.fabric_transfer.specs.declared.Transfer.{Transfer}
 use Rattle.fabric_transfer.specs.Accesses.{latency_of}
-use Rattle.fabric_arbiter.specs.declared.Grant.TheVariants.{Silent}
 use Rattle.fabric_arbiter.specs.Granting.{grant_to, granted, arbiter_after}
 use Rattle.fabric_state.specs.declared.Slot.{Slot}
 use Rattle.fabric_state.specs.declared.State.{State}
@@ -60,7 +60,7 @@ record Alone (b : Board) (s m l : ℕ) (w : World) : Type 0 where
       ⊎ (((slot_at w.state s).serving ≡ false) × ((transfer_at w.state m).held ≡ false))
 
 -- where nobody asks, nobody is granted
-nobody_granted : (b : Board) (st : State) (s : ℕ) → ((j : ℕ) → requests b st s j ≡ false) → grant_at b st s ≡ Silent
+nobody_granted : (b : Board) (st : State) (s : ℕ) → ((j : ℕ) → requests b st s j ≡ false) → grant_at b st s ≡ None
 unfolding grant_at granted grant_to
 nobody_granted b st s f =
     rw (f (slot_at st s).owner, requester_nobody (requests b st s) b.master_count (slot_at st s).owner f)
@@ -109,12 +109,12 @@ module _ (b : Board) (legal : Legal b) (s : ℕ) (hs : s < b.slave_count) (m : �
       remaining = ap (λ (y : Slot). y.remaining) after;
     }
       where
-        now : slot_after_grant b st s ≡ slot_granted (slot_at st s) Silent
+        now : slot_after_grant b st s ≡ slot_granted (slot_at st s) None
         now =
             grant_given b st s rest
             ∙ ap (slot_granted (slot_at st s)) (nobody_granted b st s (λ j. requests_not b st s j (free j)))
 
-        after : slot_at (state_after b st) s ≡ slot_granted (slot_at st s) Silent
+        after : slot_at (state_after b st) s ≡ slot_granted (slot_at st s) None
         after =
             slot_after_lem b st s hs legal.few_slaves
             ∙ ap (λ (y : Step). y.slot) (step_rests b st s (ap (λ (y : Slot). y.serving) now))

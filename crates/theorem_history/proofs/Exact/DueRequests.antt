@@ -14,7 +14,7 @@ use borrow.Author.Tests.{le-ltb, eq-eqb, ne_eqb, leb-true, leb-false}
 use Rattle.common_laws.specs.Lists.{member}
 use Rattle.common_laws.proofs.TableLaws.{member_each}
 use Rattle.description_board.specs.declared.Board.{Board}
-use Rattle.description_board.specs.declared.Slave.{Slave}
+use Rattle.description_board.specs.Records.{Slave}
 use Rattle.description_board.specs.Records.{master_at, slave_at, shares_at}
 use Rattle.description_board.specs.Rules.{widths}
 use Rattle.description_board.specs.Legal.{Legal}

@@ -3,12 +3,12 @@
 use mathlib.Core.Path.{◌≡◌, refl, ap, ◌∙◌}
 use mathlib.Core.Bool.{Bool, true, false}
 use Prim.Native.Nat.{ℕ}
+use Rattle.std.specs.Prelude.{Option, Some, None}
 use Rattle.description_board.specs.declared.Board.{Board}
 use Rattle.description_board.specs.Records.{master_at, slave_at}
 use Rattle.fabric_transfer.specs.Accesses.{own_length}
-use Rattle.fabric_arbiter.specs.declared.Grant.{Grant}
-use Rattle.fabric_arbiter.specs.declared.Grant.TheVariants.{Granted, Silent}
-use Rattle.fabric_arbiter.specs.Granting.{arbiter_after}
+use Rattle.fabric_arbiter.specs.declared.Arbiter.{Arbiter}
+use Rattle.fabric_arbiter.specs.Granting.{grant, arbiter_after}
 use Rattle.fabric_state.specs.declared.Slot.{Slot}
 use Rattle.fabric_state.specs.declared.State.{State}
 use Rattle.fabric_state.specs.Records.{transfer_at, slot_at}
@@ -40,7 +40,7 @@ pub record Begins (b : Board) (st : State) (s : ℕ) : Type 0 where
   pub rested : (slot_at st s).serving ≡ false
   pub master : ℕ
   pub grants : ℕ
-  pub given : grant_at b st s ≡ Granted master grants
+  pub given : grant_at b st s ≡ grant master grants
   pub on : (slot_after_grant b st s).serving ≡ true
   pub owner : (slot_after_grant b st s).owner ≡ master
   pub remaining : (slot_after_grant b st s).remaining ≡ grants
@@ -50,30 +50,30 @@ pub record Begins (b : Board) (st : State) (s : ℕ) : Type 0 where
 pub data AfterGrant (b : Board) (st : State) (s : ℕ) : Type 0 where
   goes_on : (slot_at st s).serving ≡ true → slot_after_grant b st s ≡ slot_at st s → AfterGrant b st s
   begins : Begins b st s → AfterGrant b st s
-  silent : (slot_at st s).serving ≡ false → grant_at b st s ≡ Silent → (slot_after_grant b st s).serving ≡ false
+  silent : (slot_at st s).serving ≡ false → grant_at b st s ≡ None → (slot_after_grant b st s).serving ≡ false
       → (slot_after_grant b st s).remaining ≡ 0 → AfterGrant b st s
 
 pub after_grant : (b : Board) (st : State) (s : ℕ) → AfterGrant b st s
 unfolding slot_granted slot_by arbiter_after
 after_grant b st s = go (slot_at st s).serving refl
   where
-    by : (slot_at st s).serving ≡ false → (g : Grant) → grant_at b st s ≡ g → AfterGrant b st s
-    by off (Granted j k) e =
-        let x : slot_after_grant b st s ≡ record { owner = j; remaining = k; serving = true; done = 0; waited = 0 } =
+    by : (slot_at st s).serving ≡ false → (g : Option Arbiter) → grant_at b st s ≡ g → AfterGrant b st s
+    by off (Some g) e =
+        let x : slot_after_grant b st s ≡ record { owner = g.owner; remaining = g.remaining; serving = true; done = 0; waited = 0 } =
         grant_given b st s off ∙ ap (slot_granted (slot_at st s)) e in
         begins
         (record {
           rested = off;
-          master = j;
-          grants = k;
+          master = g.owner;
+          grants = g.remaining;
           given = e;
           on = ap (λ (y : Slot). y.serving) x;
           owner = ap (λ (y : Slot). y.owner) x;
           remaining = ap (λ (y : Slot). y.remaining) x;
           done = ap (λ (y : Slot). y.done) x;
-          left = ap (left_in b st s) x ∙ left_whole (master_at b j) (slave_at b s) (transfer_at st j) _ refl refl refl;
+          left = ap (left_in b st s) x ∙ left_whole (master_at b g.owner) (slave_at b s) (transfer_at st g.owner) _ refl refl refl;
         })
-    by off Silent e =
+    by off None e =
         let x = grant_given b st s off ∙ ap (slot_granted (slot_at st s)) e in
         silent off e (ap (λ (y : Slot). y.serving) x) (ap (λ (y : Slot). y.remaining) x)
 

@@ -12,7 +12,7 @@ use Rattle.description_board.specs.Records.{master_at, slave_at}
 use Rattle.description_board.specs.Legal.{Legal}
 use Rattle.fabric_transfer.specs.declared.Transfer.{Transfer}
 use Rattle.fabric_transfer.specs.Accesses.{latency_of}
-use Rattle.fabric_arbiter.specs.declared.Grant.TheVariants.{Granted}
+use Rattle.fabric_arbiter.specs.Granting.{grant}
 use Rattle.fabric_state.specs.declared.Slot.{Slot}
 use Rattle.fabric_state.specs.declared.State.{State}
 use Rattle.fabric_state.specs.declared.Step.{Step}
@@ -258,7 +258,7 @@ module _ (b : Board) (legal : Legal b) (st : State) (sound : Sound b st) (s : �
 
   module _ (m : ℕ) (hm : m < masters) (waiting : requests b st s m ≡ true) where
     -- passed over, the last owner m has no grants
-    pub put_aside : (j k : ℕ) → grant_at b st s ≡ Granted j k → j ≢ m → owner ≡ m → remaining ≡ 0
+    pub put_aside : (j k : ℕ) → grant_at b st s ≡ grant j k → j ≢ m → owner ≡ m → remaining ≡ 0
     unfolding grant_at
     put_aside j k g d e =
         ⊎_elim

@@ -9,15 +9,14 @@ use Prim.Native.Nat.{ℕ, ◌-◌, ◌≤◌, ◌<◌}
 use native.Mathlib.Decide.{ℕ_discrete}
 use native.Mathlib.Omega.{arith}
 use lib.Dec.{ltb, eqb}
+use Rattle.std.specs.Prelude.{Option, Some, None}
 use borrow.Author.Tests.{eq-eqb, ne_eqb}
 use Rattle.description_board.specs.declared.Board.{Board}
 use Rattle.description_board.specs.Records.{slave_at, shares_at}
 use Rattle.fabric_transfer.specs.Accesses.{latency_of}
-use Rattle.fabric_arbiter.specs.declared.Choice.{Choice}
-use Rattle.fabric_arbiter.specs.declared.Choice.TheVariants.{Requester, Nobody}
-use Rattle.fabric_arbiter.specs.declared.Grant.TheVariants.{Granted, Silent}
 use Rattle.fabric_arbiter.specs.Choosing.{first_requester}
-use Rattle.fabric_arbiter.specs.Granting.{kept, grant_to, granted}
+use Rattle.fabric_arbiter.specs.Granting.{kept, grant, grant_to, granted}
+use Rattle.fabric_arbiter.proofs.OrderLaws.{grant_parts}
 use Rattle.fabric_state.specs.declared.Slot.{Slot}
 use Rattle.fabric_state.specs.declared.State.{State}
 use Rattle.fabric_state.specs.Records.{transfer_at, slot_at, late_at}
@@ -109,10 +108,10 @@ module _ (b : Board) (st : State) (s : ℕ) where
       go false = refl
 
   -- the grant of a slave that does not serve
-  pub grant_usable : (slot_at st s).serving ≡ false → (j k : ℕ) → grant_at b st s ≡ Granted j k
+  pub grant_usable : (slot_at st s).serving ≡ false → (j k : ℕ) → grant_at b st s ≡ grant j k
       → granted b.master_count (requests b st s) (λ i. shares_at b i s) (beats_at b st s)
       (record { owner = (slot_at st s).owner; remaining = usable_at b st s })
-      ≡ Granted j (usable_behind b st s j k)
+      ≡ grant j (usable_behind b st s j k)
   unfolding grant_at granted grant_to
   grant_usable rest j k e = go (requests b st s o) refl (ltb 0 r) refl e
     where
@@ -122,7 +121,7 @@ module _ (b : Board) (st : State) (s : ℕ) where
       r : ℕ
       r = (slot_at st s).remaining
 
-      first : Choice
+      first : Option ℕ
       first = first_requester (requests b st s) b.master_count o
 
       shares : ℕ → ℕ
@@ -132,19 +131,18 @@ module _ (b : Board) (st : State) (s : ℕ) where
       beats i = (transfer_at st i).beats
 
       -- the same master, with the same grants before its transfer is looked at
-      same : (i p : ℕ) → Granted i (kept (beats i) p) ≡ Granted j k
-          → Granted i (kept (beats_at b st s i) p) ≡ Granted j (usable_behind b st s j k)
+      same : (i p : ℕ) → grant i (kept (beats i) p) ≡ grant j k
+          → grant i (kept (beats_at b st s i) p) ≡ grant j (usable_behind b st s j k)
       same i p f =
-          let q : i ≡ j = cc in
-          let z : kept (beats i) p ≡ k = cc in
-          ap (Granted i) (kept_as i p) ∙ rw (z, q)
+          let q = grant_parts f in
+          ap (grant i) (kept_as i p) ∙ rw (q.1, q.0)
 
-      fresh : (x : Choice) → grant_to shares beats x ≡ Granted j k
-          → grant_to shares (beats_at b st s) x ≡ Granted j (usable_behind b st s j k)
-      fresh (Requester i) f = same i (shares i - 1) f
-      fresh Nobody f = absurd (apart f)
+      fresh : (x : Option ℕ) → grant_to shares beats x ≡ grant j k
+          → grant_to shares (beats_at b st s) x ≡ grant j (usable_behind b st s j k)
+      fresh (Some i) f = same i (shares i - 1) f
+      fresh None f = absurd (apart f)
         where
-          apart : Silent ≡ Granted j k → ⊥
+          apart : None ≡ grant j k → ⊥
           apart d = let z : ◌≡◌ {A = ℕ} 0 1 = cc in omega arith
 
       -- a last owner that requests has no latency before it
@@ -152,10 +150,10 @@ module _ (b : Board) (st : State) (s : ℕ) where
       own q = usable_all (slot_at st s) (ahead_resting (slot_at st s) rest ∙ requests_free b st s o q)
 
       go : (c : Bool) → requests b st s o ≡ c → (d : Bool) → ltb 0 r ≡ d
-          → cond (c && d) (Granted o (kept (beats o) (r - 1))) (grant_to shares beats first) ≡ Granted j k
-          → cond (requests b st s o && ltb 0 (usable_at b st s)) (Granted o (kept (beats_at b st s o) (usable_at b st s - 1)))
+          → cond (c && d) (grant o (kept (beats o) (r - 1))) (grant_to shares beats first) ≡ grant j k
+          → cond (requests b st s o && ltb 0 (usable_at b st s)) (grant o (kept (beats_at b st s o) (usable_at b st s - 1)))
           (grant_to shares (beats_at b st s) first)
-          ≡ Granted j (usable_behind b st s j k)
+          ≡ grant j (usable_behind b st s j k)
       go true q true d f = rw (q, own q, d) (same o (r - 1) f)
       go true q false d f = rw (q, own q, d) (fresh first f)
       go false q d h f = rw q (fresh first f)

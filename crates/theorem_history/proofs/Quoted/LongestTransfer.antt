@@ -15,8 +15,7 @@ use Rattle.fabric_state.specs.Posting.{Request}
 use Rattle.fabric_calls.specs.Calls.{World, post}
 use Rattle.fabric_state.proofs.StateLaws.{transfer_reset}
 use Rattle.wait_turns.specs.Waits.{serve_of}
-use Rattle.wait.specs.declared.Quoted.{Quoted}
-use Rattle.wait.specs.Calls.{quote_of}
+use Rattle.wait.specs.Calls.{Quoted, quote_of}
 use Rattle.wait.proofs.LookUpLaws.{quote_connected}
 use Rattle.theorem_history.specs.Claim.{Start, Lent, Accepted, slave_for, length_of, Longest}
 use Rattle.theorem_history.proofs.Histories.OnePost.{Taken}

@@ -14,8 +14,7 @@ use Rattle.fabric_transfer.specs.Decoding.{selects}
 use Rattle.fabric_state.specs.Posting.{Request, transfer_of}
 use Rattle.fabric_calls.specs.Calls.{World, post}
 use Rattle.wait_turns.specs.Waits.{quoted_wait, serve_of}
-use Rattle.wait.specs.declared.Quoted.{Quoted}
-use Rattle.wait.specs.Calls.{quote_of}
+use Rattle.wait.specs.Calls.{Quoted, quote_of}
 use Rattle.wait.proofs.LookUpLaws.{quote_connected}
 use Rattle.theorem_history.specs.Claim.{Accepted, slave_for, Mapped, wait_for, length_of, Figures}
 use Rattle.theorem_history.proofs.OneClock.PairFigures.{accepted_long}
