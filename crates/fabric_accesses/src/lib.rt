@@ -31,14 +31,7 @@ pub fn over_width(at: u64, width: u32) -> u64
     requires { member width widths ≡ true }
     ensures { result ≡ at % width }
 {
-    at & (width - 1) as u64
-}
-
-// A difference stops at 0, as that of the definitions does: no caller has to rule out an address below the base.
-fn difference(a: u64, b: u64) -> u64
-    ensures { result ≡ a - b }
-{
-    if a < b { 0 } else { a - b }
+    at & u64::from(width - 1)
 }
 
 // The bits of a number of weight span and above (rule 3.6): a span is a power of two, and the bits below it are masked out.
@@ -58,6 +51,7 @@ pub fn agrees(sl: Slave, address: u32) -> bool
 }
 
 // Whether the slave has native alignment (rule 1.6).
+#[tactic(auto, unfolding(description_board::specs::Records::is_native))]
 pub fn is_native(sl: Slave) -> bool
     ensures { result ≡ is_native sl }
 {
@@ -65,14 +59,11 @@ pub fn is_native(sl: Slave) -> bool
 }
 
 // The bytes of an access that have a lane in the slave (rule 4.10).
+#[tactic(auto, unfolding(fabric_transfer::specs::Alignment::lane_bytes))]
 pub fn lane_bytes(ma: Master, sl: Slave) -> u32
     ensures { result ≡ lane_bytes ma sl }
 {
-    if ma.width <= sl.width {
-        ma.width
-    } else {
-        sl.width
-    }
+    ma.width.min(sl.width)
 }
 
 // The bytes of the transfer that fall to one access (rule 4.10).
@@ -95,11 +86,11 @@ pub fn ratio(ma: Master, sl: Slave) -> u32
 }
 
 // Whether the transfer leaves out those accesses of its beats that have no enabled lane (rule 4.10).
+#[tactic(auto, unfolding(fabric_transfer::specs::Alignment::leaves_out))]
 fn leaves_out(sl: Slave, t: Transfer) -> bool
     ensures { result ≡ leaves_out sl t }
 {
-    let native = is_native(sl);
-    t.write & !native
+    t.write && !is_native(sl)
 }
 
 // The number of the first access that is carried out (rule 4.10): the one that has the lowest lane. Legal lanes stand side by
@@ -135,7 +126,7 @@ pub fn accesses(ma: Master, sl: Slave, t: Transfer) -> u64
     ensures { result ≡ accesses ma sl t }
 {
     let each = beat_accesses(ma, sl, t);
-    (t.beats as u64) * (each as u64)
+    u64::from(t.beats) * u64::from(each)
 }
 
 // The number, among the accesses of all beats, of the one that is carried out behind k others (rule 4.10).
@@ -152,21 +143,21 @@ pub fn first_byte(ma: Master, sl: Slave, a: u32) -> u64
     ensures { result ≡ first_byte ma sl a }
 {
     let bytes = access_bytes(ma, sl);
-    (a as u64) * (bytes as u64)
+    u64::from(a) * u64::from(bytes)
 }
 
-// Where access a begins within the slave (rule 4.10): at a native slave a word of the slave for each word of the master.
+// Where access a begins within the slave (rule 4.10): at a native slave a word of the slave for each word of the master. A difference
+// stops at 0, as that of the definitions does: no caller has to rule out an address below the base.
 pub fn access_offset(ma: Master, sl: Slave, t: Transfer, a: u32) -> u64
     requires { Widths ma sl }
     ensures { result ≡ access_offset ma sl t a }
 {
-    let start = difference(t.address as u64, sl.base as u64);
+    let start = t.address.saturating_sub(sl.base);
     if is_native(sl) {
-        let word = quotient(start as u32, ma.width);
-        return (word as u64 + a as u64) * (sl.width as u64);
+        let word = quotient(start, ma.width);
+        return (u64::from(word) + u64::from(a)) * u64::from(sl.width);
     }
-    let moved = first_byte(ma, sl, a);
-    start + moved
+    u64::from(start) + first_byte(ma, sl, a)
 }
 
 // Where the slave word of access a begins within the slave (rule 4.13).
@@ -205,6 +196,7 @@ pub fn slave_lanes(ma: Master, sl: Slave, t: Transfer, a: u32) -> u32
 }
 
 // The slave's wait for the transfer's direction (rule 4.8).
+#[tactic(auto, unfolding(fabric_transfer::specs::Accesses::wait_of))]
 pub fn wait_of(sl: Slave, t: Transfer) -> u32
     ensures { result ≡ wait_of sl t }
 {
@@ -212,6 +204,7 @@ pub fn wait_of(sl: Slave, t: Transfer) -> u32
 }
 
 // The clocks between a transfer's last access and its finish (rule 4.16): a write has none.
+#[tactic(auto, unfolding(fabric_transfer::specs::Accesses::latency_of))]
 pub fn latency_of(sl: Slave, t: Transfer) -> u32
     ensures { result ≡ latency_of sl t }
 {
@@ -225,10 +218,11 @@ pub fn own_length(ma: Master, sl: Slave, t: Transfer) -> u64
 {
     let count = accesses(ma, sl, t);
     let wait = wait_of(sl, t);
-    count * (1 + wait as u64)
+    count * (1 + u64::from(wait))
 }
 
 // The most accesses of one run (rule 4.12).
+#[tactic(auto, unfolding(fabric_transfer::specs::Runs::run_limit))]
 pub fn run_limit(ma: Master, sl: Slave) -> u32
     ensures { result ≡ run_limit ma sl }
 {
@@ -252,10 +246,6 @@ pub fn run_of(ma: Master, sl: Slave, t: Transfer, total: u64, k: u32) -> u32
     let limit = run_limit(ma, sl);
     let place = place_of(ma, sl, k);
     let start = k - place;
-    let rest = difference(total, start as u64);
-    if (limit as u64) <= rest {
-        limit
-    } else {
-        rest as u32
-    }
+    let rest = total.saturating_sub(u64::from(start));
+    u64::from(limit).min(rest) as u32
 }

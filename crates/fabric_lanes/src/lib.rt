@@ -9,8 +9,7 @@ pub fn all_lanes(width: u32) -> u32
     requires { width ≤ 8 }
     ensures { result ≡ all_lanes width }
 {
-    let lowest: u32 = 1;
-    (lowest << width) - 1
+    (1 << width) - 1
 }
 
 // Whether a master of this width may enable these lanes (rule 3.4). Their count is a power of two, and the lowest lane a multiple

@@ -70,7 +70,6 @@ pub fn put_transfer(st: &mut [u32; STATE_NUMBERS], m: usize, t: Transfer)
     requires { m < 8 }
     ensures { TransferPut st.old st.new m t }
 {
-    description_layout::count(st);
     let p = TRANSFER_NUMBERS * m;
     st[p] = description_layout::mark_of(t.held);
     st[p + 1] = description_layout::mark_of(t.write);
@@ -84,7 +83,6 @@ pub fn put_slot(st: &mut [u32; STATE_NUMBERS], s: usize, x: Slot)
     requires { s < 16 }
     ensures { Leaves st.old st.new (with_slot (state_in st.old) s x) }
 {
-    description_layout::count(st);
     let p = SLOTS_FROM + SLOT_NUMBERS * s;
     st[p] = x.owner;
     st[p + 1] = x.remaining;
@@ -98,7 +96,6 @@ pub fn put_late(st: &mut [u32; STATE_NUMBERS], m: usize, n: u32)
     requires { m < 8 }
     ensures { Leaves st.old st.new (with_late (state_in st.old) m n) }
 {
-    description_layout::count(st);
     st[LATE_FROM + m] = n;
 }
 
@@ -128,7 +125,6 @@ fn put_entry(st: &mut [u32; STATE_NUMBERS], i: usize, e: Entry)
     ensures { (state_in st.new ≡ with_entry (state_in st.old) i e)
         × (st.new ≡ sets st.old (130 + 3 * i) (numbers_of_entry e)) }
 {
-    description_layout::count(st);
     let p = ENTRIES_FROM + ENTRY_NUMBERS * i;
     st[p] = e.master;
     st[p + 1] = e.address;
@@ -141,7 +137,6 @@ pub fn enter(st: &mut [u32; STATE_NUMBERS], e: Entry)
     ensures { Leaves st.old st.new
         (with_log (state_in st.old) (entered (state_in st.old).log e)) }
 {
-    description_layout::count(st);
     let n = log_count(st);
     if n < 8 {
         st[LOG_FROM] = n + 1;
@@ -151,14 +146,13 @@ pub fn enter(st: &mut [u32; STATE_NUMBERS], e: Entry)
     st[LOST_AT] = 1;
 }
 
-// Entry i of the log becomes the one behind it, number for number (rule 4.19).
+// Entry i of the log becomes the one behind it, number for number (rule 4.19). A slice has no method that copies within it.
 fn move_entry(st: &mut [u32; STATE_NUMBERS], i: usize)
     requires { i < 7 }
     ensures { (state_in st.new
         ≡ with_entry (state_in st.old) i (entry_at (state_in st.old).log (i + 1)))
         × (st.new ≡ entry_moved st.old i) }
 {
-    description_layout::count(st);
     let p = ENTRIES_FROM + ENTRY_NUMBERS * i;
     let q = p + ENTRY_NUMBERS;
     let master = st[q];
@@ -176,12 +170,9 @@ pub fn remove_oldest(st: &mut [u32; STATE_NUMBERS])
         ≡ with_log (state_in st.old) (without_oldest (state_in st.old).log))
         × (st.new ≡ oldest_removed st.old) }
 {
-    description_layout::count(st);
     st[LOG_FROM] = log_count(st) - 1;
-    let mut i: usize = 0;
-    while i < 7 {
+    for i in 0..7 {
         move_entry(st, i);
-        i += 1;
     }
     put_entry(st, 7, NO_ENTRY);
 }
@@ -190,13 +181,10 @@ pub fn remove_oldest(st: &mut [u32; STATE_NUMBERS])
 fn clear_log(st: &mut [u32; STATE_NUMBERS])
     ensures { state_in st.new ≡ with_log (state_in st.old) no_log }
 {
-    description_layout::count(st);
     st[LOG_FROM] = 0;
     st[LOST_AT] = 0;
-    let mut i: usize = 0;
-    while i < 8 {
+    for i in 0..8 {
         put_entry(st, i, NO_ENTRY);
-        i += 1;
     }
 }
 
@@ -211,11 +199,8 @@ fn response_for(on: bool) -> u32
 pub fn put_responses(responses: &mut [u32; MASTERS], mask: u32)
     ensures { responses.new ≡ responses_for mask }
 {
-    description_layout::count(responses);
-    let mut m: usize = 0;
-    while m < 8 {
-        responses[m] = response_for((mask >> m) % 2 == 1);
-        m += 1;
+    for (m, response) in responses.iter_mut().enumerate() {
+        *response = response_for((mask >> m) % 2 == 1);
     }
 }
 
@@ -224,7 +209,6 @@ pub fn put_line(lines: &mut [u32; LINES_NUMBERS], s: usize, x: Line)
     requires { s < 16 }
     ensures { lines_in lines.new ≡ set (lines_in lines.old) s x }
 {
-    description_layout::count(lines);
     let p = LINE_FIELDS * s;
     lines[p] = x.phase;
     lines[p + 1] = x.owner;
@@ -238,10 +222,8 @@ pub fn put_line(lines: &mut [u32; LINES_NUMBERS], s: usize, x: Line)
 pub fn first_lines(lines: &mut [u32; LINES_NUMBERS], n: usize)
     ensures { lines_in lines.new ≡ first_lines n (lines_in lines.old) }
 {
-    let mut s = n;
-    while s < 16 {
+    for s in n..16 {
         put_line(lines, s, NO_LINE);
-        s += 1;
     }
 }
 
@@ -249,11 +231,11 @@ pub fn first_lines(lines: &mut [u32; LINES_NUMBERS], n: usize)
 fn reset_slot(owner: u32, n: u32, s: usize) -> Slot
     ensures { result ≡ reset_slot owner n s }
 {
-    let mut x = NO_SLOT;
     if s < n as usize {
-        x.owner = owner;
+        Slot { owner, ..NO_SLOT }
+    } else {
+        NO_SLOT
     }
-    x
 }
 
 // No transfer is held, and no latency clocks are to pass (rule 4.2).
@@ -261,11 +243,9 @@ fn clear_masters(st: &mut [u32; STATE_NUMBERS])
     ensures { ((state_in st.new).transfers ≡ replicate 8 no_transfer)
         × ((state_in st.new).late ≡ replicate 8 0) }
 {
-    let mut m: usize = 0;
-    while m < 8 {
+    for m in 0..8 {
         put_transfer(st, m, NO_TRANSFER);
         put_late(st, m, 0);
-        m += 1;
     }
 }
 
@@ -276,10 +256,7 @@ pub fn reset_state(st: &mut [u32; STATE_NUMBERS], owner: u32, n: u32)
 {
     clear_masters(st);
     clear_log(st);
-    let mut s: usize = 0;
-    while s < 16 {
+    for s in 0..16 {
         put_slot(st, s, reset_slot(owner, n, s));
-        s += 1;
     }
-    description_layout::count(st);
 }

@@ -1,12 +1,12 @@
 -- One slave's clock from its own parts: what each path of the code gives, and that on the parts of a board and a state it is
 -- the clock of the definition.
 -- Assumes nothing.
-use mathlib.Core.Path.{◌≡◌, sym, ◌∙◌}
+use mathlib.Core.Path.{◌≡◌, sym, ap, ◌∙◌}
 use mathlib.Core.Bool.{Bool, true, false, cond}
 use Prim.Native.Nat.{ℕ, ◌+◌, ◌≤◌, ◌<◌}
 use borrow.Author.Tests.{lt-ltb, le-ltb, ltb-true, ltb-false}
 use Rattle.description_board.specs.declared.Master.{Master}
-use Rattle.description_board.specs.declared.Slave.{Slave}
+use Rattle.description_board.specs.Records.{Slave}
 use Rattle.description_board.specs.declared.Board.{Board}
 use Rattle.description_board.specs.Records.{master_at, slave_at, start_of}
 use Rattle.fabric_transfer.specs.declared.Transfer.{Transfer}
@@ -63,17 +63,27 @@ pub line_found : (ma : Master) (sl : Slave) (t : Transfer) (slot : Slot) (phase 
 unfolding line_of
 line_found ma sl t slot phase e o l r p = rw (o, l, r, p, e)
 
+-- the slot with another service, other accesses done and other waits passed
+abbrev pub served_on : Slot → Bool → ℕ → ℕ → Slot
+served_on slot on done waited =
+    record { owner = slot.owner; remaining = slot.remaining; serving = on; done = done; waited = waited }
+
 module _ (ma : Master) (sl : Slave) (t : Transfer) (slot : Slot) {line : Line} where
-  pub step_waiting : slot.waited < wait_of sl t → line ≡ line_of ma sl t slot 1
-      → ◌≡◌ {A = Step} (record { slot = slot_waiting slot; line = line; last = false }) (served ma sl t slot)
-  unfolding served waits
-  step_waiting h f = rw (f, lt-ltb slot.waited (wait_of sl t) h)
+  pub step_waiting : slot.serving ≡ true → slot.waited < wait_of sl t → line ≡ line_of ma sl t slot 1
+      → ◌≡◌ {A = Step} (record { slot = served_on slot slot.serving slot.done (slot.waited + 1); line = line; last = false })
+      (served ma sl t slot)
+  unfolding served waits slot_waiting
+  step_waiting on h f =
+      rw (f, lt-ltb slot.waited (wait_of sl t) h)
+      (ap (λ (b : Bool). record { slot = served_on slot b slot.done (slot.waited + 1); line = line_of ma sl t slot 1; last = false }) on)
 
   module _ {n : ℕ} (h : wait_of sl t ≤ slot.waited) (f : line ≡ line_of ma sl t slot 2) (g : n ≡ accesses ma sl t) where
-    pub step_working : slot.done + 1 < n
-        → ◌≡◌ {A = Step} (record { slot = slot_accessed slot; line = line; last = false }) (served ma sl t slot)
-    unfolding served waits
-    step_working l = rw (f, le-ltb slot.waited (wait_of sl t) h, lt-ltb (slot.done + 1) (accesses ma sl t) (rw g at l))
+    pub step_working : slot.serving ≡ true → slot.done + 1 < n
+        → ◌≡◌ {A = Step} (record { slot = served_on slot slot.serving (slot.done + 1) 0; line = line; last = false }) (served ma sl t slot)
+    unfolding served waits slot_accessed
+    step_working on l =
+        rw (f, le-ltb slot.waited (wait_of sl t) h, lt-ltb (slot.done + 1) (accesses ma sl t) (rw g at l))
+        (ap (λ (b : Bool). record { slot = served_on slot b (slot.done + 1) 0; line = line_of ma sl t slot 2; last = false }) on)
 
     pub step_ending : n ≤ slot.done + 1
         → ◌≡◌ {A = Step} (record { slot = slot_finished slot; line = line; last = true }) (served ma sl t slot)

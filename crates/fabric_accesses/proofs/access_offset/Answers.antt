@@ -10,46 +10,34 @@ use Rattle.fabric_transfer.proofs.AlignmentLaws.{access_master, native_offset, s
 use Rattle.fabric_transfer.proofs.AccessLaws.{width_le}
 use Rattle.fabric_accesses.proofs.access_offset.Goals as goal
 
-pub overflow_cast-start : goal.overflow_cast-start
-overflow_cast-start c = omega (arith, c.before.before.difference-start.ensures)
-
-pub quotient-word-requires : goal.quotient-word-requires
-quotient-word-requires c = c.before.before.before.before.before.requires.master
-
 pub overflow_mul-result : goal.overflow_mul-result
 overflow_mul-result c =
-    let start = c.before.before.before.before.before.before.before in
-    let few : start.args.sl.width ≤ 8 = width_le start.args.sl.width start.requires.slave in
-    let words = c.before.quotient-word.result + start.args.a in
-    omega (arith, product_le words start.args.sl.width (4294967295 + 4294967295) 8 (omega arith) few)
+    let few : c.from-then-is_native-2.result ≤ 8 =
+    omega (arith, c.from-then-is_native-2.ensures, width_le c.args.sl.width c.requires.slave) in
+    let words = c.from.result + c.from-then-is_native.result in
+    let most : words ≤ 4294967295 + 4294967295 = omega (arith, c.from.ensures, c.from-then-is_native.ensures) in
+    omega (arith, product_le words c.from-then-is_native-2.result (4294967295 + 4294967295) 8 most few)
 
 pub returns-then-is_native : goal.returns-then-is_native
 returns-then-is_native c =
-    let taken = c.before.before in
-    let start = taken.before.before.before.before.before in
-    let ma = start.args.ma in
-    let word : c.before.quotient-word.result ≡ (start.args.t.address - start.args.sl.base) / ma.width =
-    c.before.quotient-word.ensures ∙ ap (λ (x : ℕ). x / ma.width) taken.before.before.difference-start.ensures in
-    ap (λ (x : ℕ). (x + start.args.a) * start.args.sl.width) word
+    let ma = c.args.ma in
+    let word : c.from.result ≡ (c.args.t.address - c.args.sl.base) / ma.width =
+    c.from.ensures ∙ c.quotient-word.ensures ∙ ap (λ (x : ℕ). x / ma.width) c.saturating_sub-start.ensures in
+    ap₂ (λ (x y : ℕ). x * y) (ap₂ (λ (x y : ℕ). x + y) word c.from-then-is_native.ensures) c.from-then-is_native-2.ensures
     ∙ sym
-    (native_offset _ _ start.requires.master start.requires.slave _ _
-    (sym taken.before.is_native.ensures ∙ taken.if-is_native.true))
+    (native_offset _ _ c.requires.master c.requires.slave _ _ (sym c.is_native.ensures ∙ c.if-is_native.true))
 
 pub overflow_add-result-2 : goal.overflow_add-result-2
 unfolding first_byte
 overflow_add-result-2 c =
-    let known = c.before.before.before in
-    let args = known.before.before.before.args in
+    let args = c.args in
     let bytes = access_bytes args.ma args.sl in
     let few : bytes ≤ 4294967295 = omega (arith, access_master args.ma args.sl) in
     let most : args.a * bytes ≤ 4294967295 * 4294967295 = product_le args.a bytes 4294967295 4294967295 (omega arith) few in
-    omega (arith, known.difference-start.ensures, c.first_byte-moved.ensures)
+    omega (arith, c.from-2.ensures, c.saturating_sub-start.ensures, c.first_byte.ensures)
 
 pub returns : goal.returns
 returns c =
-    let left = c.before in
-    let start = left.before.before.before.before.before in
-    ap₂ (λ (x y : ℕ). x + y) left.before.before.difference-start.ensures c.first_byte-moved.ensures
+    ap₂ (λ (x y : ℕ). x + y) (c.from-2.ensures ∙ c.saturating_sub-start.ensures) c.first_byte.ensures
     ∙ sym
-    (sized_offset _ _ start.requires.master start.requires.slave _ _
-    (sym left.before.is_native.ensures ∙ left.if-is_native.false))
+    (sized_offset _ _ c.requires.master c.requires.slave _ _ (sym c.is_native.ensures ∙ c.if-is_native.false))

@@ -7,7 +7,7 @@ use native.Mathlib.Omega.{arith}
 use lib.Bits.{bit_and}
 use Rattle.common_laws.proofs.Arithmetic.{field_of}
 use Rattle.description_board.specs.declared.Master.{Master}
-use Rattle.description_board.specs.declared.Slave.{Slave}
+use Rattle.description_board.specs.Records.{Slave}
 use Rattle.fabric_transfer.specs.declared.Transfer.{Transfer}
 use Rattle.fabric_transfer.specs.Alignment.{lane_bytes}
 use Rattle.fabric_transfer.specs.Accesses.{first_byte, access_offset, write_lanes}

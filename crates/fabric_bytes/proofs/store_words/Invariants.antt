@@ -1,15 +1,11 @@
--- `fabric_bytes::store_words` meets its contract. The loop's invariant: the first k bytes are moved.
+-- `fabric_bytes::store_words` meets its contract. The loop's invariant: the first k words are moved.
 -- Assumes nothing.
 use mathlib.Core.Path.{◌≡◌}
-use Prim.Native.Nat.{◌≤◌, ◌-◌}
-use lib.ListN.{length}
-use Rattle.fabric_transfer.specs.Moving.{all, bytes_from, index_from, move}
+use lib.ListN.{length, get_or}
+use Rattle.fabric_transfer.specs.Moving.{all, index_from, move}
 use Rattle.fabric_bytes.proofs.store_words.Given as goal
 
 abbrev pub invariant-loop-k : goal.invariant-loop-k
 invariant-loop-k l =
-    (l.k ≤ l.count) × (length l.part ≡ length l.initial.part) × (l.part ≡ move all (bytes_from l.source l.from) (index_from l.at) 0 l.k l.initial.part)
-
-abbrev pub decreases-loop-k : goal.decreases-loop-k
-decreases-loop-k l =
-    l.count - l.k
+    (length l.part ≡ length l.initial.part)
+    × (l.part ≡ move all (λ k. get_or l.words k 0) (index_from l.at) 0 l.k l.initial.part)

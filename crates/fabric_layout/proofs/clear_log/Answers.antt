@@ -6,10 +6,10 @@ use Rattle.fabric_layout.proofs.LogPutLaws.{clear_log_begin, clear_log_next, cle
 use Rattle.fabric_layout.proofs.clear_log.Goals as goal
 
 pub loop-i-init : goal.loop-i-init
-loop-i-init c = (omega arith, clear_log_begin _)
+loop-i-init c = clear_log_begin _
 
 pub loop-i-preserved : goal.loop-i-preserved
-loop-i-preserved c = (omega arith, clear_log_next _ _ c.before.before.before.loop-i.invariant.1 c.put_entry.ensures.0)
+loop-i-preserved c = clear_log_next _ _ c.loop-i.invariant c.put_entry.ensures.0
 
 pub returns : goal.returns
-returns c = clear_log_end _ (search rules) _ (omega arith) c.before.loop-i.invariant.1
+returns c = clear_log_end _ (search rules) _ (omega arith) c.loop-i.invariant

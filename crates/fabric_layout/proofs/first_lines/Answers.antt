@@ -8,12 +8,10 @@ use Rattle.fabric_layout.proofs.StatePutLaws.{clear_begin, clear_here, first_is}
 use Rattle.fabric_layout.proofs.first_lines.Goals as goal
 
 pub loop-s-init : goal.loop-s-init
-loop-s-init c = (omega arith, clear_begin _ _)
+loop-s-init c = clear_begin _ _
 
 pub loop-s-preserved : goal.loop-s-preserved
-loop-s-preserved c =
-    let v = c.before.before.before.loop-s.invariant in
-    (omega arith, c.put_line.ensures ∙ filled_next _ _ 16 _ v.1 (clear_here _ _ _ v.0))
+loop-s-preserved c = c.put_line.ensures ∙ filled_next _ _ 16 _ c.loop-s.invariant (clear_here _ _ _ c.loop-s.auto.s)
 
 pub returns : goal.returns
-returns c = first_is _ _ (filled_all _ _ 16 _ (omega arith) c.before.loop-s.invariant.1)
+returns c = first_is _ _ (filled_all _ _ 16 _ (omega arith) c.loop-s.invariant)

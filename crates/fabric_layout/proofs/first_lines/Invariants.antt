@@ -3,7 +3,6 @@
 -- Assumes nothing.
 use mathlib.Core.Bool.{cond}
 use mathlib.Core.Path.{◌≡◌}
-use Prim.Native.Nat.{◌≤◌, ◌-◌}
 use lib.Dec.{ltb}
 use lib.ListN.{get_or}
 use Rattle.common_laws.proofs.FillLaws.{filled}
@@ -13,10 +12,5 @@ use Rattle.fabric_layout.proofs.first_lines.Given as goal
 
 abbrev pub invariant-loop-s : goal.invariant-loop-s
 invariant-loop-s l =
-    (l.n ≤ l.s)
-    × (lines_in l.lines
+    (lines_in l.lines
     ≡ filled (λ i. cond (ltb i l.n) (get_or (lines_in l.initial.lines) i no_line) no_line) (λ i. get_or (lines_in l.initial.lines) i no_line) 16 l.s)
-
-abbrev pub decreases-loop-s : goal.decreases-loop-s
-decreases-loop-s l =
-    16 - l.s

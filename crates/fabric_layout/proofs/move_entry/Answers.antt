@@ -1,4 +1,4 @@
--- `fabric_layout::move_entry` meets its contract: three numbers, as they stand, to the entry before. `count` tells the length.
+-- `fabric_layout::move_entry` meets its contract: three numbers, as they stand, to the entry before.
 -- Assumes nothing.
 use borrow.Author.Rules.{rules}
 use Rattle.fabric_layout.proofs.NumbersLaws.{moved_leaves}

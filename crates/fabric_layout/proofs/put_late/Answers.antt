@@ -1,4 +1,4 @@
--- `fabric_layout::put_late` meets its contract: one store, and no other record has a number there. `count` tells the length.
+-- `fabric_layout::put_late` meets its contract: one store, and no other record has a number there.
 -- Assumes nothing.
 use borrow.Author.Rules.{rules}
 use Rattle.fabric_layout.proofs.MarkLaws.{late_leaves}

@@ -7,10 +7,10 @@ use Rattle.fabric_layout.proofs.LogPutLaws.{response_here, responses_begin, resp
 use Rattle.fabric_layout.proofs.put_responses.Goals as goal
 
 pub loop-m-init : goal.loop-m-init
-loop-m-init c = (omega arith, responses_begin _ _ (search rules))
+loop-m-init c = responses_begin _ _ (search rules)
 
 pub loop-m-preserved : goal.loop-m-preserved
-loop-m-preserved c = (omega arith, filled_next _ _ 8 _ c.before.before.loop-m.invariant.1 (response_here _ _ c.response_for.ensures))
+loop-m-preserved c = filled_next _ _ 8 _ c.loop-m.invariant (response_here _ _ c.response_for.ensures)
 
 pub returns : goal.returns
-returns c = responses_end _ _ _ (omega arith) c.before.loop-m.invariant.1
+returns c = responses_end _ _ _ (omega arith) c.loop-m.invariant

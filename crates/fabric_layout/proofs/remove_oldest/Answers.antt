@@ -9,20 +9,19 @@ use Rattle.fabric_layout.proofs.NumbersLaws.{moved_begin, moved_next, removed_is
 use Rattle.fabric_layout.proofs.remove_oldest.Goals as goal
 
 pub loop-i-init : goal.loop-i-init
-loop-i-init c = (omega arith, remove_begin _, moved_begin _ (search rules))
+loop-i-init c = (remove_begin _, moved_begin _ (search rules))
 
 pub loop-i-preserved : goal.loop-i-preserved
 loop-i-preserved c =
-    let i = c.before.before.before.loop-i.invariant in
+    let i = c.loop-i.invariant in
     let e = c.move_entry.ensures in
-    (omega arith, remove_next _ _ (search rules) i.1 e.0, moved_next _ _ (search rules) i.2 e.1)
+    (remove_next _ _ (search rules) i.0 e.0, moved_next _ _ (search rules) i.1 e.1)
 
 pub returns : goal.returns
 returns c =
-    let l = c.before.before.before in
-    let i = l.loop-i.invariant in
-    let n = l.before.log_count.ensures in
-    let e : l.loop-i.i ≡ 7 = omega (arith, c.before.before.loop-i-test.false, i.0) in (
-      remove_end _ (search rules) _ _ n (omega arith) i.1 c.put_entry.ensures.0,
-      removed_is _ (search rules) _ n (rw e at i.2) c.put_entry.ensures.1,
+    let i = c.loop-i.invariant in
+    let n = c.log_count.ensures in
+    let e : c.loop-i.i ≡ 7 = omega arith in (
+      remove_end _ (search rules) _ _ n (omega arith) i.0 c.put_entry.ensures.0,
+      removed_is _ (search rules) _ n (rw e at i.1) c.put_entry.ensures.1,
     )

@@ -2,7 +2,6 @@
 -- and all else is as the loop found it.
 -- Assumes nothing.
 use mathlib.Core.Path.{◌≡◌}
-use Prim.Native.Nat.{◌≤◌, ◌-◌}
 use Rattle.fabric_layout.specs.Layout.{state_in}
 use Rattle.fabric_layout.proofs.LogPutLaws.{log_filled, behind}
 use Rattle.fabric_layout.proofs.NumbersLaws.{Moved}
@@ -10,8 +9,4 @@ use Rattle.fabric_layout.proofs.remove_oldest.Given as goal
 
 abbrev pub invariant-loop-i : goal.invariant-loop-i
 invariant-loop-i l =
-    (l.i ≤ 7) × (state_in l.st ≡ log_filled (state_in l.initial.st) (behind (state_in l.initial.st)) l.i) × Moved l.initial.st l.st l.i
-
-abbrev pub decreases-loop-i : goal.decreases-loop-i
-decreases-loop-i l =
-    7 - l.i
+    (state_in l.st ≡ log_filled (state_in l.initial.st) (behind (state_in l.initial.st)) l.i) × Moved l.initial.st l.st l.i

@@ -13,27 +13,27 @@ use Rattle.fabric_layout.proofs.reset_state.Goals as goal
 
 pub loop-s-init : goal.loop-s-init
 loop-s-init c =
-    let e = c.before.before.clear_masters.ensures in
+    let e = c.clear_masters.ensures in
     let g = c.clear_log.ensures in (
-      omega arith,
       transfers_logged _ _ _ g ∙ e.0,
       lates_logged _ _ _ g ∙ e.1,
       log_put _ _ _ g,
       slots_begin _ _,
+      search rules,
     )
 
 pub loop-s-preserved : goal.loop-s-preserved
 loop-s-preserved c =
-    let i = c.before.before.before.before.loop-s.invariant in
+    let i = c.loop-s.invariant in
     let e = c.put_slot.ensures.state in (
-      omega arith,
-      transfers_left _ _ _ _ e ∙ i.1,
-      lates_left _ _ _ _ e ∙ i.2,
-      log_left _ _ _ _ e ∙ i.3,
-      slots_put _ _ _ _ e ∙ filled_next _ _ 16 _ i.4 c.before.reset_slot.ensures,
+      transfers_left _ _ _ _ e ∙ i.0,
+      lates_left _ _ _ _ e ∙ i.1,
+      log_left _ _ _ _ e ∙ i.2,
+      slots_put _ _ _ _ e ∙ filled_next _ _ 16 _ i.3 c.reset_slot.ensures,
+      search rules,
     )
 
 pub returns : goal.returns
 returns c =
-    let i = c.before.before.before.before.loop-s.invariant in
-    reset_spelled _ _ _ (reset_end _ _ _ i.1 (filled_all _ _ 16 _ (omega arith) i.4) i.2 i.3) (search rules)
+    let i = c.loop-s.invariant in
+    reset_spelled _ _ _ (reset_end _ _ _ i.0 (filled_all _ _ 16 _ (omega arith) i.3) i.1 i.2) i.4

@@ -4,7 +4,7 @@
 use Rattle.std.specs.Prelude.{◌≡◌, true, false, cond, not, ◌&&◌, ℕ, ◌≤◌, ◌<◌}
 use Rattle.common_laws.specs.Lists.{member}
 use Rattle.description_board.specs.declared.Master.{Master}
-use Rattle.description_board.specs.declared.Slave.{Slave}
+use Rattle.description_board.specs.Records.{Slave}
 use Rattle.description_board.specs.Rules.{bursts}
 use Rattle.fabric_transfer.specs.declared.Transfer.{Transfer}
 use Rattle.fabric_transfer.specs.Accesses.{word_offset, accesses, access_number}
@@ -16,6 +16,7 @@ use Rattle.fabric_state.specs.declared.Slot.{Slot}
 use Rattle.fabric_state.specs.declared.Step.{Step}
 use Rattle.fabric_state.specs.Records.{no_line}
 use Rattle.fabric_state.specs.Control.{waits, served}
+use Rattle.fabric_slave.specs.declared.Service.{Service}
 
 -- access a is the one that the transfer carries out behind k others; it lies within one slave word, and that word's offset is
 -- one of a slave
@@ -27,6 +28,13 @@ pub record Placed (ma : Master) (sl : Slave) (t : Transfer) (k a : ℕ) : Type 0
   pub number : a ≡ access_number ma sl t k
   pub word : InWord ma sl t a
   pub offset : word_offset ma sl t a < 65536
+
+-- what the code asks once of a slave that serves
+pub record Asked (x : Service) : Type 0 where
+  pub serving : x.slot.serving ≡ true
+  pub placed : Placed x.master x.slave x.transfer x.slot.done x.access
+  pub waiting : x.waiting ≡ waits x.slave x.transfer x.slot
+  pub total : x.total ≡ accesses x.master x.slave x.transfer
 
 -- rules 2 and 3 (rules 4.8, 4.9) after rule 1: of the owner, the slave and the owner's transfer
 unfoldable pub step_from : Master → Slave → Transfer → Slot → Step
