@@ -3,6 +3,7 @@
 use mathlib.Core.Path.{◌≡◌, refl, sym, ap, subst₂, ◌∙◌}
 use mathlib.Core.List.{List}
 use Prim.Native.Nat.{ℕ, ◌+◌, ◌-◌, ◌≤◌, ◌<◌}
+use native.Mathlib.Nat.{sub-zero}
 use native.Mathlib.Omega.{arith}
 use lib.ListN.{length, replicate}
 use borrow.Author.Tests.{ne_eqb}
@@ -11,7 +12,6 @@ use Rattle.description_board.specs.declared.Board.{Board}
 use Rattle.description_board.specs.Records.{memory_length}
 use Rattle.fabric_transfer.specs.Bytes.{Store, buffer_length}
 use Rattle.fabric_state.specs.declared.State.{State}
-use Rattle.fabric_state.specs.declared.Line.{Line}
 use Rattle.fabric_state.specs.Records.{no_line}
 use Rattle.fabric_state.specs.Control.{responses_of}
 use Rattle.fabric_layout.specs.Layout.{state_in, lines_in}
@@ -23,7 +23,7 @@ use Rattle.fabric_check.specs.Code.Targets.{targets_in, request_mask, unmapped_m
 use Rattle.fabric_cycle.specs.Code.Cycles.{Passes, Clocks as Cycled}
 use Rattle.fabric_cycle.proofs.AgainLaws.{same_requests, same_unmapped}
 use Rattle.fabric_calls.specs.Calls.{clock_refusal}
-use Rattle.fabric_calls.specs.Running.{Run, standing, clock_on, run}
+use Rattle.fabric_calls.specs.Running.{standing, clock_on, run}
 use Rattle.fabric_calls.specs.Lent.{Runs}
 use Rattle.fabric_calls.proofs.ClockLaws.{exact_lengths}
 use Rattle.fabric.proofs.ResponseLaws.{responses_are, responses_zero}
@@ -42,35 +42,29 @@ run_refused b most before responses lines d {n} e h r q =
     let no = ne_eqb (clock_refusal b (state_in before) d) 0 (λ z. h (e ∙ z)) in
     record { answer = rw (no, e, r, q); marks = marks_same before; kept = λ _. refl }
 
--- between two clocks of one that is not refused, none of which finished a master: so many clocks are left of the most
+-- between two clocks of one that is not refused, none of which finished a master: so many of the most have passed
 pub record Passing (b : Board) (most : ℕ) (before : List ℕ) (d : Store) (requests : List ℕ) (unmapped : ℕ) (now lines : List ℕ)
-    (e : Store) (left : ℕ) : Type 0 where
-  pub few : left ≤ most
+    (e : Store) (passed : ℕ) : Type 0 where
+  pub few : passed ≤ most
   pub free : clock_refusal b (state_in now) e ≡ 0
   pub asked : requests ≡ table (request_mask (targets_in b (state_in now).transfers)) 16
   pub held : unmapped ≡ unmapped_mask b (state_in now)
   pub marks : Marks before now
   pub goes : clock_on b most (standing 0 (record { state = state_in before; store = d }))
-      ≡ clock_on b left (reached (most - left) 0 (replicate 8 0) (lines_in lines) (state_in now) e)
+      ≡ clock_on b (most - passed) (reached passed 0 (replicate 8 0) (lines_in lines) (state_in now) e)
 
 module _ (b : Board) (most : ℕ) (before : List ℕ) (d : Store) (ok : clock_refusal b (state_in before) d ≡ 0) where
   pub passing_begin : (requests lines : List ℕ) {unmapped : ℕ}
       → requests ≡ table (request_mask (targets_in b (state_in before).transfers)) 16 → unmapped ≡ unmapped_mask b (state_in before)
-      → lines_in lines ≡ replicate 16 no_line → Passing b most before d requests unmapped before lines d most
+      → lines_in lines ≡ replicate 16 no_line → Passing b most before d requests unmapped before lines d 0
   passing_begin requests lines q u shown = record {
     few = omega arith;
     free = ok;
     asked = q;
     held = u;
     marks = marks_same before;
-    goes =
-        ap (λ (r : Run). clock_on b most r)
-        (ap (λ (l : List Line). reached 0 0 (replicate 8 0) l (state_in before) d) (sym shown)
-        ∙ ap (λ (n : ℕ). reached n 0 (replicate 8 0) (lines_in lines) (state_in before) d) zero_passed);
+    goes = rw (sub-zero, shown);
   }
-    where
-      zero_passed : 0 ≡ most - most
-      zero_passed = omega arith
 
   -- its answer by where it has come to
   ran : {after responses lines : List ℕ} {e : Store} (n mask : ℕ)
@@ -80,8 +74,8 @@ module _ (b : Board) (most : ℕ) (before : List ℕ) (d : Store) (ok : clock_re
   unfolding run
   ran n mask f k = record { answer = sym f ∙ sym (rw ok); marks = k; kept = λ h. absurd (h refl) }
 
-  module _ {requests now lines : List ℕ} {unmapped : ℕ} {e : Store} {left : ℕ}
-      (p : Passing b most before d requests unmapped now lines e left) where
+  module _ {requests now lines : List ℕ} {unmapped : ℕ} {e : Store} {passed : ℕ}
+      (p : Passing b most before d requests unmapped now lines e passed) where
     pub passing_accepts : Passes b (state_in now)
     passing_accepts = record {
       board = accepted_board b (state_in now) e p.free;
@@ -91,37 +85,36 @@ module _ (b : Board) (most : ℕ) (before : List ℕ) (d : Store) (ok : clock_re
     pub passing_lengths : (length e.memory ≡ memory_length b) × (length e.buffer ≡ buffer_length)
     passing_lengths = exact_lengths b (state_in now) e p.free
 
-    pub passing_spent : left ≡ 0 → {responses : List ℕ} → responses ≡ replicate 8 0
+    pub passing_spent : passed ≡ most → {responses : List ℕ} → responses ≡ replicate 8 0
         → Runs b most before now responses lines d e 0 most 0
     passing_spent z r =
-        let all : most - left ≡ most = omega arith in
+        let none : most - passed ≡ 0 = omega (arith, z) in
         ran most 0
-        (p.goes ∙ ap (λ (k : ℕ). clock_on b k (reached (most - left) 0 (replicate 8 0) (lines_in lines) (state_in now) e)) z
+        (p.goes ∙ ap (λ (k : ℕ). clock_on b k (reached passed 0 (replicate 8 0) (lines_in lines) (state_in now) e)) none
         ∙ on_spent b _
-        ∙ ap (λ (k : ℕ). reached k 0 (replicate 8 0) (lines_in lines) (state_in now) e) all
+        ∙ ap (λ (k : ℕ). reached k 0 (replicate 8 0) (lines_in lines) (state_in now) e) z
         ∙ ap (λ (l : List ℕ). reached most 0 l (lines_in lines) (state_in now) e) (sym r))
         p.marks
 
-    module _ (some : 0 < left) (then shown : List ℕ) {f : Store} {mask : ℕ}
+    module _ (some : passed < most) (then shown : List ℕ) {f : Store} {mask : ℕ}
         (x : Cycled b (state_in now) (state_in then) (lines_in shown) mask e f × Marks now then) where
       abbrev c : Cycled b (state_in now) (state_in then) (lines_in shown) mask e f
       c = x.0
 
       -- one clock more
       once : clock_on b most (standing 0 (record { state = state_in before; store = d }))
-          ≡ clock_on b (left - 1)
-          (reached (most - (left - 1)) mask (responses_of b (state_in now)) (lines_in shown) (state_in then) f)
+          ≡ clock_on b (most - (passed + 1))
+          (reached (passed + 1) mask (responses_of b (state_in now)) (lines_in shown) (state_in then) f)
       once =
-          let back : left - 1 + 1 ≡ left = omega arith in
-          let n : most - left + 1 ≡ most - (left - 1) = omega (arith, p.few) in
+          let back : most - (passed + 1) + 1 ≡ most - passed = omega (arith, some) in
           p.goes
-          ∙ ap (λ (k : ℕ). clock_on b k (reached (most - left) 0 (replicate 8 0) (lines_in lines) (state_in now) e)) (sym back)
-          ∙ on_next b (left - 1) (most - left) (replicate 8 0) (lines_in lines) (state_in now) e p.free
-          ∙ rw (c.state, c.lines, c.mask, c.store, n)
+          ∙ ap (λ (k : ℕ). clock_on b k (reached passed 0 (replicate 8 0) (lines_in lines) (state_in now) e)) (sym back)
+          ∙ on_next b (most - (passed + 1)) passed (replicate 8 0) (lines_in lines) (state_in now) e p.free
+          ∙ rw (c.state, c.lines, c.mask, c.store)
 
-      pub passing_next : mask ≡ 0 → Passing b most before d requests unmapped then shown f (left - 1)
+      pub passing_next : mask ≡ 0 → Passing b most before d requests unmapped then shown f (passed + 1)
       passing_next z = record {
-        few = omega (arith, p.few);
+        few = omega (arith, some);
         free =
             subst₂ (λ (u : State) (v : Store). clock_refusal b u v ≡ 0) (sym c.state) (sym c.store)
             (refusal_again b (state_in now) e p.free (sized now));
@@ -132,7 +125,7 @@ module _ (b : Board) (most : ℕ) (before : List ℕ) (d : Store) (ok : clock_re
       }
 
       pub passing_finished : (mask ≡ 0 → ⊥) → {responses : List ℕ} → responses ≡ responses_for unmapped
-          → Runs b most before then responses shown d f 0 (most - (left - 1)) mask
+          → Runs b most before then responses shown d f 0 (passed + 1) mask
       passing_finished h r =
           let are = responses_are b (state_in now) p.held r in
-          ran (most - (left - 1)) mask (once ∙ on_finished b (left - 1) _ h ∙ rw are) (marks_then p.marks x.1)
+          ran (passed + 1) mask (once ∙ on_finished b (most - (passed + 1)) _ h ∙ rw are) (marks_then p.marks x.1)

@@ -22,30 +22,12 @@ use Rattle.fabric_calls.specs.Code.Refusals.{clock_refusal_by}
 use Rattle.fabric_calls.specs.Lent.{Clocks}
 use Rattle.fabric_calls.proofs.PostLaws.{passed_number}
 
--- the refusal by its parts, in their order
-module _ (room memory buffer : ℕ) (sound : Bool) where
-  pub by_board : {n : ℕ} → (n ≡ 0 → ⊥) → clock_refusal_by n room sound memory buffer ≡ n
-  unfolding clock_refusal_by
-  by_board {n} h = rw (ne_eqb n 0 h)
-
-  pub by_memory : {n : ℕ} → n ≡ 0 → (memory ≡ room → ⊥) → clock_refusal_by n room sound memory buffer ≡ 8
-  unfolding clock_refusal_by
-  by_memory {n} z h = rw (z, ne_eqb memory room h)
-
-  pub by_buffer : {n : ℕ} → n ≡ 0 → memory ≡ room → (buffer ≡ buffer_length → ⊥) → clock_refusal_by n room sound memory buffer ≡ 8
-  unfolding clock_refusal_by
-  by_buffer {n} z e h = rw (z, eq-eqb memory room e, ne_eqb buffer buffer_length h)
-
-  pub by_state : {n : ℕ} → n ≡ 0 → memory ≡ room → buffer ≡ buffer_length
-      → clock_refusal_by n room sound memory buffer ≡ cond {A = ℕ} sound 0 9
-  unfolding clock_refusal_by
-  by_state {n} z e f = rw (z, eq-eqb memory room e, eq-eqb buffer buffer_length f) (go sound)
-    where
-      go : (c : Bool) → cond {A = ℕ} (not c) 9 0 ≡ cond {A = ℕ} c 0 9
-      go true = refl
-      go false = refl
-
 module _ (b : Board) (st : State) (d : Store) where
+  -- a board that is refused is refused first
+  pub board_first : (board_refusal b ≡ 0 → ⊥) → clock_refusal b st d ≡ board_refusal b
+  unfolding clock_refusal
+  board_first h = rw (ne_eqb (board_refusal b) 0 h)
+
   -- what the check of board and state found says all of it: a state is looked at on an accepted board only
   pub refusal_found : (number : ℕ) (keeps : Bool) → number ≡ board_refusal b → (board_refusal b ≡ 0 → keeps ≡ sound b st)
       → clock_refusal_by number (memory_length b) keeps (length d.memory) (length d.buffer) ≡ clock_refusal b st d

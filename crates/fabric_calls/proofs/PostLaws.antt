@@ -65,10 +65,6 @@ module _ (b : Board) (m : ℕ) (t : Transfer) where
   -- the transfer passes: its words decide, by the master that was read
   module _ (passes : transfer_refusal b m t ≡ 0) {ma : Master} (own : ma ≡ master_at b m) {right : ℕ}
       (e : right ≡ cond t.write (t.beats * ma.width) 0) (bytes : ℕ) where
-    pub words_wrong : (bytes ≡ right → ⊥) → request_refusal b m t bytes ≡ 18
-    unfolding request_refusal wrong_words
-    words_wrong h = rw (passes, ← own, ← e, ne_eqb bytes right h)
-
     pub words_right : bytes ≡ right → request_refusal b m t bytes ≡ 0
     unfolding request_refusal wrong_words
     words_right h = rw (passes, ← own, ← e, eq-eqb bytes right h)
@@ -98,7 +94,7 @@ module _ (b : Board) (m : ℕ) (t : Transfer) where
 
     -- nothing of 2 to 9 is refused: what is left
     module _ (ok : board_refusal b ≡ 0) (full : room ≡ buffer_length) (keeps : sound b st ≡ true) where
-      pub refusal_asked : post_refusal_by b st room m t bytes
+      refusal_asked : post_refusal_by b st room m t bytes
           ≡ cond (leb b.master_count m) 11 (cond (transfer_at st m).held 12 (request_refusal b m t bytes))
       unfolding post_refusal_by
       refusal_asked = rw (ok, eq-eqb room buffer_length full, keeps)

@@ -21,14 +21,6 @@ use Rattle.fabric_calls.specs.Lent.{Takes}
 use Rattle.fabric_calls.proofs.PostLaws.{passed_number}
 
 module _ (b : Board) (st : State) where
-  pub take_board : board_refusal b ≢ 0 → take_refusal b st ≡ board_refusal b
-  unfolding take_refusal
-  take_board h = rw (ne_eqb (board_refusal b) 0 h)
-
-  pub take_state : board_refusal b ≡ 0 → sound b st ≡ false → take_refusal b st ≡ 9
-  unfolding take_refusal
-  take_state z h = rw (z, h)
-
   pub take_empty : board_refusal b ≡ 0 → sound b st ≡ true → st.log.count ≡ 0 → take_refusal b st ≡ 22
   unfolding take_refusal
   take_empty z h e = rw (z, h, e)

@@ -9,8 +9,7 @@ use Rattle.fabric_transfer.specs.declared.Transfer.{Transfer}
 use Rattle.fabric_transfer.specs.Bytes.{Store, buffer_length, posted_words}
 use Rattle.fabric_state.specs.declared.Entry.{Entry}
 use Rattle.fabric_state.specs.declared.State.{State}
-use Rattle.fabric_calls.specs.declared.Started.{Started}
-use Rattle.fabric_calls.specs.declared.Posted.{Posted}
+use Rattle.fabric_calls.specs.declared.Changed.{Changed}
 use Rattle.fabric_state.specs.declared.Clocked.{Clocked}
 use Rattle.fabric_state.specs.Records.{no_state, no_entry, transfer_at, entry_at}
 use Rattle.fabric_state.specs.Posting.{Request, transfer_of, transfer_refusal, with_transfer}
@@ -21,7 +20,7 @@ use Rattle.fabric_state.specs.Clocking.{clocked_of, refused_clock}
 use Rattle.fabric_state.specs.Carrying.{store_after}
 
 -- rules 4.2, 8.1, 8.5: what `reset` answers; it is lent no memory and no buffer
-unfoldable pub reset : Board → Started
+unfoldable pub reset : Board → Changed
 reset b = record { number = board_refusal b; state = cond (eqb (board_refusal b) 0) (state_at_reset b) no_state }
 
 -- rule 7.18: so many bytes are not the words of the transfer
@@ -48,7 +47,7 @@ unfoldable pub post_refusal : Board → State → List ℕ → Request → ℕ
 post_refusal b st buffer q = post_refusal_by b st (length buffer) q.master (transfer_of q) (length q.words)
 
 -- rules 3.3, 8.1: what `post` answers, and the state that it leaves
-unfoldable pub post : Board → State → List ℕ → Request → Posted
+unfoldable pub post : Board → State → List ℕ → Request → Changed
 post b st buffer q = record {
   number = post_refusal b st buffer q;
   state = cond (eqb (post_refusal b st buffer q) 0) (with_transfer st q.master (transfer_of q)) st;

@@ -3,15 +3,10 @@
 
 use fabric_state::State;
 
-// What the definitions of reset and post answer. The calls are lent the state, and answer the number alone (rules 3.3, 4.2).
+// What the definitions of reset and post answer: a refusal's number, or 0, and the state. The calls are lent the state, and answer the
+// refusal alone (rules 3.3, 4.2).
 #[derive(Clone, Copy)]
-pub struct Started {
-    pub number: u32,
-    pub state: State,
-}
-
-#[derive(Clone, Copy)]
-pub struct Posted {
+pub struct Changed {
     pub number: u32,
     pub state: State,
 }

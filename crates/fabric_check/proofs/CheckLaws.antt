@@ -8,13 +8,17 @@ use native.Mathlib.Numerals.{add-one}
 use native.Mathlib.Omega.{arith}
 use lib.Dec.{ltb, leb, eqb}
 use lib.ListN.{length, get_or, set}
-use borrow.Author.Tests.{lt-ltb, le-ltb, eqb-true, eqb-false}
+use borrow.Author.Tests.{lt-ltb, le-ltb, eqb-true, eqb-false, ne_eqb}
+use Rattle.std.proofs.Common.{Result, Ok, Err, is_ok}
 use Rattle.common_laws.specs.Lists.{member, every}
 use Rattle.common_laws.proofs.TableLaws.{every_at}
 use Rattle.common_laws.proofs.Tests.{both}
 use Rattle.common_laws.proofs.FillLaws.{filled, filled_next, filled_all}
+use Rattle.common_numbers.specs.Refusals.{refusal_number, refusal_in}
+use Rattle.common_numbers.specs.declared.Refusal.{Refusal}
+use Rattle.common_numbers.proofs.RefusalLaws.{refusal_not_zero}
 use Rattle.description_board.specs.declared.Master.{Master}
-use Rattle.description_board.specs.declared.Slave.{Slave}
+use Rattle.description_board.specs.Records.{Slave}
 use Rattle.description_board.specs.declared.Board.{Board}
 use Rattle.description_board.specs.Records.{master_at, slave_at, shares_at}
 use Rattle.description_board.specs.Rules.{widths}
@@ -33,7 +37,7 @@ use Rattle.fabric_state.specs.Soundness.{sound_service, sound_rest, sound_slot_b
 use Rattle.fabric_state.proofs.RequestLaws.{holds_held, holds_selects, accepted_at, accepted_posted}
 use Rattle.fabric_state.proofs.SoundLaws.{held_facts}
 use Rattle.fabric_check.specs.Code.Targets.{held_target, target_in, targets_in}
-use Rattle.fabric_check.specs.Code.Checks.{Held, Decoded}
+use Rattle.fabric_check.specs.Code.Checks.{Held, Decoded, Preconditions}
 use Rattle.fabric_check.proofs.TargetLaws.{target_holds}
 
 -- a loop over the numbers below n: one more passes, one fails
@@ -57,6 +61,20 @@ module _ {X : Type 0} {c : Bool} (x y : X) where
   cond_left : c ≡ false → cond c x y ≡ y
   cond_left e = rw e
 
+-- a board that is refused: there is nothing to show of the state
+pub board_refused : (b : Board) (st : State) (e : Refusal) (ts : List ℕ) → refusal_number e ≡ board_refusal b
+    → Preconditions b st (Err e) ts
+board_refused b st e ts h = record {
+  number = h;
+  sound = λ z. refusal_not_zero e (h ∙ z);
+  targets = λ z. refusal_not_zero e (h ∙ z);
+}
+
+-- an answer that tells no more than a refusal is not refused where its number is 0
+ok_number : (r : Result Unit Refusal) → is_ok r ≡ eqb (refusal_in r) 0
+ok_number (Ok x) = refl
+ok_number (Err e) = sym (ne_eqb (refusal_number e) 0 (refusal_not_zero e))
+
 -- a transfer that a master of the board holds, that another holds, and that is not held: what is answered, and what is put
 module _ (b : Board) (m : ℕ) (t : Transfer) (late : ℕ) (before : List ℕ) where
   abbrev ours : Bool
@@ -65,18 +83,18 @@ module _ (b : Board) (m : ℕ) (t : Transfer) (late : ℕ) (before : List ℕ) w
   abbrev passes : Bool
   passes = eqb (transfer_refusal b m t) 0 && leb late (latency_at b m t)
 
-  fits : {number latency : ℕ} → number ≡ transfer_refusal b m t → latency ≡ latency_at b m t
-      → (eqb number 0 && leb late latency) ≡ passes
-  fits f g = rw (f, g)
+  fits : (r : Result Unit Refusal) {ok : Bool} {latency : ℕ} → refusal_in r ≡ transfer_refusal b m t → ok ≡ is_ok r
+      → latency ≡ latency_at b m t → (ok && leb late latency) ≡ passes
+  fits r f o g = rw (o, ok_number r, f, g)
 
-  pub held_ours : {masters target number latency : ℕ} → t.held ≡ true → masters ≡ b.master_count → m < masters
-      → target ≡ target_of b m t.address → number ≡ transfer_refusal b m t
+  pub held_ours : {masters target latency : ℕ} {ok : Bool} (r : Result Unit Refusal) → t.held ≡ true → masters ≡ b.master_count → m < masters
+      → target ≡ target_of b m t.address → refusal_in r ≡ transfer_refusal b m t → ok ≡ is_ok r
       → latency ≡ latency_at b m t
-      → Held b m t late (eqb number 0 && leb late latency) before (set before m target)
+      → Held b m t late (ok && leb late latency) before (set before m target)
   unfolding sound_held held_target
-  held_ours on em h e f g = record {
+  held_ours r on em h e f o g = record {
     sound =
-        fits f g
+        fits r f o g
         ∙ sym (ap (λ (c : Bool). c && passes) (lt-ltb m b.master_count (rw (← em) h)))
         ∙ sym (cond_taken (ours && passes) (eqb late 0) on);
     target = λ q. ap (set before m) (e ∙ sym (cond_taken (target_of b m t.address) b.slave_count on));

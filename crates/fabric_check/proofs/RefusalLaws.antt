@@ -12,7 +12,7 @@ use borrow.Author.Tests.{eqb-false}
 use Rattle.common_laws.specs.Lists.{member}
 use Rattle.common_laws.proofs.Arithmetic.{product_le}
 use Rattle.description_board.specs.declared.Master.{Master}
-use Rattle.description_board.specs.declared.Slave.{Slave}
+use Rattle.description_board.specs.Records.{Slave}
 use Rattle.description_board.specs.declared.Board.{Board}
 use Rattle.description_board.specs.Records.{no_slave, master_at, slave_at}
 use Rattle.description_board.specs.Rules.{widths}

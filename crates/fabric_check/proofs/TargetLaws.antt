@@ -17,7 +17,7 @@ use Rattle.common_laws.specs.Lists.{table, sum}
 use Rattle.common_laws.proofs.TableLaws.{get_or_table, get_or_replicate_all, mask, mask_lt, bit_mask, bit_mask_past}
 use Rattle.common_laws.proofs.FillLaws.{table_is, set_table}
 use Rattle.common_laws.proofs.FrontLaws.{table_same}
-use Rattle.description_board.specs.declared.Slave.{Slave}
+use Rattle.description_board.specs.Records.{Slave}
 use Rattle.description_board.specs.declared.Board.{Board}
 use Rattle.description_board.specs.Records.{slave_at, shares_at, connected}
 use Rattle.description_board.specs.Items.{board_refusal}

@@ -14,7 +14,7 @@ ghost use Rattle.fabric_layout.specs.Layout.{state_in};
 ghost use Rattle.fabric_check.specs.Code.Checks.{latency_by, Held, Answered, Decoded, Preconditions};
 ghost use Rattle.fabric_check.specs.Code.Targets.{unmapped_mask};
 
-use common_numbers::{BOARD_NUMBERS, MASTERS, STATE_NUMBERS};
+use common_numbers::{BOARD_NUMBERS, MASTERS, Refusal, STATE_NUMBERS};
 use description_board::{Master, Slave};
 use fabric_state::Slot;
 use fabric_transfer::Transfer;
@@ -22,13 +22,15 @@ pub use transfers::{request_masks, transfer_refusal, weight_of};
 
 // The latency of the transfer t at the slave of this number, which is the count of slaves where the transfer is unmapped: that has
 // none (rules 4.16, 4.17).
+#[tactic(auto, unfolding(crate::specs::Code::Checks::latency_by, fabric_state::specs::Posting::unmapped))]
 fn latency_by(sl: Slave, t: Transfer, target: u32, count: u32) -> u32
     ensures { result ≡ latency_by sl t target count }
 {
     if target == count {
-        return 0;
+        0
+    } else {
+        fabric_accesses::latency_of(sl, t)
     }
-    fabric_accesses::latency_of(sl, t)
 }
 
 // Whether the transfer t of master m breaks no rule with so many latency clocks to pass (rule 7.9); where it breaks none, the slave
@@ -44,21 +46,21 @@ fn held_at(
     ensures { Held (board_in board.now) m t late result targets.old targets.new }
 {
     let count = description_layout::slave_count(board);
-    if t.held {
-        if m < description_layout::master_count(board) as usize {
-            let target = transfers::target_of(board, m, t.address);
-            targets[m] = target;
-            // the number of slaves can be 16: what stands for no slave is looked up, and not used
-            let sl = description_layout::slave_at(board, (target % 16) as usize);
-            let ma = description_layout::master_at(board, m);
-            let default = description_layout::default_at(board);
-            let number = transfers::transfer_refusal_by(ma, sl, t, target, count, default);
-            return (number == 0) & (late <= latency_by(sl, t, target, count));
-        }
+    if !t.held {
+        targets[m] = count;
+        return late == 0;
+    }
+    if description_layout::master_count(board) as usize <= m {
         return false;
     }
-    targets[m] = count;
-    late == 0
+    let target = transfers::target_of(board, m, t.address);
+    targets[m] = target;
+    // the number of slaves can be 16: what stands for no slave is looked up, and not used
+    let sl = description_layout::slave_at(board, (target % 16) as usize);
+    let ma = description_layout::master_at(board, m);
+    let default = description_layout::default_at(board);
+    let passed = transfers::transfer_refusal_by(ma, sl, t, target, count, default);
+    passed.is_ok() & (late <= latency_by(sl, t, target, count))
 }
 
 // Whether no transfer breaks a rule (rule 7.9); where none does, each one's slave is left in `targets`. One pass decodes and
@@ -72,36 +74,35 @@ fn sound_transfers(
     ensures { Answered (board_in board.now) (state_in st.now)
         (every (sound_transfer (board_in board.now) (state_in st.now)) 8) result targets.new }
 {
-    description_layout::count(targets);
-    let mut m: usize = 0;
-    while m < 8 {
+    for m in 0..8 {
         let t = fabric_layout::transfer_at(st, m);
         let late = fabric_layout::late_at(st, m);
         if !held_at(board, m, t, late, targets) {
             return false;
         }
-        m += 1;
     }
     true
 }
 
 // Whether a slot whose owner is a master of the board breaks no rule (rule 7.9): of its owner's shares, whether its owner
 // requests this slave, and the two and its transfer.
+#[tactic(auto, using(crate::proofs::CheckLaws::slot_serving, crate::proofs::CheckLaws::slot_elsewhere, crate::proofs::CheckLaws::slot_resting, crate::proofs::CheckLaws::slot_over))]
 fn sound_slot_by(slot: Slot, share: u32, here: bool, ma: Master, sl: Slave, t: Transfer) -> bool
     requires { here ≡ true → Posted ma sl t }
     ensures { result ≡ sound_slot_by share here ma sl t slot }
 {
-    if (slot.remaining == 0) | (slot.remaining < share) {
-        if slot.serving {
-            if here {
-                let left = (slot.done as u64) < fabric_accesses::accesses(ma, sl, t);
-                return left & (slot.waited <= fabric_accesses::wait_of(sl, t));
-            }
-            return false;
-        }
+    let granted = (slot.remaining == 0) | (slot.remaining < share);
+    if !granted {
+        return false;
+    }
+    if !slot.serving {
         return (slot.done == 0) & (slot.waited == 0);
     }
-    false
+    if !here {
+        return false;
+    }
+    let left = u64::from(slot.done) < fabric_accesses::accesses(ma, sl, t);
+    left & (slot.waited <= fabric_accesses::wait_of(sl, t))
 }
 
 // Whether no slot breaks a rule (rule 7.9). Each slot is read once.
@@ -115,9 +116,7 @@ fn sound_slots(
         (board_in board.now).slave_count }
 {
     let masters = description_layout::master_count(board);
-    let count = description_layout::slave_count(board);
-    let mut s: u32 = 0;
-    while s < count {
+    for s in 0..description_layout::slave_count(board) {
         let i = s as usize;
         let slot = fabric_layout::slot_at(st, i);
         if masters <= slot.owner {
@@ -133,12 +132,12 @@ fn sound_slots(
         if !sound_slot_by(slot, share, (late == 0) & (target == s), ma, sl, t) {
             return false;
         }
-        s += 1;
     }
     true
 }
 
 // Whether the state breaks no rule (rule 7.9); where it breaks none, the slave of each transfer is left in `targets`.
+#[tactic(auto, unfolding(fabric_state::specs::Soundness::sound, fabric_state::specs::Soundness::sound_log))]
 fn sound(
     board: &[u32; BOARD_NUMBERS],
     st: &[u32; STATE_NUMBERS],
@@ -148,17 +147,14 @@ fn sound(
     ensures { Answered (board_in board.now) (state_in st.now)
         (sound (board_in board.now) (state_in st.now)) result targets.new }
 {
-    if sound_transfers(board, st, targets) {
-        if sound_slots(board, st, targets) {
-            return fabric_layout::log_count(st) <= 8;
-        }
-        return false;
-    }
-    false
+    sound_transfers(board, st, targets)
+        && sound_slots(board, st, targets)
+        && fabric_layout::log_count(st) <= 8
 }
 
 // The masters that hold an unmapped transfer (rule 4.17): bit m for master m. Without the line `default` there is none in a state that
 // breaks no rule, and no master is looked at.
+#[tactic(auto, using(crate::proofs::UnmappedMask::unmapped_next, crate::proofs::UnmappedMask::unmapped_fits, crate::proofs::UnmappedMask::unmapped_all, crate::proofs::UnmappedMask::unmapped_none), unfolding(common_laws::specs::Lists::sum))]
 pub fn unmapped_mask(
     board: &[u32; BOARD_NUMBERS],
     st: &[u32; STATE_NUMBERS],
@@ -172,44 +168,25 @@ pub fn unmapped_mask(
     }
     let count = description_layout::slave_count(board);
     let mut mask: u32 = 0;
-    let mut m: u32 = 0;
-    while m < 8 {
+    for m in 0..8 {
         let t = fabric_layout::transfer_at(st, m as usize);
         let target = targets[m as usize];
         mask += transfers::weight_of(t.held & (target == count), m);
-        m += 1;
     }
     mask
 }
 
-// What a call finds of a board and a state before it acts: the board's refusal, or 0 (rule 8.5); where it is 0, whether the state
-// breaks no rule (rule 7.9). Where the board is refused, false.
-#[derive(Clone, Copy)]
-pub struct Checked {
-    pub number: u32,
-    pub sound: bool,
-}
-
-// The board and the state checked once a call: the board's refusal first (rules 8.4, 8.5), then the state (rule 7.9). Where
-// neither is refused, the slave of each master's transfer is left in `targets`: the array is the caller's, so that none is
+// The board and the state checked once a call: the board's refusal first (rules 8.4, 8.5), then whether the state breaks no rule (rule
+// 7.9). Where it breaks none, the slave of each master's transfer is left in `targets`: the array is the caller's, so that none is
 // copied.
+#[tactic(auto, using(crate::proofs::CheckLaws::board_refused))]
 pub fn ready(
     board: &[u32; BOARD_NUMBERS],
     st: &[u32; STATE_NUMBERS],
     targets: &mut [u32; MASTERS],
-) -> Checked
+) -> Result<bool, Refusal>
     ensures { Preconditions (board_in board.now) (state_in st.now) result targets.new }
 {
-    let number = description_check::board_refusal(board);
-    if number != 0 {
-        return Checked {
-            number: number,
-            sound: false,
-        };
-    }
-    let sound = sound(board, st, targets);
-    Checked {
-        number: 0,
-        sound: sound,
-    }
+    description_check::board_refusal(board)?;
+    Ok(sound(board, st, targets))
 }

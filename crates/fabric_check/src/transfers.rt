@@ -2,6 +2,7 @@
 // Tests are joined by & and |, not by && and ||: each part is safe by itself, and a proof meets the whole as one test.
 ghost use Rattle.std.specs.Prelude.{◌≡◌, true, cond, ◌^◌, ◌<◌, replicate};
 ghost use Rattle.common_laws.specs.Lists.{member, table};
+ghost use Rattle.common_numbers.specs.Refusals.{refusal_in};
 ghost use Rattle.description_board.specs.Rules.{widths};
 ghost use Rattle.description_board.specs.Items.{board_refusal};
 ghost use Rattle.fabric_transfer.specs.Decoding.{target_of};
@@ -10,9 +11,7 @@ ghost use Rattle.description_layout.specs.Layout.{board_in};
 ghost use Rattle.fabric_check.specs.Code.Targets.{request_mask};
 ghost use Rattle.fabric_check.specs.Code.Decoded.{Decodes};
 
-use common_numbers::{
-    BAD_ADDRESS, BAD_BEATS, BAD_LANES, BOARD_NUMBERS, MASTERS, NOT_CONNECTED, PAST_END, SLAVES,
-};
+use common_numbers::{BOARD_NUMBERS, MASTERS, Refusal, SLAVES};
 use description_board::{Master, Slave};
 use fabric_transfer::Transfer;
 
@@ -23,16 +22,12 @@ pub fn target_of(board: &[u32; BOARD_NUMBERS], m: usize, address: u32) -> u32
     ensures { result ≡ target_of (board_in board.now) m address }
 {
     let count = description_layout::slave_count(board);
-    let mut s: u32 = 0;
-    while s < count {
+    for s in 0..count {
         let i = s as usize;
         let sl = description_layout::slave_at(board, i);
-        if fabric_accesses::agrees(sl, address) {
-            if 0 < description_layout::shares_at(board, m, i) {
-                return s;
-            }
+        if fabric_accesses::agrees(sl, address) && 0 < description_layout::shares_at(board, m, i) {
+            return s;
         }
-        s += 1;
     }
     count
 }
@@ -42,35 +37,38 @@ pub fn weight_of(on: bool, m: u32) -> u32
     requires { m < 8 }
     ensures { result ≡ cond on (2 ^ m) 0 }
 {
-    if on { 1 << m } else { 0 }
+    u32::from(on) << m
 }
 
 // The requests for each slave (rule 4.3): bit m is 1 where the transfer of master m is for it. One pass over the masters adds
 // them all to an array of zeros; a target that is no slave adds 0, so that the pass has no branch.
+#[tactic(auto, using(crate::proofs::TargetLaws::masks_none, crate::proofs::TargetLaws::masks_next, crate::proofs::TargetLaws::masks_fit, crate::proofs::TargetLaws::masks_all))]
 pub fn request_masks(targets: &[u32; MASTERS], out: &mut [u32; SLAVES])
     requires { out.old ≡ replicate 16 0 }
     ensures { out.new ≡ table (request_mask targets.now) 16 }
 {
-    let mut m: u32 = 0;
-    while m < 8 {
+    for m in 0..8 {
         let target = targets[m as usize];
         let i = (target % 16) as usize;
-        let before = out[i];
-        out[i] = before + weight_of(target < 16, m);
-        m += 1;
+        out[i] += weight_of(target < 16, m);
     }
 }
 
-// What an unmapped transfer is refused for, or 0 (rules 3.7, 7.16).
-fn unmapped_number(default: bool) -> u32
-    ensures { result ≡ cond default 0 16 }
+// What an unmapped transfer is refused for (rules 3.7, 7.16).
+fn unmapped_refusal(default: bool) -> Result<(), Refusal>
+    ensures { refusal_in result ≡ cond default 0 16 }
 {
-    if default { 0 } else { NOT_CONNECTED }
+    if default {
+        Ok(())
+    } else {
+        Err(Refusal::NotConnected)
+    }
 }
 
-// What a transfer is refused for (rules 3.7, 7.13 to 7.17), or 0: of the master, the slave that it is for, that slave's number, or the
+// What a transfer is refused for (rules 3.7, 7.13 to 7.17): of the master, the slave that it is for, that slave's number, or the
 // count of slaves where it is for none, and whether the board has the line `default`. A width is a power of two, so that a mask leaves
 // what is over a multiple of it.
+#[tactic(auto, using(fabric_transfer::proofs::PowerLaws::over_width, fabric_transfer::proofs::AccessLaws::width_pos, fabric_transfer::proofs::AccessLaws::width_le, crate::proofs::RefusalLaws::bytes_most), unfolding(fabric_state::specs::Posting::transfer_refusal_by, fabric_state::specs::Posting::wrong_beats, fabric_state::specs::Posting::unaligned, fabric_state::specs::Posting::wrong_lanes, fabric_state::specs::Posting::unmapped, fabric_state::specs::Posting::passes_end))]
 pub fn transfer_refusal_by(
     ma: Master,
     sl: Slave,
@@ -78,34 +76,34 @@ pub fn transfer_refusal_by(
     target: u32,
     count: u32,
     default: bool,
-) -> u32
+) -> Result<(), Refusal>
     requires { member ma.width widths ≡ true }
-    ensures { result ≡ transfer_refusal_by ma sl t target count default }
+    ensures { refusal_in result ≡ transfer_refusal_by ma sl t target count default }
 {
     if (t.beats == 0) | (ma.burst < t.beats) {
-        return BAD_BEATS;
+        return Err(Refusal::BadBeats);
     }
     if t.address & (ma.width - 1) != 0 {
-        return BAD_ADDRESS;
+        return Err(Refusal::BadAddress);
     }
     if !fabric_lanes::post_lanes(ma.width, t.lanes, t.beats) {
-        return BAD_LANES;
+        return Err(Refusal::BadLanes);
     }
     if target == count {
-        return unmapped_number(default);
+        return unmapped_refusal(default);
     }
     // an end can pass the last address, so it is a u64
-    let bytes = t.beats as u64 * ma.width as u64;
-    if sl.base as u64 + (sl.span as u64) < t.address as u64 + bytes {
-        return PAST_END;
+    let bytes = u64::from(t.beats) * u64::from(ma.width);
+    if u64::from(sl.base) + u64::from(sl.span) < u64::from(t.address) + bytes {
+        return Err(Refusal::PastEnd);
     }
-    0
+    Ok(())
 }
 
-// What the transfer t of master m is refused for, or 0 (rules 7.13 to 7.17).
-pub fn transfer_refusal(board: &[u32; BOARD_NUMBERS], m: usize, t: Transfer) -> u32
+// What the transfer t of master m is refused for (rules 7.13 to 7.17).
+pub fn transfer_refusal(board: &[u32; BOARD_NUMBERS], m: usize, t: Transfer) -> Result<(), Refusal>
     requires { (board_refusal (board_in board.now) ≡ 0) × (m < (board_in board.now).master_count) }
-    ensures { result ≡ transfer_refusal (board_in board.now) m t }
+    ensures { refusal_in result ≡ transfer_refusal (board_in board.now) m t }
 {
     let at = target_of(board, m, t.address);
     // the number of slaves can be 16: what stands for no slave is looked up, and not used

@@ -48,10 +48,12 @@ module _ (st : State) (m n : ℕ) where
   unfolding counted_at
   counted_none e = rw (eq-eqb n 0 e)
 
-  pub counted_last : {u v : State} → n ≢ 0 → n ≡ 1 → u ≡ with_late st m 0 → v ≡ with_transfer u m no_transfer
+  pub counted_last : {u v : State} → n ≢ 0 → n ≡ 1 → u ≡ with_late st m (n - 1) → v ≡ with_transfer u m no_transfer
       → v ≡ counted_at st m n
   unfolding counted_at
-  counted_last h e f g = g ∙ rw (f, ne_eqb n 0 h, eq-eqb n 1 e)
+  counted_last h e f g =
+      let z : n - 1 ≡ 0 = omega (arith, e) in
+      g ∙ rw (f, z, ne_eqb n 0 h, eq-eqb n 1 e)
 
   pub counted_less : {u : State} → n ≢ 0 → n ≢ 1 → u ≡ with_late st m (n - 1) → u ≡ counted_at st m n
   unfolding counted_at

@@ -21,7 +21,7 @@ use Rattle.common_laws.proofs.TableLaws as masks
 use Rattle.common_laws.proofs.BitLaws.{bit_and_lem}
 use Rattle.common_laws.proofs.FillLaws.{sum_same, set_table, filled, filled_none, filled_next}
 use Rattle.common_laws.proofs.FrontLaws.{table_same}
-use Rattle.description_board.specs.declared.Slave.{Slave}
+use Rattle.description_board.specs.Records.{Slave}
 use Rattle.description_board.specs.declared.Board.{Board}
 use Rattle.description_board.specs.Records.{master_at, slave_at, shares_at, total_span, start_of, memory_length}
 use Rattle.description_board.specs.Legal.{Legal}

@@ -7,7 +7,7 @@ use Prim.Native.Nat.{ℕ, ◌^◌}
 use lib.ListN.{set}
 use lib.Dec.{eqb}
 use Rattle.description_board.specs.declared.Master.{Master}
-use Rattle.description_board.specs.declared.Slave.{Slave}
+use Rattle.description_board.specs.Records.{Slave}
 use Rattle.description_board.specs.declared.Board.{Board}
 use Rattle.description_board.specs.Records.{master_at, slave_at}
 use Rattle.fabric_transfer.specs.declared.Transfer.{Transfer}

@@ -31,6 +31,7 @@ pub struct Latent {
 }
 
 // One of its n latency clocks passes for master m (rule 4.16); with the last one its transfer ends.
+#[tactic(auto, using(crate::proofs::LatencyLaws::counted_none, crate::proofs::LatencyLaws::counted_last, crate::proofs::LatencyLaws::counted_less, fabric_layout::proofs::MarkLaws::marks_same, fabric_layout::proofs::MarkLaws::marks_then))]
 fn count_late(st: &mut [u32; STATE_NUMBERS], m: usize, n: u32)
     requires { m < 8 }
     ensures { Leaves st.old st.new (counted_at (state_in st.old) m n) }
@@ -38,23 +39,20 @@ fn count_late(st: &mut [u32; STATE_NUMBERS], m: usize, n: u32)
     if n == 0 {
         return;
     }
-    if n == 1 {
-        fabric_layout::put_late(st, m, 0);
-        fabric_layout::put_transfer(st, m, NO_TRANSFER);
-        return;
-    }
     fabric_layout::put_late(st, m, n - 1);
+    if n == 1 {
+        fabric_layout::put_transfer(st, m, NO_TRANSFER);
+    }
 }
 
 // The latency clocks that all masters together have to pass (rule 4.16).
+#[tactic(auto, using(crate::proofs::LatencyLaws::sum_more), unfolding(common_laws::specs::Lists::sum))]
 fn late_clocks(st: &[u32; STATE_NUMBERS]) -> u64
     ensures { result ≡ sum (late_at (state_in st.now)) 8 }
 {
     let mut total: u64 = 0;
-    let mut m: usize = 0;
-    while m < 8 {
-        total += fabric_layout::late_at(st, m) as u64;
-        m += 1;
+    for m in 0..8 {
+        total += u64::from(fabric_layout::late_at(st, m));
     }
     total
 }
@@ -71,21 +69,17 @@ fn pass_latency(st: &mut [u32; STATE_NUMBERS]) -> Latent
     }
     let mut free: u32 = 0;
     let mut finished: u32 = 0;
-    let mut m: u32 = 0;
-    while m < 8 {
+    for m in 0..8 {
         let late = fabric_layout::late_at(st, m as usize);
         count_late(st, m as usize, late);
         free += fabric_check::weight_of(late == 0, m);
         finished += fabric_check::weight_of(late == 1, m);
-        m += 1;
     }
-    Latent {
-        free: free,
-        finished: finished,
-    }
+    Latent { free, finished }
 }
 
 // Behind the last access of master m its transfer ends (rule 4.9), or its latency begins (rule 4.16).
+#[tactic(auto, using(fabric_layout::proofs::MarkLaws::marks_same), unfolding(crate::specs::Code::SlaveClocks::ended_transfer))]
 fn end_transfer(st: &mut [u32; STATE_NUMBERS], m: usize, last: bool, latency: u32)
     requires { m < 8 }
     ensures { Leaves st.old st.new (ended_transfer (state_in st.old) m last latency) }
@@ -93,14 +87,15 @@ fn end_transfer(st: &mut [u32; STATE_NUMBERS], m: usize, last: bool, latency: u3
     if last {
         if latency == 0 {
             fabric_layout::put_transfer(st, m, NO_TRANSFER);
-            return;
+        } else {
+            fabric_layout::put_late(st, m, latency);
         }
-        fabric_layout::put_late(st, m, latency);
     }
 }
 
 // Rules 2 and 3 (rules 4.8, 4.9) at slave s, which serves: `slot` is its slot after rule 1. Answers the bit of its owner, where
 // it is finished (rules 4.13, 4.16).
+#[tactic(auto, using(crate::proofs::SlaveClockLaws::serves_as))]
 fn serve_at(
     board: &[u32; BOARD_NUMBERS],
     st: &mut [u32; STATE_NUMBERS],
@@ -135,6 +130,7 @@ fn serve_at(
 
 // Slave s in one clock (rules 4.3 to 4.9); its span starts at `start`. Answers the bit of the master that it finishes. A slave
 // that does not serve shows nothing (rule 4.13).
+#[tactic(auto, using(crate::proofs::SlaveClockLaws::serving_as, crate::proofs::SlaveClockLaws::stepped_as))]
 fn clock_slave(
     board: &[u32; BOARD_NUMBERS],
     st: &mut [u32; STATE_NUMBERS],
@@ -183,12 +179,9 @@ fn act(
         (record { memory = memory.new; buffer = buffer.new }) × Marks st.old st.new }
 {
     let count = description_layout::slave_count(board) as usize;
-    let latent = pass_latency(st);
-    let free = latent.free;
-    let mut finished: u32 = latent.finished;
+    let Latent { free, mut finished } = pass_latency(st);
     let mut start: usize = 0;
-    let mut s: usize = 0;
-    while s < count {
+    for s in 0..count {
         finished += clock_slave(
             board,
             st,
@@ -201,13 +194,13 @@ fn act(
         );
         let sl = description_layout::slave_at(board, s);
         start += sl.span as usize;
-        s += 1;
     }
     fabric_layout::first_lines(lines, count);
     finished
 }
 
 // The words of the unmapped transfer t of master m become 0 where it is a read (rule 4.17).
+#[tactic(auto, using(crate::proofs::UnmappedLaws::clear_write, crate::proofs::UnmappedLaws::words_fit))]
 fn clear_read(board: &[u32; BOARD_NUMBERS], m: usize, t: Transfer, buffer: &mut [u8])
     requires { (m < 8) × (length buffer.old ≡ buffer_length) × (t.beats * (master_at (board_in board.now) m).width ≤ 512) }
     ensures { buffer.new ≡ cleared_behind (board_in board.now) m t buffer.old }
@@ -221,6 +214,7 @@ fn clear_read(board: &[u32; BOARD_NUMBERS], m: usize, t: Transfer, buffer: &mut 
 }
 
 // The unmapped transfer of master m (rules 4.17, 4.18): the words of a read become 0, the transfer enters the log and ends.
+#[tactic(auto, using(fabric_layout::proofs::MarkLaws::marks_then, crate::proofs::UnmappedLaws::answer_held, crate::proofs::UnmappedLaws::answer_cleared, crate::proofs::UnmappedLaws::held_fits))]
 fn answer_at(
     board: &[u32; BOARD_NUMBERS],
     st: &mut [u32; STATE_NUMBERS],
@@ -255,12 +249,10 @@ fn answer_unmapped(
     ensures { Answered (board_in board.now) (state_in st.old) (state_in st.new) mask 8
         buffer.old buffer.new × Marks st.old st.new }
 {
-    let mut m: usize = 0;
-    while m < 8 {
+    for m in 0..8 {
         if (mask >> m) % 2 == 1 {
             answer_at(board, st, m, buffer);
         }
-        m += 1;
     }
 }
 

@@ -1,24 +1,18 @@
--- `fabric::reset` meets its contract.
+-- `fabric::reset` meets its contract: refused, or an accepted board, which has a master.
 -- Assumes nothing.
-use mathlib.Core.Path.{◌≡◌, sym, ◌∙◌}
+use mathlib.Core.Path.{sym}
 use native.Mathlib.Omega.{arith}
-use Rattle.description_board.specs.Items.{board_refusal}
+use Rattle.std.proofs.lemmas.Result.{err_from_is_err_and}
+use Rattle.common_numbers.proofs.RefusalLaws.{refusal_not_zero}
 use Rattle.description_board.proofs.Accepted.{accepted_legal}
-use Rattle.description_layout.specs.Layout.{board_in}
-use Rattle.fabric_calls.proofs.ResetLaws.{reset_taken, reset_refused}
-use Rattle.fabric.proofs.reset.Goals.{Else-number-ne0}
+use Rattle.fabric_calls.proofs.ResetLaws.{reset_refused}
 use Rattle.fabric.proofs.reset.Goals as goal
 
-pub returns-then-number-ne0 : goal.returns-then-number-ne0
-returns-then-number-ne0 c = reset_refused _ _ c.board_refusal-number.ensures c.if-number-ne0.true
-
-accepted : (c : Else-number-ne0) → board_refusal (board_in c.args.board.now) ≡ 0
-accepted c = sym c.board_refusal-number.ensures ∙ c.if-number-ne0.false
+pub returns-in_err-board_refusal : goal.returns-in_err-board_refusal
+returns-in_err-board_refusal c =
+    let p = err_from_is_err_and c.from_residual.result c.from_residual.ensures.1 in
+    rw (p.1, p.2) (reset_refused _ _ c.in_err-board_refusal.ensures (refusal_not_zero _))
 
 pub overflow_sub-owner : goal.overflow_sub-owner
 overflow_sub-owner c =
-    omega (arith, c.master_count-owner.ensures, (accepted_legal _ (accepted (goal.at.overflow_sub-owner c).Else-number-ne0)).some_master)
-
-pub returns : goal.returns
-returns c =
-    reset_taken _ _ _ (accepted (goal.at.returns c).Else-number-ne0) c.master_count-owner.ensures c.slave_count-count.ensures c.reset_state.ensures
+    omega (arith, c.master_count-owner.ensures, (accepted_legal _ (sym c.in_ok-board_refusal.ensures)).some_master)

@@ -22,14 +22,14 @@ abbrev state : Start → State
 state c = state_in c.args.st.now
 
 -- the slave of a turn is one of the board, and one of 16
-slave_in : (c : In-loop-s) → c.loop-s.s < (board c.before.before.before.before).slave_count
-slave_in c = omega (arith, c.loop-s-test.true, c.slave_count-count.ensures)
+slave_in : (c : In-loop-s) → c.loop-s.s < (board_in c.args.board.now).slave_count
+slave_in c = omega (arith, c.loop-s-test.true, c.slave_count-s-end.ensures)
 
 place_in : (c : In-loop-s) → c.loop-s.s < 16
 place_in c = omega (arith, slave_in c, (accepted_legal _ c.requires.board).few_slaves)
 
 owner_in : (c : After-struct_known-in-loop-s-1)
-    → c.slot_at-slot.result.owner < (board c.before.before.before.before.before.before.before.before).master_count
+    → c.slot_at-slot.result.owner < (board_in c.args.board.now).master_count
 owner_in c = omega (arith, c.if-masters-slot.false, c.master_count-masters.ensures)
 
 owner_known : (c : After-struct_known-in-loop-s-1) → c.slot_at-slot.result.owner < 8
@@ -41,12 +41,12 @@ tested c =
     c.sound_slot_by.ensures
     ∙ slot_parts (board_in c.args.board.now) (state_in c.args.st.now) _ c.slot_at-slot.ensures
     c.master_count-masters.ensures c.args.targets.now c.requires (transfers_length _)
-    (slave_in c.before.before.before.before.before.before.before.before.before.before.before.before.before) c.if-masters-slot.false c.shares_at-share.ensures c.master_at-ma.ensures
+    (omega (arith, c.loop-s-test.true, c.slave_count-s-end.ensures)) c.if-masters-slot.false c.shares_at-share.ensures c.master_at-ma.ensures
     c.slave_at-sl.ensures c.transfer_at-t.ensures c.late_at-late.ensures
 
 pub loop-s-init : goal.loop-s-init
 unfolding every
-loop-s-init c = (omega arith, refl)
+loop-s-init c = refl
 
 pub slot_at-slot-requires : goal.slot_at-slot-requires
 slot_at-slot-requires c = place_in c
@@ -89,21 +89,13 @@ pub returns-then-not-sound_slot_by : goal.returns-then-not-sound_slot_by
 returns-then-not-sound_slot_by c =
     sym (every_not _ _ _ (slave_in (goal.at.returns-then-not-sound_slot_by c).In-loop-s) (sym (tested (goal.at.returns-then-not-sound_slot_by c).After-sound_slot_by) ∙ c.if-not-sound_slot_by.true))
 
-pub overflow_add-s : goal.overflow_add-s
-overflow_add-s c = omega (arith, place_in (goal.at.overflow_add-s c).In-loop-s)
-
-pub loop-s-smaller : goal.loop-s-smaller
-loop-s-smaller c = omega (arith, slave_in (goal.at.loop-s-smaller c).In-loop-s)
-
 pub loop-s-preserved : goal.loop-s-preserved
-loop-s-preserved c = (
-  omega (arith, slave_in (goal.at.loop-s-preserved c).In-loop-s),
-  every_next _ _ c.loop-s.invariant.1 (sym (tested (goal.at.loop-s-preserved c).After-sound_slot_by) ∙ c.if-not-sound_slot_by.false),
-)
+loop-s-preserved c =
+    every_next _ _ c.loop-s.invariant (sym (tested (goal.at.loop-s-preserved c).After-sound_slot_by) ∙ c.if-not-sound_slot_by.false)
 
 pub returns : goal.returns
 returns c =
-    let n = c.slave_count-count.ensures in
+    let n = c.slave_count-s-end.ensures in
     let b = board (goal.at.returns c).Start in
-    let e : c.loop-s.s ≡ b.slave_count = omega (arith, n, c.loop-s-test.false) in
-    sym (rw e at c.loop-s.invariant.1)
+    let e : c.loop-s.s ≡ b.slave_count = omega (arith, n, c.loop-s-test.false, c.loop-s.auto.s-end) in
+    sym (rw e at c.loop-s.invariant)

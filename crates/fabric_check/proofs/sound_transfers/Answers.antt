@@ -22,7 +22,7 @@ tested c =
 
 pub loop-m-init : goal.loop-m-init
 unfolding every
-loop-m-init c = (omega arith, refl, filled_none _ _ 8 0 _ (search rules) (λ k h. refl))
+loop-m-init c = (refl, filled_none _ _ 8 0 _ (search rules) (λ k h. refl))
 
 pub returns-then-not-held_at : goal.returns-then-not-held_at
 returns-then-not-held_at c =
@@ -37,15 +37,14 @@ loop-m-preserved c =
     let passed : c.held_at.result ≡ true = c.if-not-held_at.false in
     let st = state_in c.args.st.now in
     let read = c.transfer_at-t.ensures in (
-      omega arith,
-      every_next _ _ l.invariant.1 (sym (tested (goal.at.loop-m-preserved c).After-held_at) ∙ passed),
-      targets_next _ st _ read _ c.held_at.ensures passed l.invariant.2,
+      every_next _ _ l.invariant.0 (sym (tested (goal.at.loop-m-preserved c).After-held_at) ∙ passed),
+      targets_next _ st _ read _ c.held_at.ensures passed l.invariant.1,
     )
 
 pub returns : goal.returns
 returns c =
     let l = c.loop-m in
     let e : l.m ≡ 8 = omega arith in record {
-      sound = sym (rw e at l.invariant.1);
-      targets = λ q. targets_all _ _ _ _ (omega arith) l.invariant.2;
+      sound = sym (rw e at l.invariant.0);
+      targets = λ q. targets_all _ _ _ _ (omega arith) l.invariant.1;
     }

@@ -3,7 +3,6 @@
 -- Assumes nothing.
 use mathlib.Core.Bool.{true}
 use mathlib.Core.Path.{◌≡◌}
-use Prim.Native.Nat.{◌≤◌, ◌-◌}
 use lib.ListN.{get_or}
 use Rattle.common_laws.specs.Lists.{every}
 use Rattle.common_laws.proofs.FillLaws.{filled}
@@ -16,10 +15,5 @@ use Rattle.fabric_check.proofs.sound_transfers.Given as goal
 abbrev pub invariant-loop-m : goal.invariant-loop-m
 invariant-loop-m l =
     let b = board_in l.board in
-    (l.m ≤ 8)
-    × (every (sound_transfer b (state_in l.st)) l.m ≡ true)
+    (every (sound_transfer b (state_in l.st)) l.m ≡ true)
     × (l.targets ≡ filled (target_in b (state_in l.st).transfers) (λ k. get_or l.initial.targets k 0) 8 l.m)
-
-abbrev pub decreases-loop-m : goal.decreases-loop-m
-decreases-loop-m l =
-    8 - l.m

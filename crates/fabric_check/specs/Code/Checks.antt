@@ -1,15 +1,16 @@
 -- Gives the code of fabric_check its shape: what the check of a state answers, by its parts (rule 7.9).
 -- The parts: a transfer, all of them, the state, the board and the state.
 -- Assumes nothing.
-use Rattle.std.specs.Prelude.{◌≡◌, Bool, true, cond, List, ℕ, set}
+use Rattle.std.specs.Prelude.{◌≡◌, Bool, true, false, cond, List, ℕ, set, Result}
+use Rattle.common_numbers.specs.declared.Refusal.{Refusal}
+use Rattle.common_numbers.specs.Refusals.{refusal_in, answer_or}
 use Rattle.common_laws.specs.Lists.{every}
-use Rattle.description_board.specs.declared.Slave.{Slave}
+use Rattle.description_board.specs.Records.{Slave}
 use Rattle.description_board.specs.declared.Board.{Board}
 use Rattle.description_board.specs.Items.{board_refusal}
 use Rattle.fabric_transfer.specs.declared.Transfer.{Transfer}
 use Rattle.fabric_transfer.specs.Accesses.{latency_of}
 use Rattle.fabric_state.specs.declared.State.{State}
-use Rattle.fabric_check.specs.declared.Checked.{Checked}
 use Rattle.fabric_state.specs.Posting.{unmapped}
 use Rattle.fabric_state.specs.Soundness as soundness
 use Rattle.fabric_check.specs.Code.Targets.{held_target, targets_in}
@@ -36,7 +37,7 @@ pub record Decoded (b : Board) (st : State) (ts : List ℕ) : Type 0 where
 
 -- what is checked of a board and a state before a call acts: the board's refusal; of an accepted board, whether the state
 -- breaks no rule; of a state that breaks none, which slave each held transfer is for
-pub record Preconditions (b : Board) (st : State) (r : Checked) (ts : List ℕ) : Type 0 where
-  pub number : r.number ≡ board_refusal b
-  pub sound : board_refusal b ≡ 0 → r.sound ≡ soundness.sound b st
+pub record Preconditions (b : Board) (st : State) (r : Result Bool Refusal) (ts : List ℕ) : Type 0 where
+  pub number : refusal_in r ≡ board_refusal b
+  pub sound : board_refusal b ≡ 0 → answer_or false r ≡ soundness.sound b st
   pub targets : board_refusal b ≡ 0 → soundness.sound b st ≡ true → ts ≡ targets_in b st.transfers

@@ -1,7 +1,6 @@
 -- `fabric_cycle::act` meets its contract: the latency clocks, the pass over the slaves, then the lines of no slave. The loop's
 -- invariant is said of every state that can have stood before the latency clocks passed.
 -- Assumes nothing.
-use Prim.Native.Nat.{◌-◌}
 use Rattle.fabric_state.specs.declared.State.{State}
 use Rattle.description_layout.specs.Layout.{board_in}
 use Rattle.fabric_layout.specs.Layout.{state_in, lines_in}
@@ -15,7 +14,3 @@ invariant-loop-s l =
     → Pass (board_in l.board) u (state_in l.st) l.s l.start (lines_in l.initial.lines) (lines_in l.lines) l.finished
     (record { memory = l.initial.memory; buffer = l.initial.buffer }) (record { memory = l.memory; buffer = l.buffer }))
     × Marks l.initial.st l.st
-
-abbrev pub decreases-loop-s : goal.decreases-loop-s
-decreases-loop-s l =
-    (board_in l.board).slave_count - l.s

@@ -19,40 +19,39 @@ unfolding bit
 on c = eq-eqb _ 1 c.if-mask-m-eq1.true
 
 pub loop-m-init : goal.loop-m-init
-loop-m-init c = (omega arith, answered_begin _ _ _ (transfers_length _) _, marks_same _)
+loop-m-init c = (answered_begin _ _ _ (transfers_length _) _, marks_same _)
 
 pub answer_at-requires : goal.answer_at-requires
 answer_at-requires c = (
   c.loop-m-test.true,
-  answer_count _ _ _ c.loop-m.invariant.1 c.loop-m-test.true c.requires.count,
-  answer_room _ _ _ c.loop-m.invariant.1 c.loop-m-test.true c.requires.room,
-  answer_fits _ _ _ c.loop-m.invariant.1 c.loop-m-test.true
+  answer_count _ _ _ c.loop-m.invariant.0 c.loop-m-test.true c.requires.count,
+  answer_room _ _ _ c.loop-m.invariant.0 c.loop-m-test.true c.requires.room,
+  answer_fits _ _ _ c.loop-m.invariant.0 c.loop-m-test.true
       (c.requires.fits _ c.loop-m-test.true (on (goal.at.answer_at-requires c).Then-mask-m-eq1)),
 )
 
 pub loop-m-preserved : goal.loop-m-preserved
 unfolding bit
 loop-m-preserved c = (
-  omega (arith, c.loop-m-test.true),
   elim c.if-mask-m-eq1.branch [
     | then-mask-m-eq1 w ↦
-        answered_next _ _ _ c.loop-m.invariant.1 c.loop-m-test.true (eq-eqb _ 1 w.if-mask-m-eq1.true)
+        answered_next _ _ _ c.loop-m.invariant.0 c.loop-m-test.true (eq-eqb _ 1 w.if-mask-m-eq1.true)
         (ap state_in w.st-is ∙ w.answer_at.ensures.0.state) (w.buffer-is ∙ w.answer_at.ensures.1)
     | else-mask-m-eq1 w ↦
         rw (w.st-is, w.buffer-is)
-        (answered_skip _ _ _ c.loop-m.invariant.1 c.loop-m-test.true (ne_eqb _ 1 w.if-mask-m-eq1.false))
+        (answered_skip _ _ _ c.loop-m.invariant.0 c.loop-m-test.true (ne_eqb _ 1 w.if-mask-m-eq1.false))
   ],
   elim c.if-mask-m-eq1.branch [
-    | then-mask-m-eq1 w ↦ rw w.st-is (marks_then c.loop-m.invariant.2 w.answer_at.ensures.0.marks)
-    | else-mask-m-eq1 w ↦ rw w.st-is c.loop-m.invariant.2
+    | then-mask-m-eq1 w ↦ rw w.st-is (marks_then c.loop-m.invariant.1 w.answer_at.ensures.0.marks)
+    | else-mask-m-eq1 w ↦ rw w.st-is c.loop-m.invariant.1
   ],
 )
 
 pub shape_of-buffer : goal.shape_of-buffer
-shape_of-buffer c = answered_length _ _ _ c.loop-m.invariant.1
+shape_of-buffer c = answered_length _ _ _ c.loop-m.invariant.0
 
 pub returns : goal.returns
 returns c =
     let i = c.loop-m.invariant in
-    let e : c.loop-m.m ≡ 8 = omega (arith, c.loop-m-test.false, i.0) in
-    (rw e at i.1, i.2)
+    let e : c.loop-m.m ≡ 8 = omega (arith, c.loop-m-test.false, c.loop-m.auto.m-end) in
+    (rw e at i.0, i.1)

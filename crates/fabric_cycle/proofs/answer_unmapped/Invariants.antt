@@ -1,6 +1,5 @@
 -- `fabric_cycle::answer_unmapped` meets its contract. The loop's invariant: the unmapped transfers of the first m masters are answered.
 -- Assumes nothing.
-use Prim.Native.Nat.{◌≤◌, ◌-◌}
 use Rattle.description_layout.specs.Layout.{board_in}
 use Rattle.fabric_layout.specs.Layout.{state_in}
 use Rattle.fabric_layout.specs.Numbers.{Marks}
@@ -9,8 +8,4 @@ use Rattle.fabric_cycle.proofs.answer_unmapped.Given as goal
 
 abbrev pub invariant-loop-m : goal.invariant-loop-m
 invariant-loop-m l =
-    (l.m ≤ 8) × Answered (board_in l.board) (state_in l.initial.st) (state_in l.st) l.mask l.m l.initial.buffer l.buffer × Marks l.initial.st l.st
-
-abbrev pub decreases-loop-m : goal.decreases-loop-m
-decreases-loop-m l =
-    8 - l.m
+    Answered (board_in l.board) (state_in l.initial.st) (state_in l.st) l.mask l.m l.initial.buffer l.buffer × Marks l.initial.st l.st

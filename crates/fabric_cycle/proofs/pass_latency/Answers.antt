@@ -19,13 +19,13 @@ returns-then-late_clocks-eq0 c = (
 )
 
 pub loop-m-init : goal.loop-m-init
-loop-m-init c = (omega arith, counted_begin _ (transfers_length _) (lates_length _), marks_same _)
+loop-m-init c = (counted_begin _ (transfers_length _) (lates_length _), marks_same _)
 
 pub overflow_add-free : goal.overflow_add-free
 overflow_add-free c =
     omega (
       arith,
-      free_fits _ c.loop-m.invariant.1 (master_in (goal.at.overflow_add-free c).In-loop-m) c.late_at-late.ensures
+      free_fits _ c.loop-m.invariant.0 (master_in (goal.at.overflow_add-free c).In-loop-m) c.late_at-late.ensures
           c.weight_of-free.ensures refl,
     )
 
@@ -33,20 +33,19 @@ pub overflow_add-finished : goal.overflow_add-finished
 overflow_add-finished c =
     omega (
       arith,
-      finished_fits _ c.loop-m.invariant.1 (master_in (goal.at.overflow_add-finished c).In-loop-m) c.late_at-late.ensures
+      finished_fits _ c.loop-m.invariant.0 (master_in (goal.at.overflow_add-finished c).In-loop-m) c.late_at-late.ensures
           refl c.weight_of-finished.ensures,
     )
 
 pub loop-m-preserved : goal.loop-m-preserved
 loop-m-preserved c = (
-  omega (arith, c.loop-m-test.true),
-  counted_next _ c.loop-m.invariant.1 (master_in (goal.at.loop-m-preserved c).In-loop-m) c.late_at-late.ensures
+  counted_next _ c.loop-m.invariant.0 (master_in (goal.at.loop-m-preserved c).In-loop-m) c.late_at-late.ensures
       c.weight_of-free.ensures c.weight_of-finished.ensures c.count_late.ensures.state,
-  marks_then c.loop-m.invariant.2 c.count_late.ensures.marks,
+  marks_then c.loop-m.invariant.1 c.count_late.ensures.marks,
 )
 
 pub returns : goal.returns
 returns c =
     let i = c.loop-m.invariant in
-    let e : c.loop-m.m ≡ 8 = omega (arith, c.loop-m-test.false, i.0) in
-    (rw e at i.1, i.2)
+    let e : c.loop-m.m ≡ 8 = omega (arith, c.loop-m-test.false, c.loop-m.auto.m-end) in
+    (rw e at i.0, i.1)

@@ -1,7 +1,6 @@
 -- `fabric_check::transfers::target_of` meets its contract.
 -- The loop's invariant: the target is the first slave selected from s on.
 -- Assumes nothing.
-use mathlib.Core.Bool.{false}
 use mathlib.Core.Path.{◌≡◌, sym, ◌∙◌}
 use Prim.Native.Nat.{◌<◌}
 use native.Mathlib.Omega.{arith}
@@ -10,9 +9,9 @@ use Rattle.common_laws.specs.Lists.{first}
 use Rattle.common_laws.proofs.TableLaws.{first_here, first_later, first_none}
 use Rattle.description_board.specs.declared.Board.{Board}
 use Rattle.description_layout.specs.Layout.{board_in}
-use Rattle.fabric_transfer.specs.Decoding.{selects, target_of}
+use Rattle.fabric_transfer.specs.Decoding.{target_of}
 use Rattle.fabric_check.proofs.TargetLaws.{selects_here, selects_elsewhere, selects_unconnected}
-use Rattle.fabric_check.proofs.transfers.target_of.Goals.{In-loop-s, Joined-agrees, Start, then-agrees+else-shares_at-gt0, else-agrees}
+use Rattle.fabric_check.proofs.transfers.target_of.Goals.{In-loop-s, Start, else-agrees-via-then-agrees+else-shares_at-gt0, else-agrees-via-else-agrees}
 use Rattle.fabric_check.proofs.transfers.target_of.Goals as goal
 
 abbrev board : Start → Board
@@ -27,7 +26,7 @@ place_in c = omega (arith, slave_in c, c.requires.0.few)
 
 pub loop-s-init : goal.loop-s-init
 unfolding target_of first
-loop-s-init c = (omega arith, rw sub-zero)
+loop-s-init c = rw sub-zero
 
 pub slave_at-sl-requires : goal.slave_at-sl-requires
 slave_at-sl-requires c = place_in c
@@ -45,29 +44,21 @@ returns-then-shares_at-gt0 c =
     let here =
     selects_here _ _ _ _ in-turn c.slave_at-sl.ensures c.agrees.ensures
     c.shares_at.ensures c.if-agrees.true c.if-shares_at-gt0.true in
-    sym (c.loop-s.invariant.1 ∙ first_here _ _ _ in-turn here)
+    sym (c.loop-s.invariant ∙ first_here _ _ _ in-turn here)
 
 -- the slave of a turn that goes on is not selected
-passed : (c : Joined-agrees) → selects (board c.before.before.before.before.before.before) c.args.m c.args.address c.loop-s.s ≡ false
-passed c =
-    elim c.if-agrees.branch [
-      | then-agrees+else-shares_at-gt0 w ↦ selects_unconnected _ _ _ _ w.shares_at.ensures w.if-shares_at-gt0.false
-      | else-agrees w ↦ selects_elsewhere _ _ _ _ c.slave_at-sl.ensures c.agrees.ensures w.if-agrees.false
-    ]
-
-pub overflow_add-s : goal.overflow_add-s
-overflow_add-s c = omega (arith, place_in (goal.at.overflow_add-s c).In-loop-s)
-
-pub loop-s-smaller : goal.loop-s-smaller
-loop-s-smaller c = omega (arith, slave_in (goal.at.loop-s-smaller c).In-loop-s)
-
 pub loop-s-preserved : goal.loop-s-preserved
 loop-s-preserved c =
-    (omega (arith, slave_in (goal.at.loop-s-preserved c).In-loop-s), c.loop-s.invariant.1 ∙ first_later _ _ _ (slave_in (goal.at.loop-s-preserved c).In-loop-s) (passed c))
+    c.loop-s.invariant
+    ∙ first_later _ _ _ (slave_in (goal.at.loop-s-preserved c).In-loop-s)
+    (elim c.else-agrees.branch [
+      | else-agrees-via-then-agrees+else-shares_at-gt0 w ↦ selects_unconnected _ _ _ _ w.shares_at.ensures w.if-shares_at-gt0.false
+      | else-agrees-via-else-agrees w ↦ selects_elsewhere _ _ _ _ c.slave_at-sl.ensures c.agrees.ensures w.if-agrees.false
+    ])
 
 pub returns : goal.returns
 returns c =
     let l = c.loop-s in
     let n = c.slave_count-count.ensures in
-    let e : l.s ≡ (board (goal.at.returns c).Start).slave_count = omega (arith, n, c.loop-s-test.false) in
-    n ∙ sym e ∙ sym (l.invariant.1 ∙ first_none _ _ _ (omega (arith, e)))
+    let e : l.s ≡ (board (goal.at.returns c).Start).slave_count = omega (arith, n, c.loop-s-test.false, l.auto.s-end) in
+    n ∙ sym e ∙ sym (l.invariant ∙ first_none _ _ _ (omega (arith, e)))

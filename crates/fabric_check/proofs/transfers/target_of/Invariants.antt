@@ -2,7 +2,7 @@
 -- The loop's invariant: the target is the first slave selected from s on.
 -- Assumes nothing.
 use mathlib.Core.Path.{◌≡◌}
-use Prim.Native.Nat.{◌≤◌, ◌-◌}
+use Prim.Native.Nat.{◌-◌}
 use Rattle.common_laws.specs.Lists.{first_from}
 use Rattle.description_layout.specs.Layout.{board_in}
 use Rattle.fabric_transfer.specs.Decoding.{selects, target_of}
@@ -11,8 +11,4 @@ use Rattle.fabric_check.proofs.transfers.target_of.Given as goal
 abbrev pub invariant-loop-s : goal.invariant-loop-s
 invariant-loop-s l =
     let b = board_in l.board in
-    (l.s ≤ b.slave_count) × (target_of b l.m l.address ≡ first_from (selects b l.m l.address) l.s (b.slave_count - l.s))
-
-abbrev pub decreases-loop-s : goal.decreases-loop-s
-decreases-loop-s l =
-    (board_in l.board).slave_count - l.s
+    target_of b l.m l.address ≡ first_from (selects b l.m l.address) l.s (b.slave_count - l.s)
