@@ -24,7 +24,7 @@ fn slave_for(count: u32, m: u32, index: u32) -> usize
     if count == 0 {
         return 0;
     }
-    ((m as u64 + index as u64) % count as u64 % 16) as usize
+    ((u64::from(m) + u64::from(index)) % u64::from(count) % 16) as usize
 }
 
 // A transfer to post: all but its master, its one beat, and its words, which are zeros.
@@ -40,15 +40,12 @@ pub struct Next {
 fn next_transfer(ma: Master, sl: Slave, index: u32) -> Next
     ensures { result.length < 9 }
 {
-    let mut length = 0;
-    if index % 2 == 1 {
-        length = (ma.width % 9) as usize;
-    }
+    let write = index % 2 == 1;
     Next {
-        write: index % 2 == 1,
+        write,
         address: sl.base,
         lanes: all_lanes(ma.width),
-        length: length,
+        length: if write { (ma.width % 9) as usize } else { 0 },
     }
 }
 
@@ -68,7 +65,7 @@ fn post_next(
     let ma = description_layout::master_at(board, m as usize);
     let next = next_transfer(ma, sl, index);
     let n = next.length;
-    fabric::post(
+    let _ = fabric::post(
         board,
         state,
         buffer,
@@ -81,21 +78,20 @@ fn post_next(
     );
 }
 
-// Posts the next transfer of master m where it is idle.
+// Posts the next transfer of each master that is idle: bit m of `idle` is master m's.
 fn post_idle(
     board: &[u32; BOARD_NUMBERS],
     state: &mut [u32; STATE_NUMBERS],
     buffer: &mut [u8],
     posted: &mut [u32; MASTERS],
-    m: u32,
     idle: u32,
-)
-    requires { m < 8 }
-{
-    if (idle >> m) % 2 == 1 {
-        let index = posted[m as usize];
-        post_next(board, state, buffer, m, index);
-        posted[m as usize] = std::num::wrapping_add_u32(index, 1);
+) {
+    for m in 0..description_layout::master_count(board).min(8) {
+        if (idle >> m) % 2 == 1 {
+            let index = posted[m as usize];
+            post_next(board, state, buffer, m, index);
+            posted[m as usize] = index.wrapping_add(1);
+        }
     }
 }
 
@@ -105,32 +101,18 @@ fn clock_all(
     state: &mut [u32; STATE_NUMBERS],
     memory: &mut [u8],
     buffer: &mut [u8],
-    mut clocks: u32,
+    clocks: u32,
 ) -> u32 {
     let mut lines = [0u32; LINES_NUMBERS];
     let mut responses = [0u32; MASTERS];
     let mut posted = [0u32; MASTERS];
     let mut idle: u32 = 255;
     let mut sum: u32 = 0;
-    let mut m: u32 = 0;
-    while 0 < clocks {
-        if m < description_layout::master_count(board) % 9 {
-            post_idle(board, &mut *state, &mut *buffer, &mut posted, m, idle);
-            m += 1;
-        } else {
-            let answer = fabric::clock(
-                board,
-                &mut *state,
-                &mut *memory,
-                &mut *buffer,
-                &mut lines,
-                &mut responses,
-            );
-            idle = answer.mask;
-            sum = std::num::wrapping_add_u32(sum, idle);
-            clocks -= 1;
-            m = 0;
-        }
+    for _ in 0..clocks {
+        post_idle(board, state, buffer, &mut posted, idle);
+        let answer = fabric::clock(board, state, memory, buffer, &mut lines, &mut responses);
+        idle = answer.unwrap_or(0);
+        sum = sum.wrapping_add(idle);
     }
     sum
 }
@@ -145,13 +127,13 @@ pub extern "C" fn bench_clocks(
 ) -> u32 {
     let mut board = [0u32; BOARD_NUMBERS];
     let mut state = [0u32; STATE_NUMBERS];
-    description::read(text, &mut board);
-    fabric::reset(&board, &mut state);
+    let _ = description::read(text, &mut board);
+    let _ = fabric::reset(&board, &mut state);
     clock_all(&board, &mut state, memory, buffer, clocks)
 }
 
 // The table of a text, as `print_table` makes it; the answer is its length.
 #[unsafe(no_mangle)]
 pub extern "C" fn bench_table(text: &[u8], out: &mut [u8]) -> usize {
-    wait_table::print_table(text, out).length
+    wait_table::print_table(text, out).unwrap_or(0)
 }

@@ -5,11 +5,14 @@
 ghost use Rattle.std.specs.Prelude.{◌≡◌, ◌≤◌, get_or, length};
 ghost use Rattle.description_layout.specs.Layout.{board_in, marked};
 ghost use Rattle.description.specs.Lent.{Read};
-ghost use Rattle.description.specs.Blame.{refused_at};
+ghost use Rattle.description.specs.Blame.{refused_at, line_part, master_part};
 ghost use Rattle.wait.specs.Answers.{wait_refusal, wait_output};
 ghost use Rattle.fabric_calls.specs.Lent.{Resets, Posts, Clocks, Runs, Takes};
 
 use common_numbers::{BOARD_NUMBERS, ENTRY_NUMBERS, LINES_NUMBERS, MASTERS, STATE_NUMBERS};
+use description::Charged;
+use fabric::Ran;
+use fabric_state::NO_ENTRY;
 
 // Wait and serve of a pair, on a description's bytes (rule 5.8): wait::wait_call.
 #[unsafe(no_mangle)]
@@ -17,7 +20,7 @@ pub extern "C" fn fabric_wait(text: &[u8], master: u32, slave: u32, out: &mut [u
     ensures answer { result ≡ wait_refusal text.now master slave out.old }
     ensures output { out.new ≡ wait_output text.now master slave out.old }
 {
-    wait::wait_call(text, master, slave, out)
+    common_numbers::number_in(wait::wait_call(text, master, slave, out))
 }
 
 // The board that a text describes (rules 1.10, 8.2).
@@ -25,14 +28,27 @@ pub extern "C" fn fabric_wait(text: &[u8], master: u32, slave: u32, out: &mut [u
 pub extern "C" fn fabric_read(text: &[u8], board: &mut [u32; BOARD_NUMBERS]) -> u32
     ensures { Read text.now board.old board.new result }
 {
-    description::read(text, board)
+    common_numbers::number_in(description::read(text, board))
 }
 
-// The count of numbers lent. As description_layout::count: a call of it tells a proof an array's length, and costs nothing.
-fn count(l: &[usize]) -> usize
-    ensures { result ≡ length l.now }
+// The line that is charged, from 1, or 0.
+fn line_part(charged: Charged) -> usize
+    ensures { result ≡ line_part charged }
 {
-    l.len()
+    match charged {
+        Charged::Line(n) => n,
+        _ => 0,
+    }
+}
+
+// The master that is named, or 0.
+fn master_part(charged: Charged) -> u32
+    ensures { result ≡ master_part charged }
+{
+    match charged {
+        Charged::Master(m) => m,
+        _ => 0,
+    }
 }
 
 // The line that a text's refusal is charged to (rule 8.3).
@@ -41,10 +57,16 @@ pub extern "C" fn fabric_refused_at(text: &[u8], line: &mut [usize; 1]) -> u32
     ensures answer { result ≡ (refused_at text.now).number }
     ensures line { get_or line.new 0 0 ≡ (refused_at text.now).line }
 {
-    count(line);
-    let r = description::refused_at(text);
-    line[0] = r.line;
-    r.number
+    match description::refused_at(text) {
+        Ok(()) => {
+            line[0] = 0;
+            0
+        }
+        Err(blame) => {
+            line[0] = line_part(blame.charged);
+            blame.refusal.number()
+        }
+    }
 }
 
 // The master that a text's refusal with 20 names (rule 8.3).
@@ -52,8 +74,10 @@ pub extern "C" fn fabric_refused_at(text: &[u8], line: &mut [usize; 1]) -> u32
 pub extern "C" fn fabric_refused_master(text: &[u8]) -> u32
     ensures { result ≡ (refused_at text.now).master }
 {
-    let r = description::refused_at(text);
-    r.master
+    match description::refused_at(text) {
+        Ok(()) => 0,
+        Err(blame) => master_part(blame.charged),
+    }
 }
 
 // A reset (rule 4.2).
@@ -64,7 +88,7 @@ pub extern "C" fn fabric_reset(
 ) -> u32
     ensures { Resets (board_in board.now) state.old state.new result }
 {
-    fabric::reset(board, state)
+    common_numbers::number_in(fabric::reset(board, state))
 }
 
 // A post (rules 3.1 to 3.3). As in a state, `write` is a mark (rule 2.4).
@@ -84,7 +108,7 @@ pub extern "C" fn fabric_post(
         (record { master = master; write = marked write; address = address; lanes = lanes; beats = beats; words = words.now })
         state.old state.new buffer.old buffer.new result }
 {
-    fabric::post(
+    common_numbers::number_in(fabric::post(
         board,
         state,
         buffer,
@@ -94,7 +118,7 @@ pub extern "C" fn fabric_post(
         lanes,
         beats,
         words,
-    )
+    ))
 }
 
 // One clock (rules 4.1, 4.3 to 4.14, 4.16 to 4.18).
@@ -114,10 +138,9 @@ pub extern "C" fn fabric_clock(
         (record { memory = memory.new; buffer = buffer.new })
         result (get_or mask.new 0 0) }
 {
-    description_layout::count(mask);
-    let a = fabric::clock(board, state, memory, buffer, lines, responses);
-    mask[0] = a.mask;
-    a.number
+    let answer = fabric::clock(board, state, memory, buffer, lines, responses);
+    mask[0] = answer.unwrap_or(0);
+    common_numbers::number_in(answer)
 }
 
 // A run of clocks (rule 4.15).
@@ -139,12 +162,11 @@ pub extern "C" fn fabric_run(
         (record { memory = memory.new; buffer = buffer.new })
         result (get_or clocks.new 0 0) (get_or mask.new 0 0) }
 {
-    description_layout::count(clocks);
-    description_layout::count(mask);
-    let a = fabric::run(board, state, memory, buffer, lines, responses, most);
-    clocks[0] = a.clocks;
-    mask[0] = a.mask;
-    a.number
+    let answer = fabric::run(board, state, memory, buffer, lines, responses, most);
+    let ran = answer.unwrap_or(Ran { clocks: 0, mask: 0 });
+    clocks[0] = ran.clocks;
+    mask[0] = ran.mask;
+    common_numbers::number_in(answer)
 }
 
 // A take (rule 4.19): master, address and direction of the entry, the direction as a mark of 0 or 1.
@@ -163,10 +185,10 @@ pub extern "C" fn fabric_take(
         })
         × (get_or entry.new 2 0 ≤ 1) }
 {
-    description_layout::count(entry);
-    let a = fabric::take(board, state);
-    entry[0] = a.master;
-    entry[1] = a.address;
-    entry[2] = description_layout::mark_of(a.write);
-    a.number
+    let answer = fabric::take(board, state);
+    let oldest = answer.unwrap_or(NO_ENTRY);
+    entry[0] = oldest.master;
+    entry[1] = oldest.address;
+    entry[2] = description_layout::mark_of(oldest.write);
+    common_numbers::number_in(answer)
 }

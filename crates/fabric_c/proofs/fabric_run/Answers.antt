@@ -5,6 +5,7 @@ use native.Mathlib.Omega.{arith}
 use lib.ListN.{length}
 use lib.Seq.{get_or-set_same}
 use borrow.Author.Rules.{rules}
+use Rattle.fabric_c.proofs.AnswerLaws.{unwrap_is}
 use Rattle.fabric_c.proofs.fabric_run.Goals as goal
 
 pub returns : goal.returns
@@ -14,7 +15,10 @@ returns c =
     let one : length clocks ≡ 1 = search rules in
     let other : length mask ≡ 1 = search rules in
     rw (
-      get_or-set_same clocks 0 c.run-a.result.clocks 0 (omega (arith, one)),
-      get_or-set_same mask 0 c.run-a.result.mask 0 (omega (arith, other)),
+      get_or-set_same clocks 0 c.unwrap_or-ran.result.clocks 0 (omega (arith, one)),
+      get_or-set_same mask 0 c.unwrap_or-ran.result.mask 0 (omega (arith, other)),
+      c.unwrap_or-ran.ensures,
+      unwrap_is (record { clocks = 0; mask = 0 }) c.run-answer.result,
+      c.number_in.ensures,
     )
-    c.run-a.ensures
+    c.run-answer.ensures
