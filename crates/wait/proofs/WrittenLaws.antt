@@ -19,9 +19,8 @@ use Rattle.description.specs.Reader.{read_text}
 use Rattle.description.specs.Writer.{write_text}
 use Rattle.description.proofs.Trip.{read_written}
 use Rattle.wait_turns.specs.Waits.{longest_access, single_access, other_turn, turns_of, quoted_wait, serve_of}
-use Rattle.wait.specs.declared.Quoted.{Quoted}
 use Rattle.wait.specs.Answers.{pair_refusal}
-use Rattle.wait.specs.Calls.{quote_refusal, quote_of}
+use Rattle.wait.specs.Calls.{Quoted, quote_refusal, quote_of}
 use Rattle.wait.proofs.LookUpLaws.{pair_master, pair_known}
 
 module _ (b : Board) (legal : Legal b) where

@@ -11,6 +11,9 @@ use lib.Seq.{take_at}
 use borrow.Author.Tests.{ne_eqb, lt-ltb, le-ltb, ltb-true, ltb-false, eqb-true}
 use Rattle.common_laws.specs.Bytes.{bytes_of}
 use Rattle.common_laws.specs.Lists.{gather}
+use Rattle.common_numbers.specs.Refusals.{refusal_number}
+use Rattle.common_numbers.specs.declared.Refusal.{Refusal}
+use Rattle.common_numbers.proofs.RefusalLaws.{refusal_not_zero}
 use Rattle.common_text.specs.Digits.{digits, fields_text, line_text}
 use Rattle.common_text.specs.Fields.{comma}
 use Rattle.common_text.specs.Code.Scanning.{Put}
@@ -21,10 +24,9 @@ use Rattle.description_board.specs.Records.{connected}
 use Rattle.description_board.specs.Legal.{Legal}
 use Rattle.description.specs.Reader.{read_text}
 use Rattle.description.proofs.Trip.{read_legal}
-use Rattle.wait_table.specs.declared.Printed.{Printed}
 use Rattle.wait_turns.specs.Waits.{quoted_wait, serve_of}
 use Rattle.wait_table.specs.Tables.{heading, pair_line, pair_lines, table_text, table_of}
-use Rattle.wait_table.specs.Tables.{print_refusal, print_answer, print_output}
+use Rattle.wait_table.specs.Tables.{Printed, print_refusal, print_answer, print_output}
 use Rattle.wait_table.specs.Tables.{refused_text, printed, page_output, Begins}
 use Rattle.wait_table.specs.Longest.{longest_table}
 use Rattle.wait_turns.proofs.SumLaws.{gather_le}
@@ -134,12 +136,24 @@ unfolding print_answer
 promised text out most l e =
     (e.0, (e.1, λ h. ap (λ (r : Printed). r.number) e.0 ∙ print_room text out (omega arith)))
 
--- the three ways that a print ends
-module _ (text : List ℕ) {k : ℕ} (e : k ≡ (read_text text).number) where
-  pub text_refused : (out : List ℕ) → (k ≡ 0 → ⊥) → Prints text out (record { number = k; length = 0 }) out
-  unfolding print_answer print_output print_refusal
-  text_refused out h = let z = ne_eqb k 0 h in (rw (← e, z, z), rw (← e, z, z))
+-- a print of a refused text
+module _ (text out : List ℕ) where
+  pub refused_answer : (e : Refusal) → refusal_number e ≡ (read_text text).number
+      → record { number = refusal_number e; length = 0 } ≡ print_answer text out
+  unfolding print_answer print_refusal
+  refused_answer e h =
+      let some = ne_eqb (refusal_number e) 0 (refusal_not_zero e) in
+      rw (← h, some, some)
 
+  pub refused_output : 0 < (read_text text).number → out ≡ print_output text out
+  unfolding print_output print_refusal
+  refused_output h =
+      let n = (read_text text).number in
+      let some = ne_eqb n 0 (λ z. absurd (omega arith)) in
+      rw (some, some)
+
+-- the two ways that a print of another ends
+module _ (text : List ℕ) {k : ℕ} (e : k ≡ (read_text text).number) where
   -- of the board that was read
   module _ (none : k ≡ 0) {b : Board} (f : b ≡ (read_text text).board) where
     accepted : (read_text text).number ≡ 0

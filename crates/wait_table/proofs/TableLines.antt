@@ -64,36 +64,16 @@ module _ (b : Board) where
   lines_room m {s = s} x h l = piece_room (pair_line b m) s x b.slave_count h l
 
   -- no slave yet, and one more
-  pub summed_none : {singles longest sums : List ℕ} → Summed b 0 singles longest sums
-  summed_none = record { at = λ s h. absurd (omega arith) }
+  pub summed_none : {turns : List Turns} → Summed b 0 turns
+  summed_none = record { at = λ s h t. absurd (omega arith) }
 
-  pub summed_next : (s : ℕ) {singles longest sums : List ℕ} {t : Turns} → Summed b s singles longest sums → t ≡ slave_turns b s
-      → s < length singles → s < length longest → s < length sums
-      → Summed b (s + 1) (set singles s t.single) (set longest s t.v) (set sums s t.sum)
-  summed_next s {singles} {longest} {sums} {t} x e g h l = record { at = λ k d. go k d (ℕ_discrete k s) }
+  pub summed_next : (s : ℕ) {turns : List Turns} {t : Turns} → Summed b s turns → t ≡ slave_turns b s → s < length turns
+      → Summed b (s + 1) (set turns s t)
+  summed_next s {turns} {t} x e h = record { at = λ k d u. go k d u (ℕ_discrete k s) }
     where
-      go : (k : ℕ) → k < s + 1 → Dec (k ≡ s)
-          → record {
-            single = get_or (set singles s t.single) k 0;
-            v = get_or (set longest s t.v) k 0;
-            sum = get_or (set sums s t.sum) k 0;
-          } ≡ slave_turns b k
-      go k d (yes q) =
-          rw (
-            q,
-            get_or-set_same singles s t.single 0 g,
-            get_or-set_same longest s t.v 0 h,
-            get_or-set_same sums s t.sum 0 l,
-          )
-          e
-      go k d (no q) =
-          rw (
-            get_or-set_other singles s k t.single 0 q,
-            get_or-set_other longest s k t.v 0 q,
-            get_or-set_other sums s k t.sum 0 q,
-          )
-          (x.at k (omega arith))
+      go : (k : ℕ) → k < s + 1 → (u : Turns) → Dec (k ≡ s) → get_or (set turns s t) k u ≡ slave_turns b k
+      go k d u (yes q) = rw (q, get_or-set_same turns s t u h) e
+      go k d u (no q) = rw (get_or-set_other turns s k t u q) (x.at k (omega arith) u)
 
-  pub summed_all : {singles longest sums : List ℕ} {s : ℕ} → Summed b s singles longest sums → s ≡ b.slave_count
-      → Summed b b.slave_count singles longest sums
+  pub summed_all : {turns : List Turns} {s : ℕ} → Summed b s turns → s ≡ b.slave_count → Summed b b.slave_count turns
   summed_all x e = rw e at x

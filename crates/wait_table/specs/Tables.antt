@@ -1,14 +1,15 @@
 -- A board's table, what `print_table` answers, and what the table program prints (rule 5.9).
 -- Assumes nothing.
-use Rattle.std.specs.Prelude.{◌≡◌, cond, not, List, [], ◌∷◌, ◌++◌, ℕ, ◌≤◌, ltb, eqb, length, take, drop}
+use Rattle.std.specs.Prelude.{◌≡◌, cond, not, List, [], ◌∷◌, ◌++◌, ℕ, ◌≤◌, ltb, eqb, length, take, drop, Result, Ok, Err}
 use Rattle.common_laws.specs.Bytes.{bytes_of}
 use Rattle.common_laws.specs.Lists.{gather}
+use Rattle.common_numbers.specs.Refusals.{refusal_number}
+use Rattle.common_numbers.specs.declared.Refusal.{Refusal}
 use Rattle.common_text.specs.Digits.{digits, line_text}
 use Rattle.common_text.specs.Fields.{line_feed}
 use Rattle.description_board.specs.declared.Board.{Board}
 use Rattle.description_board.specs.Records.{connected}
 use Rattle.description.specs.Reader.{read_text}
-use Rattle.wait_table.specs.declared.Printed.{Printed}
 use Rattle.wait_turns.specs.Waits.{quoted_wait, serve_of}
 
 -- rule 5.9: the table's first line
@@ -37,6 +38,16 @@ unfoldable pub print_refusal : List ℕ → List ℕ → ℕ
 print_refusal text out =
     let n = (read_text text).number in
     cond (not (eqb n 0)) n (cond (ltb (length out) (length (table_of text))) 10 0)
+
+-- rule 8.1: a refusal's number and 0, or 0 and the count of bytes written
+pub record Printed : Type 0 where
+  pub number : ℕ
+  pub length : ℕ
+
+-- the call's answer as these numbers
+abbrev pub printed_in : Result ℕ Refusal → Printed
+printed_in (Ok n) = record { number = 0; length = n }
+printed_in (Err e) = record { number = refusal_number e; length = 0 }
 
 -- rule 8.1: what `print_table` answers: a refusal's number and 0, or 0 and how many bytes are written
 unfoldable pub print_answer : List ℕ → List ℕ → Printed

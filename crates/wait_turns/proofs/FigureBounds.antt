@@ -10,7 +10,7 @@ use borrow.Author.Tests.{eqb-true, eqb-false}
 use Rattle.common_laws.specs.Lists.{sum}
 use Rattle.common_laws.proofs.Arithmetic.{product_le}
 use Rattle.description_board.specs.declared.Master.{Master}
-use Rattle.description_board.specs.declared.Slave.{Slave}
+use Rattle.description_board.specs.Records.{Slave}
 use Rattle.description_board.specs.declared.Board.{Board}
 use Rattle.description_board.specs.Records.{master_at, slave_at, shares_at, connected}
 use Rattle.description_board.specs.Legal.{LegalMaster, Legal}

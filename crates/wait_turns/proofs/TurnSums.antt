@@ -9,7 +9,7 @@ use lib.Dec.{ltb}
 use borrow.Author.Tests.{lt-ltb}
 use Rattle.common_laws.specs.Lists.{sum}
 use Rattle.description_board.specs.declared.Master.{Master}
-use Rattle.description_board.specs.declared.Slave.{Slave}
+use Rattle.description_board.specs.Records.{Slave}
 use Rattle.description_board.specs.declared.Board.{Board}
 use Rattle.description_board.specs.Records.{master_at, slave_at, shares_at, connected}
 use Rattle.description_board.specs.Legal.{LegalSlave}
@@ -28,9 +28,8 @@ module _ {b : Board} {sl : Slave} {s : ℕ} (x : SlaveOf b sl s) where
   pub both_legal : (m : ℕ) {ma : Master} → m < b.master_count → ma ≡ master_at b m → LegalBoth ma sl
   both_legal m h e = record { master = rw e (x.legal.master m h); slave = slave_legal }
 
-  pub turn_legal : (k : ℕ) {ma : Master} {n : ℕ} → k < b.master_count → ma ≡ master_at b k → n ≡ shares_at b k s
-      → LegalBoth ma sl × (n ≤ 100)
-  turn_legal k h e f = (both_legal k h e, rw f (shares_le b x.legal s x.known k h))
+  pub shares_legal : (k : ℕ) {n : ℕ} → k < b.master_count → n ≡ shares_at b k s → n ≤ 100
+  shares_legal k h f = rw f (shares_le b x.legal s x.known k h)
 
 -- slave s of a pair, as it was read
 pub slave_of_lem : {b : Board} {m s : ℕ} {sl : Slave} → PairOf b m s → sl ≡ slave_at b s → SlaveOf b sl s

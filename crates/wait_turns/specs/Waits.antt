@@ -3,7 +3,7 @@
 use Rattle.std.specs.Prelude.{cond, not, ◌&&◌, ℕ, ◌+◌, ◌-◌, ◌*◌, ◌/◌, min, max, eqb}
 use Rattle.common_laws.specs.Lists.{sum}
 use Rattle.description_board.specs.declared.Master.{Master}
-use Rattle.description_board.specs.declared.Slave.{Slave}
+use Rattle.description_board.specs.Records.{Slave}
 use Rattle.description_board.specs.declared.Board.{Board}
 use Rattle.description_board.specs.Records.{master_at, slave_at, shares_at, connected}
 use Rattle.fabric_transfer.specs.Alignment.{ratio}

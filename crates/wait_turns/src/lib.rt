@@ -27,134 +27,162 @@ pub struct Turns {
 }
 
 // v, the clocks of one access at most (rule 5.1).
+#[tactic(auto, unfolding(crate::specs::Waits::longest_access))]
 pub fn longest_access(sl: Slave) -> u32
     requires { LegalSlave sl }
     ensures { result ≡ longest_access sl }
 {
-    if sl.read_wait < sl.write_wait {
-        return 1 + sl.write_wait;
-    }
-    1 + sl.read_wait
+    1 + sl.read_wait.max(sl.write_wait)
 }
 
 // The clocks of one access of a single that is not the last transfer of a turn (rule 5.6), by the slave's v. Where the slave has
 // latency a read ends its master's turn, so that such a single is a write.
+#[tactic(auto, using(crate::proofs::AccessLaws::single_access_plain, crate::proofs::AccessLaws::single_access_late))]
 pub fn single_access(sl: Slave, v: u32) -> u32
     requires { LegalSlave sl × (v ≡ longest_access sl) }
     ensures { result ≡ single_access sl }
 {
     if sl.latency == 0 {
-        return v;
+        v
+    } else {
+        1 + sl.write_wait
     }
-    1 + sl.write_wait
 }
 
 // n, the most beats of one transfer (rule 5.3).
+#[tactic(auto, unfolding(crate::specs::Waits::most_beats))]
 pub fn most_beats(ma: Master, sl: Slave) -> u32
     requires { LegalMaster ma }
     ensures { result ≡ most_beats ma sl }
 {
     let words = fabric_accesses::quotient(sl.span, ma.width);
-    if ma.burst <= words {
-        return ma.burst;
+    ma.burst.min(words)
+}
+
+// A master and a slave whose values are in their lists and ranges (rules 1.6, 1.7).
+#[derive(Clone, Copy)]
+pub struct Pair {
+    pub master: Master,
+    pub slave: Slave,
+    pub ghost legal: { LegalBoth master slave },
+}
+
+impl Pair {
+    // The clocks of a transfer of one beat, by those of an access (rules 5.5, 5.6). A ratio is at most 8, a burst 64, and a and v
+    // have 32 bits: no product here wraps.
+    #[tactic(auto, unfolding(crate::specs::Waits::single))]
+    pub fn single(self, a: u32) -> u64
+        ensures { result ≡ single self.master self.slave a }
+    {
+        u64::from(fabric_accesses::ratio(self.master, self.slave)) * u64::from(a)
     }
-    words
-}
 
-// The clocks of a transfer of one beat, by those of an access (rules 5.5, 5.6). A ratio is at most 8, a burst 64, and a and v have
-// 32 bits: no product here wraps.
-pub fn single(ma: Master, sl: Slave, a: u32) -> u64
-    requires { LegalBoth ma sl }
-    ensures { result ≡ single ma sl a }
-{
-    (fabric_accesses::ratio(ma, sl) as u64) * (a as u64)
-}
-
-// The clocks of the longest transfer, the serve (rule 5.5).
-pub fn serve(ma: Master, sl: Slave, v: u32) -> u64
-    requires { LegalBoth ma sl }
-    ensures { result ≡ serve ma sl v }
-{
-    let beats = most_beats(ma, sl) as u64;
-    let each = fabric_accesses::ratio(ma, sl) as u64;
-    beats * each * (v as u64)
-}
-
-// The clocks of a turn (rule 5.6): a single for every share but one, with accesses of a clocks, and the longest transfer.
-pub fn turn(ma: Master, sl: Slave, shares: u32, a: u32, v: u32) -> u64
-    requires { LegalBoth ma sl × (shares ≤ 100) }
-    ensures { result ≡ turn ma sl shares a v }
-{
-    let longest = serve(ma, sl, v);
-    if shares == 0 {
-        return longest;
+    // The clocks of the longest transfer, the serve (rule 5.5).
+    #[tactic(auto, unfolding(crate::specs::Waits::serve))]
+    pub fn serve(self, v: u32) -> u64
+        ensures { result ≡ serve self.master self.slave v }
+    {
+        let beats = u64::from(most_beats(self.master, self.slave));
+        let each = u64::from(fabric_accesses::ratio(self.master, self.slave));
+        beats * each * u64::from(v)
     }
-    let singles = ((shares - 1) as u64) * single(ma, sl, a);
-    singles + longest
+
+    // The clocks of a turn (rule 5.6): a single for every share but one, with accesses of a clocks, and the longest transfer.
+    #[tactic(auto, unfolding(crate::specs::Waits::turn))]
+    pub fn turn(self, shares: u32, a: u32, v: u32) -> u64
+        requires { shares ≤ 100 }
+        ensures { result ≡ turn self.master self.slave shares a v }
+    {
+        let singles = shares.saturating_sub(1);
+        u64::from(singles) * self.single(a) + self.serve(v)
+    }
 }
 
-// The turn of master k at slave s (rule 5.6); 0 where they are not connected. The slave is handed on: it is read once.
-fn turn_at(board: &[u32; BOARD_NUMBERS], sl: Slave, a: u32, v: u32, s: u32, k: u32) -> u64
-    requires { SlaveOf (board_in board.now) sl s × (k < (board_in board.now).master_count) }
-    ensures { result ≡ turn_at (board_in board.now) a v s k }
+// A slave, read once for all masters, and what its turns are made of: the clocks of a single's access and v (rules 5.1, 5.6).
+#[derive(Clone, Copy)]
+struct AtSlave {
+    s: u32,
+    slave: Slave,
+    single: u32,
+    v: u32,
+}
+
+// The turn of master k at a slave (rule 5.6); 0 where they are not connected.
+#[tactic(auto, using(crate::proofs::TurnSums::turn_none, crate::proofs::TurnSums::turn_some, crate::proofs::TurnSums::shares_legal))]
+fn turn_at(board: &[u32; BOARD_NUMBERS], at: AtSlave, k: u32) -> u64
+    requires { SlaveOf (board_in board.now) at.slave at.s × (k < (board_in board.now).master_count) }
+    ensures { result ≡ turn_at (board_in board.now) at.single at.v at.s k }
 {
-    let shares = description_layout::shares_at(board, k as usize, s as usize);
+    let shares = description_layout::shares_at(board, k as usize, at.s as usize);
     if shares == 0 {
         return 0;
     }
-    turn(
-        description_layout::master_at(board, k as usize),
-        sl,
-        shares,
-        a,
-        v,
-    )
+    let pair = Pair {
+        master: description_layout::master_at(board, k as usize),
+        slave: at.slave,
+    };
+    pair.turn(shares, at.single, at.v)
 }
 
-// The turns at slave s, added up over its masters (rule 5.7). The clocks a of a single's access and v are handed in, and the sum is
+// The turns at a slave, added up over its masters (rule 5.7). The clocks of a single's access and v are handed in, and the sum is
 // right whatever they are: with 32 bits a turn is below 2 ^ 50, so that 8 of them fit.
-fn turns_at(board: &[u32; BOARD_NUMBERS], sl: Slave, a: u32, v: u32, s: u32) -> u64
-    requires { SlaveOf (board_in board.now) sl s }
-    ensures { result ≡ turns_at (board_in board.now) a v s }
+#[tactic(auto, using(crate::proofs::TurnSums::turns_none, crate::proofs::TurnSums::turns_more, crate::proofs::TurnSums::turns_all))]
+fn turns_at(board: &[u32; BOARD_NUMBERS], at: AtSlave) -> u64
+    requires { SlaveOf (board_in board.now) at.slave at.s }
+    ensures { result ≡ turns_at (board_in board.now) at.single at.v at.s }
 {
-    let n = description_layout::master_count(board);
-    let mut sum: u64 = 0;
-    let mut k: u32 = 0;
-    while k < n {
-        sum += turn_at(board, sl, a, v, s, k);
-        k += 1;
+    let mut sum = 0;
+    for k in 0..description_layout::master_count(board) {
+        sum += turn_at(board, at, k);
     }
     sum
 }
 
 // The clocks of a single's access at slave s, its v, and the turns there (rules 5.1, 5.6, 5.7). Which wait is the longer one and
 // whether the slave has latency is asked here once, and not again for each master.
+#[tactic(auto, using(crate::proofs::TurnSums::turns_of_slave))]
 pub fn slave_turns(board: &[u32; BOARD_NUMBERS], s: u32) -> Turns
     requires { Legal (board_in board.now) × (s < (board_in board.now).slave_count) }
     ensures { result ≡ slave_turns (board_in board.now) s }
 {
-    let sl = description_layout::slave_at(board, s as usize);
-    let v = longest_access(sl);
-    let a = single_access(sl, v);
+    let slave = description_layout::slave_at(board, s as usize);
+    let v = longest_access(slave);
+    let single = single_access(slave, v);
+    let at = AtSlave {
+        s,
+        slave,
+        single,
+        v,
+    };
     Turns {
-        single: a,
-        v: v,
-        sum: turns_at(board, sl, a, v, s),
+        single,
+        v,
+        sum: turns_at(board, at),
     }
 }
 
 // Wait and serve of master m at slave s (rules 5.5, 5.7), by the turns there: its own is taken off.
+#[tactic(auto, using(crate::proofs::TurnSums::slave_of_lem, crate::proofs::TurnSums::both_legal, crate::proofs::TurnSums::own_within))]
 pub fn figures_by(board: &[u32; BOARD_NUMBERS], t: Turns, m: u32, s: u32) -> Quote
     requires { PairOf (board_in board.now) m s × (t ≡ slave_turns (board_in board.now) s) }
     ensures { result ≡ figures_of (board_in board.now) m s }
 {
-    let sl = description_layout::slave_at(board, s as usize);
-    let own = turn_at(board, sl, t.single, t.v, s, m);
+    let slave = description_layout::slave_at(board, s as usize);
+    let at = AtSlave {
+        s,
+        slave,
+        single: t.single,
+        v: t.v,
+    };
+    let own = turn_at(board, at, m);
     let wait = t.sum - own;
-    let ma = description_layout::master_at(board, m as usize);
+    let pair = Pair {
+        master: description_layout::master_at(board, m as usize),
+        slave,
+    };
     Quote {
-        wait: wait,
-        serve: serve(ma, sl, t.v),
+        wait,
+        serve: pair.serve(t.v),
     }
 }
 
@@ -163,6 +191,5 @@ pub fn figures_of(board: &[u32; BOARD_NUMBERS], m: u32, s: u32) -> Quote
     requires { PairOf (board_in board.now) m s }
     ensures { result ≡ figures_of (board_in board.now) m s }
 {
-    let t = slave_turns(board, s);
-    figures_by(board, t, m, s)
+    figures_by(board, slave_turns(board, s), m, s)
 }

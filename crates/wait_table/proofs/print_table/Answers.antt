@@ -1,30 +1,29 @@
 -- `wait_table::print_table` meets its contract: refused for the text, refused for the room, or the table that was made aside.
 -- Assumes nothing.
+use mathlib.Core.Path.{◌≡◌}
 use Prim.Native.Nat.{◌≤◌}
 use native.Mathlib.Omega.{arith}
 use lib.ListN.{length, length-take}
 use borrow.Author.Rules.{rules}
+use Rattle.common_numbers.specs.Refusals.{refusal_in}
 use Rattle.wait_table.specs.Longest.{longest_table}
-use Rattle.wait_table.proofs.PrintLaws.{promised, text_refused, board_legal, table_fits}
+use Rattle.wait_table.proofs.PrintLaws.{promised, board_legal, table_fits}
 use Rattle.wait_table.proofs.PrintLaws.{page_within, room_refused, table_printed}
 use Rattle.wait_table.proofs.print_table.Goals.{After-put_table-n}
 use Rattle.wait_table.proofs.print_table.Goals as goal
 
-pub returns-then-refused-ne0 : goal.returns-then-refused-ne0
-unfolding longest_table
-returns-then-refused-ne0 c =
-    let w = promised _ _ _ (omega arith)
-    (text_refused _ c.read-refused.ensures.number _ c.if-refused-ne0.true) in
-    record { answer = w.0; output = w.1.0; room = w.1.1 }
+-- the text is not refused, and the board is what it says
+none : (t : After-put_table-n) → refusal_in t.read.result ≡ 0
+none t = search rules
 
 pub put_table-n-requires : goal.put_table-n-requires
 unfolding longest_table
 put_table-n-requires c =
-    let x = c.read-refused.ensures in
-    let none = c.if-refused-ne0.false in
+    let x = c.read.ensures in
+    let z : refusal_in c.read.result ≡ 0 = search rules in
     record {
-      legal = board_legal _ x.number none (x.board none);
-      board_in_bounds = omega (arith, table_fits _ x.number none (x.board none));
+      legal = board_legal _ x.number z (x.board z);
+      board_in_bounds = omega (arith, table_fits _ x.number z (x.board z));
     }
 
 -- the page has room for the longest table, so that what is printed lies within it
@@ -34,17 +33,16 @@ room t = search rules
 
 within : (t : After-put_table-n) → t.put_table-n.result ≤ length t.put_table-n.new.out
 within t =
-    let x = t.read-refused.ensures in
-    let none = t.if-refused-ne0.false in
-    page_within _ x.number none (x.board none) t.put_table-n.ensures (room t)
+    let x = t.read.ensures in
+    page_within _ x.number (none t) (x.board (none t)) t.put_table-n.ensures (room t)
 
 pub returns-then-out-n : goal.returns-then-out-n
 unfolding longest_table
 returns-then-out-n c =
-    let x = c.read-refused.ensures in
-    let none = c.if-refused-ne0.false in
+    let t = (goal.at.returns-then-out-n c).After-put_table-n in
+    let x = c.read.ensures in
     let w = promised _ _ _ (omega arith)
-    (room_refused _ x.number none (x.board none) c.put_table-n.ensures (room (goal.at.returns-then-out-n c).After-put_table-n) _ c.if-out-n.true) in
+    (room_refused _ x.number (none t) (x.board (none t)) c.put_table-n.ensures (room t) _ c.if-out-n.true) in
     record { answer = w.0; output = w.1.0; room = w.1.1 }
 
 pub slice_bounds-page-end : goal.slice_bounds-page-end
@@ -62,9 +60,8 @@ put_bytes-requires c =
 pub returns : goal.returns
 unfolding longest_table
 returns c =
-    let x = c.read-refused.ensures in
-    let none = c.if-refused-ne0.false in
+    let t = (goal.at.returns c).After-put_table-n in
+    let x = c.read.ensures in
     let w = promised _ _ _ (omega arith)
-    (table_printed _ x.number none (x.board none) c.put_table-n.ensures (room (goal.at.returns c).After-put_table-n) _ c.if-out-n.false
-    c.put_bytes.ensures) in
+    (table_printed _ x.number (none t) (x.board (none t)) c.put_table-n.ensures (room t) _ c.if-out-n.false c.put_bytes.ensures) in
     record { answer = w.0; output = w.1.0; room = w.1.1 }

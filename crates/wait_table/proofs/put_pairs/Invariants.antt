@@ -1,7 +1,5 @@
 -- `wait_table::put_pairs` meets its contract. The loop's invariant: the lines of the first m masters are stored.
--- The measure is how many are left.
 -- Assumes nothing.
-use Prim.Native.Nat.{◌-◌, ◌≤◌}
 use Rattle.common_laws.specs.Lists.{gather}
 use Rattle.common_text.specs.Code.Scanning.{Put}
 use Rattle.description_layout.specs.Layout.{board_in}
@@ -9,9 +7,4 @@ use Rattle.wait_table.specs.Code.PairLines.{master_lines}
 use Rattle.wait_table.proofs.put_pairs.Given as goal
 
 abbrev pub invariant-loop-m : goal.invariant-loop-m
-invariant-loop-m l =
-    (l.m ≤ (board_in l.board).master_count) × Put l.initial.out l.at (gather (master_lines (board_in l.board)) l.m) l.out l.next
-
-abbrev pub decreases-loop-m : goal.decreases-loop-m
-decreases-loop-m l =
-    (board_in l.board).master_count - l.m
+invariant-loop-m l = Put l.initial.out l.at (gather (master_lines (board_in l.board)) l.m) l.out l.next

@@ -5,6 +5,7 @@ use Rattle.common_laws.specs.Lists.{gather}
 use Rattle.common_text.specs.Digits.{digits, line_text}
 use Rattle.description_board.specs.declared.Board.{Board}
 use Rattle.wait_turns.specs.declared.Quote.{Quote}
+use Rattle.wait_turns.specs.declared.Turns.{Turns}
 use Rattle.wait_turns.specs.Code.Pairs.{slave_turns}
 use Rattle.wait_table.specs.Tables.{pair_line}
 
@@ -16,7 +17,6 @@ quote_line m s q = line_text (digits m) (s ∷ q.wait ∷ q.serve ∷ [])
 unfoldable pub master_lines : Board → ℕ → List ℕ
 master_lines b m = gather (pair_line b m) b.slave_count
 
--- three lists hold the clocks of a single's access, v and the turns of the first n slaves (rules 5.1, 5.6, 5.7)
-pub record Summed (b : Board) (n : ℕ) (singles longest sums : List ℕ) : Type 0 where
-  pub at : (s : ℕ) → s < n
-      → record { single = get_or singles s 0; v = get_or longest s 0; sum = get_or sums s 0 } ≡ slave_turns b s
+-- a list holds the turns of the first n slaves (rules 5.1, 5.6, 5.7)
+pub record Summed (b : Board) (n : ℕ) (turns : List Turns) : Type 0 where
+  pub at : (s : ℕ) → s < n → (t : Turns) → get_or turns s t ≡ slave_turns b s
