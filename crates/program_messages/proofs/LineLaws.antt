@@ -1,73 +1,41 @@
--- Texts that are put one after another, as far as they fit.
+-- Bytes that are put at the end of a line, as far as they fit.
 -- Assumes nothing.
-use mathlib.Core.List.{List, [], ◌∷◌, ◌++◌, append_assoc, append-nil}
-use mathlib.Core.Path.{◌≡◌, refl, ap, sym, ◌∙◌}
-use Prim.Native.Nat.{ℕ, zero, suc, ◌+◌, ◌-◌, ◌≤◌}
-use native.Mathlib.Omega.{arith}
-use lib.ListN.{length, take, length-append, length-take}
-use lib.Seq.{length-take-le, length-sets, sets-eq, take_all, take_at, take-append-add}
-use Rattle.common_text.specs.Code.Scanning.{Put}
-use Rattle.program_messages.specs.Code.Messages.{head, Holds}
+use Rattle.std.proofs.Common.{arith, List, [], ◌∷◌, ◌++◌, ◌≡◌, refl, ap, sym, ◌∙◌, ℕ, zero, suc, ◌+◌, ◌-◌, ◌≤◌, min, length, take, append_assoc, length-take-le}
+use Rattle.std.proofs.lemmas.List.{take_min}
+use Rattle.std.proofs.lemmas.Slice.{take-put_mid}
+use native.Mathlib.Numerals.{unary_clauses}
+use borrow.Rule.Slice.PartMut.{put_mid}
+use Rattle.program_messages.specs.Code.Messages.{head, with}
 
 -- what does not fit is cut once
-take_cut : (n : ℕ) (x y : List ℕ) → take n (take n x ++ y) ≡ take n (x ++ y)
-take_cut zero x y = refl
-take_cut (suc n) [] y = refl
-take_cut (suc n) (b ∷ x) y = ap (λ (l : List ℕ). b ∷ l) (take_cut n x y)
+with_take : (most : ℕ) (line bytes : List ℕ) → with most (take most line) bytes ≡ take most (line ++ bytes)
+unfolding with
+with_take zero line bytes = refl
+with_take (suc most) [] bytes = simp unary_clauses refl
+with_take (suc most) (b ∷ line) bytes = simp unary_clauses (ap (λ (l : List ℕ). b ∷ l) (with_take most line bytes))
 
-take_front : (n : ℕ) (x y : List ℕ) (m : ℕ) → n ≡ length x + m → take n (x ++ y) ≡ x ++ take m y
-take_front n x y m e = ap (λ (k : ℕ). take k (x ++ y)) e ∙ take-append-add x y m
+with_none : (most : ℕ) (bytes : List ℕ) → with most [] bytes ≡ take most bytes
+unfolding with
+with_none most bytes = simp unary_clauses refl
 
--- as much of the bytes as fits, after `at`
-pub holds_put :
-    (before bytes after : List ℕ) (at r : ℕ) → at ≤ length before
-    → Put before at (take (length before - at) bytes) after r → Holds after r (take at before ++ bytes)
-holds_put before bytes after at r h p =
-    let room = length before - at in
-    let front = length-take-le at before h in
-    let n : length (take room bytes) ≤ room = simp length-take (omega arith) in
-    let e = p.bytes ∙ sets-eq (take room bytes) before at (omega arith) in
-    let m : length (take at before ++ take room bytes) ≡ r = simp length-append (omega (arith, p.end)) in
-    let l : length after ≡ length before = ap length p.bytes ∙ length-sets before at (take room bytes) in
-    record {
-      same =
-          ap (take r) e ∙ take_at (take at before ++ take room bytes) _ r m
-          ∙ sym (take_front (length after) (take at before) bytes room (omega arith));
-      fits = (omega (arith, p.end), sym (length-take-le r after (omega (arith, p.end))));
-    }
-
--- all of them, where they fit
-pub holds_all :
-    (before bytes after : List ℕ) (at r : ℕ) → at ≤ length before → length bytes ≤ length before - at
-    → Put before at bytes after r → Holds after r (take at before ++ bytes)
-holds_all before bytes after at r h f p =
-    holds_put before bytes after at r h (rw (take_all (length before - at) bytes f) p)
-
--- none of them, after a line that is full
-pub holds_full : (line bytes : List ℕ) (at : ℕ) → length line ≤ at → Holds line (length line) (take at line ++ bytes)
-holds_full line bytes at h =
-    let whole = take_all (length line) line (omega arith) in
-    record {
-      same =
-          whole ∙ sym (take_front (length line) line bytes 0 (omega arith) ∙ append-nil line)
-          ∙ sym (ap (λ (l : List ℕ). take (length line) (l ++ bytes)) (take_all at line h));
-      fits = (omega arith, sym (ap length whole));
-    }
-
--- one text after another
-holds_then :
-    (line after x y : List ℕ) (at r : ℕ) → length after ≡ length line → Holds line at x
-    → Holds after r (take at line ++ y) → Holds after r (x ++ y)
-holds_then line after x y at r l p q =
-    record {
-      same = q.same ∙ ap (λ (z : List ℕ). take (length after) (z ++ y)) p.same ∙ rw l (take_cut (length line) x y);
-      fits = q.fits;
-    }
-
-pub holds_head :
-    (a b c program what : List ℕ) (i j k : ℕ) → length b ≡ length a → length c ≡ length b → Holds a i program
-    → Holds b j (take i a ++ (58 ∷ 32 ∷ [])) → Holds c k (take j b ++ what) → Holds c k (head program what)
+pub with_head :
+    {a b c : List ℕ} (most : ℕ) (program what : List ℕ) → a ≡ with most [] program → b ≡ with most a (58 ∷ 32 ∷ [])
+    → c ≡ with most b what → c ≡ take most (head program what)
 unfolding head
-holds_head a b c program what i j k l m p q r =
-    let t = holds_then b c (program ++ (58 ∷ 32 ∷ [])) what j k m (holds_then a b program (58 ∷ 32 ∷ []) i j l p q) r in
-    rw append_assoc at t
+with_head most program what e f g =
+    let p = e ∙ with_none most program in
+    let q = f ∙ ap (λ (l : List ℕ). with most l (58 ∷ 32 ∷ [])) p ∙ with_take most program (58 ∷ 32 ∷ []) in
+    let r = g ∙ ap (λ (l : List ℕ). with most l what) q ∙ with_take most (program ++ (58 ∷ 32 ∷ [])) what in
+    r ∙ ap (take most) (append_assoc program (58 ∷ 32 ∷ []) what)
+
+-- the room after bytes are put at the end of what is filled
+pub put_fit :
+    (room line bytes copied : List ℕ) (filled most n k : ℕ) → take filled room ≡ line → filled ≤ length room
+    → copied ≡ take n bytes → n ≡ min (most - filled) (length bytes)
+    → take (filled + n) (put_mid filled k room copied) ≡ with most line bytes
+unfolding with
+put_fit room line bytes copied filled most n k v h c e =
+    let l : length line ≡ filled = ap length (sym v) ∙ length-take-le filled room h in
+    let m : length copied ≡ n = ap length c ∙ length-take-le n bytes (omega (arith, e)) in
+    take-put_mid filled k room copied (filled + n) (omega (arith, m)) h
+    ∙ rw (v, c, l, e) (ap (λ (x : List ℕ). line ++ x) (take_min (most - filled) bytes))

@@ -1,4 +1,4 @@
-// What the programs have in common: what the words behind a program's name ask for, the version, and the line on standard error
+// What the programs have in common: what the words after a program's name ask for, the version, and the line on standard error
 // that tells of output that could not be written.
 #![tactic(auto)]
 
@@ -35,39 +35,32 @@ enum Word {
 fn operands_from(count: usize, first: usize, least: usize, most: usize) -> Mode
     ensures { result ≡ operands_from count first least most }
 {
-    if first <= count {
-        let operands = count - first;
-        if (least <= operands) & (operands <= most) {
-            return Mode::Operands(first);
-        }
+    match count.checked_sub(first) {
+        Some(operands) if (least <= operands) & (operands <= most) => Mode::Operands(first),
+        _ => Mode::Wrong,
     }
-    Mode::Wrong
 }
 
 // An option that is asked for by itself.
 fn alone(count: usize, mode: Mode) -> Mode
     ensures { result ≡ lone_option count mode }
 {
-    if count == 2 {
-        return mode;
-    }
-    Mode::Wrong
+    if count == 2 { mode } else { Mode::Wrong }
 }
 
 // What a word says that begins with `-`.
 fn option_of(word: &[u8]) -> Word
     ensures { result ≡ option_of word.now }
 {
-    if common_text::same(word, b"-h") | common_text::same(word, b"--help") {
-        return Word::Help;
+    if (word == b"-h".as_slice()) | (word == b"--help".as_slice()) {
+        Word::Help
+    } else if word == b"--version".as_slice() {
+        Word::Version
+    } else if word == b"--".as_slice() {
+        Word::End
+    } else {
+        Word::Unknown
     }
-    if common_text::same(word, b"--version") {
-        return Word::Version;
-    }
-    if common_text::same(word, b"--") {
-        return Word::End;
-    }
-    Word::Unknown
 }
 
 // What an option asks for: `--` ends the options.
@@ -89,39 +82,29 @@ fn mode_of(count: usize, room: &[u8], n: usize, least: usize, most: usize) -> Mo
     ensures { result ≡ mode_of count room.now n least most }
 {
     if room[0] == b'-' {
-        let option = option_of(&room[..n]);
-        return mode_by(option, count, least, most);
+        mode_by(option_of(&room[..n]), count, least, most)
+    } else {
+        operands_from(count, 1, least, most)
     }
-    operands_from(count, 1, least, most)
 }
 
 // Whether there is a word at an index. None of it is copied.
 fn is_word(rt: &HostRuntime, index: usize) -> bool {
-    match rt.arg(index, &mut []) {
-        Ok(_) => true,
-        Err(FillError::TooLong) => true,
-        Err(FillError::NotPresent) => false,
-    }
+    !matches!(rt.arg(index, &mut []), Err(FillError::NotPresent))
 }
 
 // How many words there are, the program's name among them.
 pub fn word_count(rt: &HostRuntime) -> usize {
-    for i in 0..usize::MAX {
-        if !is_word(rt, i) {
-            return i;
-        }
-    }
-    usize::MAX
+    (0..usize::MAX)
+        .find(|i| !is_word(rt, *i))
+        .unwrap_or(usize::MAX)
 }
 
 // The word at an index is put into `room`. The answer is its length, or 0 where there is none or it is too long.
 pub fn word_at(rt: &HostRuntime, index: usize, room: &mut [u8]) -> usize
     ensures { IsPrefixLen result room.new }
 {
-    match rt.arg(index, &mut *room) {
-        Ok(n) => n,
-        Err(_) => 0,
-    }
+    rt.arg(index, room).unwrap_or(0)
 }
 
 // What the words ask of a program that takes so many operands. They are counted once.
@@ -139,8 +122,7 @@ pub fn printed(rt: &HostRuntime, program: &[u8], taken: io::Result<()>) -> bool 
     match taken {
         Ok(()) => true,
         Err(error) => {
-            let number = program_streams::number_of(&error);
-            program_streams::report(rt, program, b"standard output", number);
+            program_streams::report(rt, program, b"standard output", &error);
             false
         }
     }
@@ -153,8 +135,7 @@ pub fn print(rt: &HostRuntime, program: &[u8], bytes: &[u8]) -> bool {
 }
 
 pub fn print_version(rt: &HostRuntime, program: &[u8]) {
-    let taken = print(rt, program, program);
-    if taken {
+    if print(rt, program, program) {
         print(rt, program, b" (Zelgwy) 1.7.1\n");
     }
 }

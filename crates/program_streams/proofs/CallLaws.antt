@@ -1,6 +1,6 @@
 -- What the tests of a call's error, which the code makes, say of `judged`, and how far a call reaches.
 -- Assumes nothing.
-use Rattle.std.proofs.Common.{Bool, true, false, cond, List, ◌≡◌, refl, sym, ◌∙◌, ℕ, zero, suc, ◌+◌, ◌-◌, ◌≤◌, arith, length, take, drop, Result, Ok, Err, ◌<◌, ◌^◌, ℤ}
+use Rattle.std.proofs.Common.{Bool, true, false, cond, List, ◌≡◌, refl, sym, ◌∙◌, ℕ, zero, suc, ◌≤◌, arith, length, Result, Ok, Err, ◌<◌, ◌^◌, ℤ}
 use lib.IntN.{pos, negsuc}
 use lib.Signed.{mag}
 use mir.Syntax.{w32}
@@ -8,8 +8,7 @@ use mir.Val.{of_z}
 use borrow.Author.Tests.{eq-eqb, ne_eqb}
 use Rattle.std.specs.Io.{WritesAtMost}
 use Rattle.std.specs.declared.io.Error.{Error}
-use Rattle.common_laws.proofs.TextLists.{part_rest_length}
-use Rattle.program_streams.specs.Calls.{interrupted, unready, is, number_of, judged, judged_count, judged_error, Call}
+use Rattle.program_streams.specs.Calls.{interrupted, unready, is, number_of, judged, judged_error, Call}
 use Rattle.program_streams.specs.declared.Told.{Told}
 use Rattle.program_streams.specs.declared.Told.TheVariants.{Bytes, Nothing, Again, Later, Failed}
 
@@ -38,19 +37,20 @@ module _ (e : Error) (number : ℤ) (x : number ≡ number_of e) (f : mag number
   unfolding judged_error
   told_failed a b = rw (← x, is_no interrupted number a, is_no unready number b)
 
-pub told_nothing : (n : ℕ) → n ≡ 0 → Nothing ≡ judged_count n
-unfolding judged_count
-told_nothing zero h = refl
-told_nothing (suc n) h = absurd (omega arith)
+pub told_nothing : (went : Result ℕ Error) (n : ℕ) → went ≡ Ok n → n ≡ 0 → Nothing ≡ judged went
+unfolding judged
+told_nothing (Ok zero) n e h = refl
+told_nothing (Ok (suc k)) n e h = absurd (cc)
+told_nothing (Err error) n e h = absurd (cc)
 
-pub told_bytes : (n : ℕ) → (n ≡ 0 → ⊥) → Bytes n ≡ judged_count n
-unfolding judged_count
-told_bytes zero h = absurd (h refl)
-told_bytes (suc n) h = refl
+pub told_bytes : (went : Result ℕ Error) (n : ℕ) → went ≡ Ok n → (n ≡ 0 → ⊥) → Bytes n ≡ judged went
+unfolding judged
+told_bytes went zero e h = absurd (h refl)
+told_bytes went (suc n) e h = rw e refl
 
 -- the bytes that a call moved are within what it was lent
 moved_within : (bytes : List ℕ) (n : ℕ) (went : Result ℕ Error) → WritesAtMost went bytes → Bytes n ≡ judged went → n ≤ length bytes
-unfolding judged judged_count judged_error
+unfolding judged judged_error
 moved_within bytes n (Ok zero) m h = absurd (cc)
 moved_within bytes n (Ok (suc k)) m h = let e : n ≡ suc k = cc in omega arith
 moved_within bytes n (Err error) m h = go (is interrupted (number_of error)) (is unready (number_of error)) h
@@ -60,9 +60,6 @@ moved_within bytes n (Err error) m h = go (is interrupted (number_of error)) (is
     go false true h = absurd (cc)
     go false false h = absurd (cc)
 
-pub call_within :
-    (bytes : List ℕ) (from n : ℕ) (r : Told) → from ≤ length bytes
-    → Call (take (length bytes - from) (drop from bytes)) r → r ≡ Bytes n → from + n ≤ length bytes
-call_within bytes from n r h k e =
-    let m : n ≤ length (take (length bytes - from) (drop from bytes)) = moved_within _ n k.went k.moved (sym e ∙ k.tells) in
-    omega (arith, part_rest_length bytes from)
+-- a call of bytes that moved n of them
+pub call_within : (bytes : List ℕ) (n : ℕ) {r : Told} → Call bytes r → r ≡ Bytes n → n ≤ length bytes
+call_within bytes n k e = moved_within bytes n k.went k.moved (sym e ∙ k.tells)

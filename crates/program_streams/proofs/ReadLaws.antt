@@ -1,15 +1,17 @@
 -- A reading, one answer after another.
 -- Assumes nothing.
-use Rattle.std.proofs.Common.{Bool, true, false, cond, ◌||◌, List, [], ◌∷◌, ◌++◌, append_assoc, append-nil, inl, inr, ◌≡◌, refl, ap, ap₂, sym, subst, ◌∙◌, ℕ, zero, suc, ◌+◌, ◌-◌, ◌≤◌, ◌<◌, arith, ℤ, length, take, drop, length-append, length-take-le, Result, Ok, Err}
+use Rattle.std.proofs.Common.{Bool, true, false, cond, ◌||◌, List, [], ◌∷◌, ◌++◌, append_assoc, append-nil, inl, inr, ◌≡◌, refl, ap, ap₂, sym, subst, ◌∙◌, ℕ, zero, suc, ◌+◌, ◌-◌, ◌≤◌, ◌<◌, arith, length, take, drop, length-append, length-take-le, Result, Ok, Err}
 use Rattle.std.proofs.lemmas.List.{take-append-le}
 use lib.Seq.{take-append-add}
 use borrow.Rule.Slice.PartMut.{put_mid, same_len_mid}
 use Rattle.std.specs.Io.{WritesAtMost}
 use Rattle.std.specs.declared.io.Error.{Error}
 use Rattle.common_laws.proofs.TextLists.{part_rest_length}
-use Rattle.program_streams.specs.Calls.{interrupted, unready, is, number_of, retried, judged, judged_count, judged_error, Call}
-use Rattle.program_streams.specs.Reading.{Answer, gave, failed, given, gathered, Standing, ended, broken, going, standing, Lent, outcome_of, most_reads, Marks, Gathered}
-use Rattle.program_streams.specs.declared.Got.{Got}
+use Rattle.program_streams.specs.Calls.{interrupted, unready, is, number_of, retried, judged, judged_error, Call}
+use Rattle.program_streams.specs.Reading.{Answer, gave, failed, given, gathered, Standing, ended, broken, going, standing, Lent, most_reads, Says, Gathered}
+use Rattle.program_streams.specs.declared.Outcome.{Outcome}
+use Rattle.program_streams.specs.declared.Outcome.TheVariants.{Full, Ended}
+use Rattle.program_streams.specs.declared.Outcome.TheVariants as outcome
 use Rattle.program_streams.specs.declared.Told.{Told}
 use Rattle.program_streams.specs.declared.Told.TheVariants.{Bytes, Nothing, Again, Later, Failed}
 
@@ -22,7 +24,7 @@ first_goes (gave []) rest h = h
 first_goes (gave (b ∷ piece)) rest h = refl
 first_goes (failed e) rest h = go (retried e) h
   where
-    go : (t : Bool) → cond t (standing rest) broken ≡ going → cond t going broken ≡ going
+    go : (t : Bool) → cond t (standing rest) (broken e) ≡ going → cond t going (broken e) ≡ going
     go true h = refl
     go false h = h
 
@@ -33,7 +35,7 @@ standing_on (gave []) rest h = cc
 standing_on (gave (b ∷ piece)) rest h = refl
 standing_on (failed e) rest h = go (retried e) h
   where
-    go : (t : Bool) → cond t going broken ≡ going → cond t (standing rest) broken ≡ standing rest
+    go : (t : Bool) → cond t going (broken e) ≡ going → cond t (standing rest) (broken e) ≡ standing rest
     go true h = refl
     go false h = cc
 
@@ -44,7 +46,7 @@ gathered_on (gave []) rest h = cc
 gathered_on (gave (b ∷ piece)) rest h = refl
 gathered_on (failed e) rest h = go (retried e) h
   where
-    go : (t : Bool) → cond t going broken ≡ going → cond t (gathered rest) [] ≡ gathered rest
+    go : (t : Bool) → cond t going (broken e) ≡ going → cond t (gathered rest) [] ≡ gathered rest
     go true h = refl
     go false h = cc
 
@@ -94,7 +96,7 @@ stands (Bytes n) = going
 stands Nothing = ended
 stands Again = going
 stands Later = going
-stands (Failed error) = broken
+stands (Failed error) = broken (number_of error)
 
 abbrev pub behind : ℕ → Told → ℕ
 behind end (Bytes n) = end + n
@@ -118,7 +120,7 @@ record Tells (room : List ℕ) (a : Answer) (end : ℕ) (r : Told) : Type 0 wher
 tells_of :
     (room : List ℕ) (end : ℕ) (went : Result ℕ Error) → WritesAtMost went room
     → Tells room (answered went room) end (judged went)
-unfolding answered retried judged judged_count judged_error given standing
+unfolding answered retried judged judged_error given standing
 tells_of room end (Ok zero) m = record { stand = refl; count = omega arith; front = refl; fits = omega arith }
 tells_of [] end (Ok (suc n)) m = absurd (omega arith)
 tells_of (b ∷ room) end (Ok (suc n)) m =
@@ -137,7 +139,7 @@ tells_of room end (Err error) m =
       fits = omega arith;
     }
   where
-    stand : (t u : Bool) → cond (t || u) going broken ≡ stands (cond t Again (cond u Later (Failed error)))
+    stand : (t u : Bool) → cond (t || u) going (broken (number_of error)) ≡ stands (cond t Again (cond u Later (Failed error)))
     stand true u = refl
     stand false true = refl
     stand false false = refl
@@ -147,20 +149,20 @@ tells_of room end (Err error) m =
     count false true = omega arith
     count false false = omega arith
 
--- A reading that stands so: what is in front of `end` is what its answers gave, and so many reads are left.
+-- A reading that stands so: what is in front of `end` is what its answers gave, after so many reads.
 pub record Reached (s : Standing) (into : List ℕ) (end reads : ℕ) : Type 0 where
   pub answers : List Answer
   pub handed : take end into ≡ gathered answers
   pub lent : Lent (length into) answers
   pub stands : standing answers ≡ s
-  pub counted : length answers + reads ≡ most_reads
+  pub counted : length answers ≡ reads
   pub within : end ≤ length into
 
 -- nothing read
-pub reached_none : (into : List ℕ) → Reached going into 0 most_reads
+pub reached_none : (into : List ℕ) → Reached going into 0 0
 unfolding Lent gathered standing
 reached_none into =
-    record { answers = []; handed = refl; lent = tt; stands = refl; counted = omega arith; within = omega arith }
+    record { answers = []; handed = refl; lent = tt; stands = refl; counted = refl; within = omega arith }
 
 -- a room whose part behind `end` was lent and came back
 abbrev pub with_room : List ℕ → ℕ → List ℕ → List ℕ
@@ -183,11 +185,11 @@ take_with into end room n g h = go (take end into) _ (length-take-le end into g)
 -- one read more, into that part
 module _
     (into : List ℕ) (end reads : ℕ) (room : List ℕ) (g : Reached going into end reads) (h : end < length into)
-    (l : length room ≡ length (take (length into - end) (drop end into))) (left : reads ≡ 0 → ⊥)
+    (l : length room ≡ length (take (length into - end) (drop end into)))
   where
     reached_more :
         (a : Answer) (r : Told) → Tells room a end r
-        → Reached (stands r) (with_room into end room) (behind end r) (reads - 1)
+        → Reached (stands r) (with_room into end room) (behind end r) (reads + 1)
     reached_more a r t =
         let m : length room ≡ length into - end = l ∙ part_rest_length into end in
         let n : length (gathered g.answers) ≡ end = ap length (sym g.handed) ∙ length-take-le end into g.within in
@@ -205,58 +207,58 @@ module _
               (sym s)
               (lent_more (length into) g.answers a g.stands g.lent (omega (arith, n)) (omega (arith, n, m, t.fits)));
           stands = standing_more g.answers a g.stands ∙ t.stand;
-          counted = omega (arith, g.counted, left, length-append g.answers (a ∷ []));
+          counted = omega (arith, g.counted, length-append g.answers (a ∷ []));
           within = omega (arith, t.count, t.fits, m, s);
         }
 
-    pub reached_next : (r : Told) → Call room r → Reached (stands r) (with_room into end room) (behind end r) (reads - 1)
+    pub reached_next : (r : Told) → Call room r → Reached (stands r) (with_room into end room) (behind end r) (reads + 1)
     reached_next r k =
         subst
-        (λ (t : Told). Reached (stands t) (with_room into end room) (behind end t) (reads - 1))
+        (λ (t : Told). Reached (stands t) (with_room into end room) (behind end t) (reads + 1))
         (sym k.tells)
         (reached_more _ _ (tells_of room end k.went k.moved))
 
     pub reached_told :
         (r t : Told) → Call room r → r ≡ t
-        → Reached (stands t) (with_room into end room) (behind end t) (reads - 1)
+        → Reached (stands t) (with_room into end room) (behind end t) (reads + 1)
     reached_told r t k e =
         subst
-        (λ (t : Told). Reached (stands t) (with_room into end room) (behind end t) (reads - 1))
+        (λ (t : Told). Reached (stands t) (with_room into end room) (behind end t) (reads + 1))
         e
         (reached_next r k)
 
 -- ---- a reading that is over
 
-module _ {s : Standing} (into : List ℕ) (end reads : ℕ) (g : Reached s into end reads) (r : Got) where
-  over :
-      (e f : Bool) (k : ℤ) → r ≡ outcome_of end e f k → Marks s (length g.answers) (length into) (outcome_of end e f k)
-      → Gathered into r
-  over e f k o m =
-      subst
-      (Gathered into)
-      (sym o)
-      (record {
-        answers = g.answers;
-        handed = g.handed;
-        lent = g.lent;
-        marks = rw g.stands m;
-        fits = (g.within, sym (length-take-le end into g.within));
-      })
+pub over :
+    {s : Standing} (into : List ℕ) (end reads : ℕ) (o : Outcome) → Reached s into end reads → Says o s reads end (length into)
+    → Gathered into (record { end = end; outcome = o })
+over into end reads o g m =
+    record {
+      answers = g.answers;
+      handed = g.handed;
+      lent = g.lent;
+      says = rw (g.stands, g.counted) m;
+      fits = (g.within, sym (length-take-le end into g.within));
+    }
 
 -- by the end of the input, by a failure, by the last of the reads, by a full room
-module _ (into : List ℕ) (end reads : ℕ) (r : Got) where
-  pub over_ended : Reached ended into end reads → (k : ℤ) → r ≡ outcome_of end true false k → Gathered into r
-  unfolding Marks
-  over_ended g k o = over into end reads g r true false k o (refl, refl)
+module _ (into : List ℕ) (end reads : ℕ) where
+  pub over_ended : Reached ended into end reads → Gathered into (record { end = end; outcome = Ended })
+  unfolding Says
+  over_ended g = over into end reads Ended g refl
 
-  pub over_failed : Reached broken into end reads → (k : ℤ) → r ≡ outcome_of end false true k → Gathered into r
-  unfolding Marks
-  over_failed g k o = over into end reads g r false true k o (refl, refl)
+  pub over_failed :
+      (e : Error) → Reached (broken (number_of e)) into end reads
+      → Gathered into (record { end = end; outcome = outcome.Failed e })
+  unfolding Says
+  over_failed e g = over into end reads (outcome.Failed e) g (inl refl)
 
-  pub over_spent : Reached going into end reads → reads ≡ 0 → (k : ℤ) → r ≡ outcome_of end false true k → Gathered into r
-  unfolding Marks
-  over_spent g h k o = over into end reads g r false true k o (refl, omega (arith, g.counted))
+  pub over_spent :
+      (e : Error) → Reached going into end reads → reads ≡ most_reads
+      → Gathered into (record { end = end; outcome = outcome.Failed e })
+  unfolding Says
+  over_spent e g h = over into end reads (outcome.Failed e) g (inr (refl, h))
 
-  pub over_full : Reached going into end reads → length into ≤ end → (k : ℤ) → r ≡ outcome_of end false false k → Gathered into r
-  unfolding Marks
-  over_full g h k o = over into end reads g r false false k o (refl, omega (arith, g.within))
+  pub over_full : Reached going into end reads → length into ≤ end → Gathered into (record { end = end; outcome = Full })
+  unfolding Says
+  over_full g h = over into end reads Full g (refl, omega (arith, g.within))

@@ -1,19 +1,15 @@
 -- What one call of read or write did, by its answer.
 -- Assumes nothing.
-use Rattle.std.specs.Prelude.{Bool, false, cond, ◌||◌, List, ◌≡◌, ℕ, zero, suc, eqb, ℤ, pos, negsuc, Option, None, Some, Result, Ok, Err}
+use Rattle.std.specs.Prelude.{Bool, false, cond, ◌||◌, List, ◌≡◌, ℕ, zero, suc, eqb, ℤ, pos, negsuc, unwrap_or, Result, Ok, Err}
 use Rattle.std.specs.Io.{WritesAtMost}
 use Rattle.std.specs.IoError.{raw_os_error}
 use Rattle.std.specs.declared.io.Error.{Error}
 use Rattle.program_streams.specs.declared.Told.{Told}
 use Rattle.program_streams.specs.declared.Told.TheVariants.{Bytes, Nothing, Again, Later, Failed}
 
-unfoldable pub number_or_zero : Option ℤ → ℤ
-number_or_zero (Some number) = number
-number_or_zero None = pos 0
-
 -- the operating system's number of an error, 0 where it has none
 unfoldable pub number_of : Error → ℤ
-number_of error = number_or_zero (raw_os_error error)
+number_of error = unwrap_or (raw_os_error error) (pos 0)
 
 -- EINTR: a signal came before a byte was moved
 abbrev pub interrupted : ℕ
@@ -36,14 +32,10 @@ retried error = is interrupted error || is unready error
 unfoldable pub judged_error : Error → Told
 judged_error error = cond (is interrupted (number_of error)) Again (cond (is unready (number_of error)) Later (Failed error))
 
--- what a call did that moved so many bytes: 0 alone is the end
-unfoldable pub judged_count : ℕ → Told
-judged_count zero = Nothing
-judged_count (suc n) = Bytes (suc n)
-
--- what a call of read or write did that went so
+-- what a call of read or write did that went so: 0 bytes alone are the end
 unfoldable pub judged : Result ℕ Error → Told
-judged (Ok got) = judged_count got
+judged (Ok zero) = Nothing
+judged (Ok (suc n)) = Bytes (suc n)
 judged (Err error) = judged_error error
 
 -- r tells of a call that was lent `bytes`. Of its answer nothing is promised but that it moved no more than their number.

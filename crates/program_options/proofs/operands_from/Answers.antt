@@ -1,11 +1,12 @@
+use Rattle.std.proofs.Common.{rules}
 use Rattle.program_options.proofs.ModeLaws.{operands_some, operands_others, operands_lack}
 use Rattle.program_options.proofs.operands_from.Goals as goal
 
-pub returns-then-least-operands : goal.returns-then-least-operands
-returns-then-least-operands c = operands_some _ _ _ _ c.if-first-count.true c.if-least-operands.true
+pub returns-in-Some : goal.returns-in-Some
+returns-in-Some c = operands_some _ _ _ _ c.in-Some.ensures.0 (rw (← c.in-Some.ensures.1) c.if-least-operands.true)
 
-pub returns-else-least-operands : goal.returns-else-least-operands
-returns-else-least-operands c = operands_others _ _ _ _ c.if-first-count.true c.if-least-operands.false
+pub returns-in_default : goal.returns-in_default
+returns-in_default c = operands_others _ _ _ _ c.in-Some.ensures.0 (rw (← c.in-Some.ensures.1) c.if-least-operands.false)
 
-pub returns-else-first-count : goal.returns-else-first-count
-returns-else-first-count c = operands_lack _ _ _ _ c.if-first-count.false
+pub returns-in_default-2 : goal.returns-in_default-2
+returns-in_default-2 c = operands_lack _ _ _ _ (search rules)

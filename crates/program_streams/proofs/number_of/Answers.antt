@@ -1,11 +1,11 @@
-use Rattle.std.proofs.Common.{rules, refl}
-use Rattle.program_streams.specs.Calls.{number_of, number_or_zero}
+use Rattle.std.proofs.Common.{rules, ap, ◌∙◌, ℤ, pos, w32}
+use Rattle.std.proofs.lemmas.Int.{to_z-of_z}
+use Rattle.std.specs.Prelude.{Option, unwrap_or}
+use Rattle.program_streams.specs.Calls.{number_of}
 use Rattle.program_streams.proofs.number_of.Goals as goal
 
-pub returns-in-Some : goal.returns-in-Some
-unfolding number_of number_or_zero
-returns-in-Some c = rw (← c.raw_os_error.ensures, c.in-Some.is) (search rules)
-
-pub returns-in-None : goal.returns-in-None
-unfolding number_of number_or_zero
-returns-in-None c = rw (← c.raw_os_error.ensures, c.in-None.is) refl
+pub returns : goal.returns
+unfolding number_of
+returns c =
+    to_z-of_z w32 c.unwrap_or.result (search rules) ∙ c.unwrap_or.ensures
+    ∙ ap (λ (o : Option ℤ). unwrap_or o (pos 0)) c.raw_os_error.ensures

@@ -3,8 +3,5 @@ use Rattle.program_streams.specs.Reading.{going}
 use Rattle.program_streams.proofs.ReadLaws.{Reached}
 use Rattle.program_streams.proofs.read_all.Given as goal
 
-abbrev pub invariant-loop-end : goal.invariant-loop-end
-invariant-loop-end g l = record { kept : length l.into ≡ length l.initial.into; reached : Reached going l.into l.end l.reads }
-
-abbrev pub decreases-loop-end : goal.decreases-loop-end
-decreases-loop-end g l = l.reads
+abbrev pub invariant-loop : goal.invariant-loop
+invariant-loop g l = record { kept : length l.into ≡ length l.initial.into; reached : Reached going l.into l.end l.counter }
