@@ -1,51 +1,36 @@
 // What is said on standard error of a line of the script: what is wrong with it, or why its call is refused.
-use program_lines::{NO_LINE_FEED, Session};
-use program_messages::{ROOM, say, say_number};
-use program_script::{NOT_A_LINE, OUT_OF_RANGE, PAST_LENT};
+use common_numbers::Refusal;
+use program_lines::Problem;
+use program_messages::Line;
 
 // How each explanation begins.
-fn say_line(text: &mut [u8], line: u64) -> usize {
-    let word = say(&mut *text, 0, b"simulate: script line ");
-    let next = say_number(&mut *text, word, line);
-    say(text, next, b": ")
+fn line_about(line: u64) -> Line {
+    let mut text = Line::new();
+    text.say(format_args!("simulate: script line {line}: "));
+    text
 }
 
-fn say_problem(text: &mut [u8], at: usize, problem: u8) -> usize {
+fn words_of(problem: Problem) -> &'static str {
     match problem {
-        NOT_A_LINE => say(text, at, b"not a line of a script"),
-        OUT_OF_RANGE => say(text, at, b"a number is out of its range"),
-        PAST_LENT => say(text, at, b"reaches past what is lent"),
-        NO_LINE_FEED => say(
-            text,
-            at,
-            b"lacks its line feed: the script may be cut short",
-        ),
-        _ => say(text, at, b"more than 4096 bytes"),
+        Problem::NotALine => "not a line of a script",
+        Problem::OutOfRange => "a number is out of its range",
+        Problem::PastLent => "reaches past what is lent",
+        Problem::TooManyBytes => "more than 4096 bytes",
+        Problem::NoLineFeed => "lacks its line feed: the script may be cut short",
     }
 }
 
-// A line's problem, if it has one.
-pub fn problem(rt: &HostRuntime, line: u64, problem: u8) {
-    if problem == 0 {
-        return;
-    }
-    let mut text = [0u8; ROOM];
-    let next = say_line(&mut text, line);
-    let told = say_problem(&mut text, next, problem);
-    program_streams::warn(rt, &mut text, told);
+// A line's problem.
+pub fn problem(rt: &HostRuntime, line: u64, problem: Problem) {
+    let mut text = line_about(line);
+    text.say(words_of(problem));
+    program_streams::warn(rt, text);
 }
 
-// Explains a call if it was refused. Its answer is written out before, so that the explanation comes after it if both go to one
-// file. A call answers no more than a number of a board that the script has overwritten, so that no line of the board can be
-// charged; lowest is the lowest master of that board that has no share line, which 20 names.
-pub fn call(rt: &HostRuntime, out: &[u8], session: Session, number: u32, lowest: u32) -> Session {
-    if number == 0 {
-        return session;
-    }
-    let next = program_lines::flush(rt, b"simulate", out, session);
-    let mut text = [0u8; ROOM];
-    let begun = say_line(&mut text, session.line);
-    let told = program_refusals::say_cause(&mut text, begun, number, lowest);
-    program_streams::warn(rt, &mut text, told);
-    next
+// Explains a refused call. It answers no more than a refusal of a board that the script has overwritten, so that no line of the board
+// can be charged; lowest is the lowest master of that board that has no share line, which 20 names.
+pub fn call(rt: &HostRuntime, line: u64, refusal: Refusal, lowest: u32) {
+    let mut text = line_about(line);
+    program_refusals::say_cause(&mut text, refusal, lowest);
+    program_streams::warn(rt, text);
 }

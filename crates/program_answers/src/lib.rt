@@ -4,5 +4,4 @@
 mod answers;
 mod explain;
 
-pub use answers::{answer, finish, put_clock, put_state};
-pub use explain::call;
+pub use answers::Console;

@@ -1,63 +1,43 @@
 // Bytes as pairs of hex digits.
-ghost use Rattle.std.specs.Prelude.{◌<◌, ◌≤◌};
-
-use common_text::Number;
-
-// What `digit_value` says of a byte that is no digit.
-const NO_DIGIT: u8 = 16;
+ghost use Rattle.std.specs.Prelude.{◌<◌, IfSome};
 
 // What a lower case hex digit counts.
-fn digit_value(c: u8) -> u8
-    ensures { result ≤ 16 }
+fn digit_value(c: u8) -> Option<u8>
+    ensures { IfSome result (λ d. d < 16) }
 {
-    if c < b'0' {
-        return NO_DIGIT;
+    match c {
+        b'0'..=b'9' => Some(c - b'0'),
+        b'a'..=b'f' => Some(c - b'a' + 10),
+        _ => None,
     }
-    if c <= b'9' {
-        return c - b'0';
-    }
-    if c < b'a' {
-        return NO_DIGIT;
-    }
-    if c <= b'f' {
-        return c - b'a' + 10;
-    }
-    NO_DIGIT
-}
-
-// Whether every byte of a field is a hex digit.
-fn all_digits(field: &[u8]) -> bool {
-    let mut i = 0;
-    while i < field.len() {
-        if digit_value(field[i]) == NO_DIGIT {
-            return false;
-        }
-        i += 1;
-    }
-    true
 }
 
 // The count of bytes that a field spells: `-` has none, any other field spells at least one.
-pub fn byte_count(field: &[u8]) -> Number {
-    let n = field.len();
-    if common_text::same(field, b"-") {
-        return Number::Value(0);
+pub fn byte_count(field: &[u8]) -> Option<u64> {
+    match field {
+        [] => None,
+        b"-" => Some(0),
+        _ => {
+            let paired = field.len() % 2 == 0;
+            let spells = paired && field.iter().all(|c| digit_value(*c).is_some());
+            spells.then_some((field.len() / 2) as u64)
+        }
     }
-    if (0 < n) & (n % 2 == 0) & all_digits(field) {
-        return Number::Value((n / 2) as u64);
-    }
-    Number::Malformed
+}
+
+// The same, and 0 for a byte that is no digit.
+fn digit_or_zero(c: u8) -> u8
+    ensures { result < 16 }
+{
+    digit_value(c).unwrap_or(0)
 }
 
 // Puts the bytes that a field spells into out, as many as both have.
 pub fn decode(field: &[u8], out: &mut [u8]) {
-    let mut i = 0;
-    while i < out.len() {
-        if field.len() / 2 <= i {
-            return;
+    for (byte, pair) in out.iter_mut().zip(field.chunks_exact(2)) {
+        if let [high, low] = pair {
+            *byte = digit_or_zero(*high) * 16 + digit_or_zero(*low);
         }
-        out[i] = digit_value(field[2 * i]) % 16 * 16 + digit_value(field[2 * i + 1]) % 16;
-        i += 1;
     }
 }
 

@@ -1,136 +1,144 @@
 // Reads the text. What is held of it is the input, which has room for the longest line that says something.
-ghost use Rattle.std.specs.Prelude.{◌≡◌, ◌+◌, ◌≤◌, true, false, length};
+ghost use Rattle.std.specs.Prelude.{◌≡◌, ◌≢◌, ◌+◌, ◌≤◌, true, None};
+ghost use Rattle.program_streams.specs.declared.Outcome.TheVariants as Outcome;
+ghost use Rattle.program_streams.specs.Reading.{IsFailed};
+ghost use Rattle.program_lines.specs.declared.input.Next.TheVariants.{Line, Over};
 
-use crate::{NO_LINE_FEED, ROOM, Session, output};
-use program_streams::Got;
+use crate::{Printer, Problem};
+use program_streams::{Got, Outcome};
 
-// Moves n bytes from `from` on to the front.
-fn keep(input: &mut [u8], from: usize, n: usize)
-    requires { from + n ≤ length input.old }
-{
-    let mut i = 0;
-    while i < n {
-        input[i] = input[from + i];
-        i += 1;
-    }
+// The room to read a text into. The longest line of a script is a fill of all the memory: two digits for each byte that can be
+// lent of it after `fill,memory,0,`. A line that fills all of the room says nothing that could be done.
+const INPUT: usize = 131200;
+
+// What the text has next: a line; more that is to be read, so that it is asked for again; or nothing, and the problem of what
+// stands after the last line feed.
+#[derive(Clone, Copy)]
+pub enum Next {
+    Line,
+    Unread,
+    Over(Option<Problem>),
 }
 
-// The text has ended, and n bytes stand after its last line feed: a line that lacks its own, and may be cut short. It is not found,
-// so that it is not obeyed, and that is its problem.
-fn text_end(session: Session, n: usize) -> Session
-    ensures { result.found ≡ false }
-{
-    let mut last = session;
-    last.found = false;
-    last.over = true;
-    last.line = session.line.wrapping_add(1);
-    if n == 0 {
-        return last;
-    }
-    last.problem = NO_LINE_FEED;
-    last
-}
-
-// One line fills the input, n bytes, and no byte more finds room: the last line, since it says nothing that could be done.
-fn full_line(session: Session, n: usize) -> Session {
-    let mut next = session;
-    next.found = true;
-    next.start = 0;
-    next.stop = n;
-    next.over = true;
-    next.line = session.line.wrapping_add(1);
-    next
-}
-
-// After a read into the input from `kept` on: the bytes before are an unfinished line, and `end` is where the bytes end now. A
-// text that cannot be read has no further line, and the unfinished one is none if the text has ended.
-fn after_read(
-    rt: &HostRuntime,
-    program: &[u8],
-    session: Session,
-    got: Got,
-    kept: usize,
-    end: usize,
-) -> Session
-    ensures { (got.failed ≡ true → (result.found ≡ false) × (result.over ≡ true)) × (got.ended ≡ true → result.found ≡ false) }
-{
-    let mut next = session;
-    next.from = 0;
-    next.end = end;
-    next.ended = got.ended;
-    next.found = false;
-    if got.failed {
-        program_streams::report(rt, program, b"standard input", got.cause);
-        next.over = true;
-        return next;
-    }
-    if end == kept {
-        if got.ended {
-            return text_end(next, kept);
-        }
-        return full_line(next, kept);
-    }
-    next
-}
-
-// Keeps an unfinished line, from `from` to `end`, and reads after it until the input is full or the text ends. If it has ended, there
-// is no further line. What has gathered is written out before, so that a read that fails is reported after it.
-fn read_more(
-    rt: &HostRuntime,
-    program: &[u8],
-    input: &mut [u8],
-    out: &[u8; ROOM],
-    session: Session,
+// How far a program has come with the text.
+#[derive(Drop)]
+pub struct Reader {
+    // What is read of the text and not found yet stands in the input from `from` to `end`.
+    input: [u8; INPUT],
     from: usize,
     end: usize,
-) -> Session
-    requires { (from ≤ end) × (end ≤ length input.old) }
-    ensures { session.ended ≡ true → result.found ≡ false }
-{
-    let kept = end - from;
-    keep(&mut *input, from, kept);
-    if session.ended {
-        return text_end(session, kept);
-    }
-    let mut written = output::flush(rt, program, out, session);
-    if written.over {
-        written.found = false;
-        return written;
-    }
-    let got = program_streams::read_all(rt, &mut rt.stdin(), &mut input[kept..]);
-    after_read(rt, program, written, got, kept, kept + got.end)
+    // The line that was found last stands there from `start` to `stop`, up to the next read.
+    start: usize,
+    stop: usize,
+    // The text ends, or it goes on with a line that is too long: no read is made after it.
+    ended: bool,
+    // The number of the line that was found last; of what the text ends in, once that is found.
+    pub number: u64,
+    ghost unfound: { (from ≤ end) × (end ≤ 131200) },
+    ghost found: { (start ≤ stop) × (stop ≤ 131200) },
 }
 
-// The line that was found.
-pub fn line_of(input: &[u8], session: Session) -> &[u8] {
-    let stop = crate::bounded(session.stop, input);
-    let piece = &input[..stop];
-    let start = crate::bounded(session.start, piece);
-    &piece[start..]
-}
-
-// Finds the next line in what is read, or reads more; a read or a write that fails is reported in the program's name. The number
-// of a text's lines is far below 2 ^ 64.
-pub fn next_line(
-    rt: &HostRuntime,
-    program: &[u8],
-    input: &mut [u8],
-    out: &[u8; ROOM],
-    session: Session,
-) -> Session {
-    let end = crate::bounded(session.end, &*input);
-    let piece = &input[..end];
-    let from = crate::bounded(session.from, piece);
-    let rest = &piece[from..];
-    let e = crate::piece_end(rest, b'\n');
-    if e < rest.len() {
-        let mut next = session;
-        next.found = true;
-        next.start = from;
-        next.stop = from + e;
-        next.from = from + e + 1;
-        next.line = session.line.wrapping_add(1);
-        return next;
+impl Reader {
+    // Nothing is read.
+    pub fn new() -> Reader {
+        Reader {
+            input: [0; INPUT],
+            from: 0,
+            end: 0,
+            start: 0,
+            stop: 0,
+            ended: false,
+            number: 0,
+        }
     }
-    read_more(rt, program, input, out, session, from, end)
+
+    // The line that was found last.
+    pub fn line(&self) -> &[u8] {
+        &self.input[self.start..self.stop]
+    }
+
+    // One line more. The number of a text's lines is far below 2 ^ 64.
+    fn count_line(&mut self) {
+        self.number = self.number.wrapping_add(1);
+    }
+
+    // The text has ended, and n bytes stand after its last line feed: a line that lacks its own, and may be cut short. It is not
+    // found, so that it is not obeyed, and that is its problem.
+    fn text_end(&mut self, n: usize) -> Next
+        ensures { result ≢ Line }
+    {
+        self.count_line();
+        if n == 0 {
+            return Next::Over(None);
+        }
+        Next::Over(Some(Problem::NoLineFeed))
+    }
+
+    // One line fills the input, and no byte more finds room: the last line, since it says nothing that could be done.
+    fn full_line(&mut self) -> Next {
+        self.start = 0;
+        self.stop = self.end;
+        self.from = self.end;
+        self.ended = true;
+        self.count_line();
+        Next::Line
+    }
+
+    // After a read into the input from `kept` on: the bytes before are an unfinished line. A text that cannot be read has no
+    // further line, and the unfinished one is none if the text has ended.
+    fn after_read(&mut self, printer: &Printer, got: Got, kept: usize) -> Next
+        requires { kept + got.end ≤ 131200 }
+        ensures failed { IsFailed got.outcome → result ≡ Over None }
+        ensures ended { got.outcome ≡ Outcome.Ended → result ≢ Line }
+    {
+        self.from = 0;
+        self.end = kept + got.end;
+        self.ended = matches!(got.outcome, Outcome::Ended);
+        match got.outcome {
+            Outcome::Failed(error) => {
+                program_streams::report(printer.rt, printer.program, b"standard input", &error);
+                Next::Over(None)
+            }
+            _ if 0 < got.end => Next::Unread,
+            Outcome::Ended => self.text_end(kept),
+            Outcome::Full => self.full_line(),
+        }
+    }
+
+    // Keeps what is not found yet as an unfinished line, and reads after it until the input is full or the text ends. If it has
+    // ended, there is no further line. What has gathered is written out before, so that a read that fails is reported after it.
+    fn read_more(&mut self, printer: &mut Printer) -> Next
+        ensures { self.old.ended ≡ true → result ≢ Line }
+    {
+        let from = self.from;
+        let end = self.end;
+        let kept = end - from;
+        self.input.copy_within(from..end, 0);
+        if self.ended {
+            return self.text_end(kept);
+        }
+        printer.flush();
+        if printer.is_broken() {
+            return Next::Over(None);
+        }
+        let rt = printer.rt;
+        let room = &mut self.input[..];
+        let got = program_streams::read_all(rt, &mut rt.stdin(), &mut room[kept..]);
+        self.after_read(printer, got, kept)
+    }
+
+    // Finds the next line in what is read, or reads more; a read or a write that fails is reported in the program's name.
+    pub fn next_line(&mut self, printer: &mut Printer) -> Next {
+        let from = self.from;
+        let end = self.end;
+        let found = self.input[from..end].iter().position(|b| *b == b'\n');
+        let Some(length) = found else {
+            return self.read_more(printer);
+        };
+        self.start = from;
+        self.stop = from + length;
+        self.from = from + length + 1;
+        self.count_line();
+        Next::Line
+    }
 }

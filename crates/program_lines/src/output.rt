@@ -1,99 +1,87 @@
 // What is printed. It gathers in a buffer, which is written out when full, before a read, and at the end.
-ghost use Rattle.std.specs.Prelude.{◌≡◌, ◌+◌, ◌*◌, ◌<◌, ◌≤◌, length};
+ghost use Rattle.std.specs.Prelude.{◌≡◌, ◌+◌, ◌*◌, ◌<◌, ◌≤◌, true, length};
 
-use crate::{Session, hex};
+use crate::hex;
 
 // The length of the buffer.
-pub const ROOM: usize = 65536;
+const ROOM: usize = 65536;
 
-// Writes out what has gathered. If nothing can be printed any more, which is reported in the program's name, the session ends.
-pub fn flush(rt: &HostRuntime, program: &[u8], out: &[u8], session: Session) -> Session
-    ensures { result.filled ≡ 0 }
-{
-    let n = crate::bounded(session.filled, out);
-    let mut next = session;
-    next.filled = 0;
-    if session.broken {
-        return next;
-    }
-    if program_options::print(rt, program, &out[..n]) {
-        return next;
-    }
-    next.broken = true;
-    next.over = true;
-    next
+// The output of a program that has this name: what has gathered, and whether a write failed, from when on nothing more is written.
+#[derive(Drop)]
+pub struct Printer<'a> {
+    pub rt: &'a HostRuntime,
+    pub program: &'a [u8],
+    bytes: [u8; ROOM],
+    filled: usize,
+    broken: bool,
+    ghost within: { filled ≤ 65536 },
 }
 
-// Makes room for n bytes more.
-fn with_room(rt: &HostRuntime, program: &[u8], out: &[u8], session: Session, n: usize) -> Session
-    requires { n ≤ length out.now }
-    ensures { result.filled + n ≤ length out.now }
-{
-    if session.filled <= out.len() {
-        if n <= out.len() - session.filled {
-            return session;
+impl Printer<'_> {
+    // Nothing has gathered.
+    pub fn new<'a>(rt: &'a HostRuntime, program: &'a [u8]) -> Printer<'a> {
+        Printer {
+            rt,
+            program,
+            bytes: [0; ROOM],
+            filled: 0,
+            broken: false,
         }
     }
-    flush(rt, program, out, session)
-}
 
-// Prints a word and numbers, parted by commas, and a line feed. A number of 64 bits has at most 20 digits.
-pub fn put_line(
-    rt: &HostRuntime,
-    program: &[u8],
-    out: &mut [u8; ROOM],
-    session: Session,
-    word: &[u8],
-    numbers: &[u64],
-) -> Session
-    requires { length word.now + 21 * length numbers.now < 1000 }
-{
-    let most = word.len() + 21 * numbers.len() + 1;
-    let mut next = with_room(rt, program, &*out, session, most);
-    next.filled = common_text::put_line(&mut *out, next.filled, word, numbers);
-    next
-}
-
-// Prints one byte in hex.
-fn put_byte(
-    rt: &HostRuntime,
-    program: &[u8],
-    out: &mut [u8; ROOM],
-    session: Session,
-    b: u8,
-) -> Session {
-    let mut next = with_room(rt, program, &*out, session, 2);
-    let at = next.filled;
-    out[at] = hex::glyph(b / 16);
-    out[at + 1] = hex::glyph(b % 16);
-    next.filled = at + 2;
-    next
-}
-
-fn put_bytes(
-    rt: &HostRuntime,
-    program: &[u8],
-    out: &mut [u8; ROOM],
-    session: Session,
-    bytes: &[u8],
-) -> Session {
-    let mut next = session;
-    let mut i = 0;
-    while i < bytes.len() {
-        next = put_byte(rt, program, &mut *out, next, bytes[i]);
-        i += 1;
+    // Whether nothing can be printed any more.
+    pub fn is_broken(&self) -> bool
+        ensures { result ≡ self.now.broken }
+    {
+        self.broken
     }
-    next
-}
 
-// Prints bytes in hex, in their order, and a line feed.
-pub fn put_hex(
-    rt: &HostRuntime,
-    program: &[u8],
-    out: &mut [u8; ROOM],
-    session: Session,
-    bytes: &[u8],
-) -> Session {
-    let next = put_bytes(rt, program, &mut *out, session, bytes);
-    put_line(rt, program, out, next, b"", &[])
+    // Writes out what has gathered. If nothing can be printed any more, that is reported in the program's name.
+    pub fn flush(&mut self)
+        ensures { (self.new.filled ≡ 0) × (self.old.broken ≡ true → self.new.broken ≡ true) }
+    {
+        let n = self.filled;
+        self.filled = 0;
+        if self.broken {
+            return;
+        }
+        self.broken = !program_options::print(self.rt, self.program, &self.bytes[..n]);
+    }
+
+    // Makes room for n bytes more.
+    fn make_room(&mut self, n: usize)
+        requires { n ≤ 65536 }
+        ensures { self.new.filled + n ≤ 65536 }
+    {
+        if ROOM - self.filled < n {
+            self.flush();
+        }
+    }
+
+    // Prints a word and numbers, parted by commas, and a line feed. A number of 64 bits has at most 20 digits.
+    pub fn put_line(&mut self, word: &[u8], numbers: &[u64])
+        requires { length word.now + 21 * length numbers.now < 1000 }
+    {
+        let most = word.len() + 21 * numbers.len() + 1;
+        self.make_room(most);
+        let at = self.filled;
+        self.filled = common_text::put_line(&mut self.bytes, at, word, numbers);
+    }
+
+    // Prints one byte in hex.
+    fn put_byte(&mut self, b: u8) {
+        self.make_room(2);
+        let at = self.filled;
+        self.bytes[at] = hex::glyph(b / 16);
+        self.bytes[at + 1] = hex::glyph(b % 16);
+        self.filled = at + 2;
+    }
+
+    // Prints bytes in hex, in their order, and a line feed.
+    pub fn put_hex(&mut self, bytes: &[u8]) {
+        for b in bytes {
+            self.put_byte(*b);
+        }
+        self.put_line(b"", &[]);
+    }
 }

@@ -1,13 +1,13 @@
 // How much of the memory and of the buffer is lent.
-ghost use Rattle.std.specs.Prelude.{◌≤◌};
+ghost use Rattle.std.specs.Prelude.{◌≡◌, ◌≤◌, length};
 
-use crate::command;
-use crate::command::Command;
+use crate::Command;
 use common_numbers::{BUFFER_BYTES, MEMORY_BYTES};
+use program_lines::Problem;
 
 // How many bytes over its exact length the memory or the buffer can be lent, so that a script sees refusal 8; and the most that
 // is ever lent of each.
-pub const BYTES_OVER: usize = 8;
+const BYTES_OVER: usize = 8;
 
 pub const MEMORY_ROOM: usize = MEMORY_BYTES as usize + BYTES_OVER;
 
@@ -16,67 +16,110 @@ pub const BUFFER_ROOM: usize = BUFFER_BYTES + BYTES_OVER;
 // The most that can be lent of the memory, and what is lent of it and of the buffer.
 #[derive(Clone, Copy)]
 pub struct Lending {
-    pub memory_most: usize,
-    pub memory_lent: usize,
-    pub buffer_lent: usize,
+    memory_most: usize,
+    memory_lent: usize,
+    buffer_lent: usize,
+    ghost memory_within: { (memory_lent ≤ memory_most) × (memory_most ≤ 65544) },
+    ghost buffer_within: { buffer_lent ≤ 4104 },
 }
 
-// Before the first line, with a memory of so many bytes.
-pub fn first_lending(memory: usize) -> Lending
-    requires { memory ≤ 65536 }
-{
-    Lending {
-        memory_most: memory + BYTES_OVER,
-        memory_lent: memory,
-        buffer_lent: BUFFER_BYTES,
-    }
-}
-
-// Copies as many bytes as both have.
-fn copy(from: &[u8], to: &mut [u8]) {
-    let mut i = 0;
-    while i < to.len() {
-        if from.len() <= i {
-            return;
+impl Lending {
+    // Before the first line, with a memory of so many bytes.
+    pub fn new(memory: usize) -> Lending
+        requires { memory ≤ 65536 }
+    {
+        Lending {
+            memory_most: memory + BYTES_OVER,
+            memory_lent: memory,
+            buffer_lent: BUFFER_BYTES,
         }
-        to[i] = from[i];
-        i += 1;
     }
-}
 
-// One of two stores; of memory and buffer a line names the first by 0.
-pub fn either<'a>(first: bool, one: &'a mut [u8], other: &'a mut [u8]) -> &'a mut [u8] {
-    if first {
-        return one;
+    // What is lent of the memory.
+    pub fn memory<'a>(&self, memory: &'a mut [u8; MEMORY_ROOM]) -> &'a mut [u8]
+        ensures { length result.now ≡ self.now.memory_lent }
+    {
+        &mut memory[..self.memory_lent]
     }
-    other
-}
 
-// Whether the memory (0) or the buffer can be lent up to the length that a line asks for: at most BYTES_OVER bytes over the exact
-// one.
-pub fn can_lend(lending: Lending, c: Command) -> bool {
-    let length = command::value_at(c, 1) as usize;
-    if command::value_at(c, 0) == 0 {
-        return length <= lending.memory_most;
+    // What is lent of the buffer. The masters' words are lent from an array of the exact length, and a longer length from one that
+    // has room for it.
+    pub fn buffer<'a>(
+        &self,
+        words: &'a mut [u8; BUFFER_BYTES],
+        longer: &'a mut [u8; BUFFER_ROOM],
+    ) -> &'a mut [u8]
+        ensures { length result.now ≡ self.now.buffer_lent }
+    {
+        let n = self.buffer_lent;
+        if n <= BUFFER_BYTES {
+            &mut words[..n]
+        } else {
+            &mut longer[..n]
+        }
     }
-    length <= BUFFER_ROOM
-}
 
-// The memory (0) or the buffer is lent up to a length that it can be lent up to. The masters' words are lent from an array of the
-// exact length, and a longer length from one that has room for it. The one that was lent is copied to the other, whichever is lent
-// from now on; the bytes after the words keep their values in the longer one.
-pub fn lend(lending: Lending, c: Command, words: &mut [u8], longer: &mut [u8]) -> Lending {
-    let length = command::value_at(c, 1) as usize;
-    let mut next = lending;
-    if command::value_at(c, 0) == 0 {
-        next.memory_lent = length;
-        return next;
+    // What is lent of the store that a line names.
+    fn store<'a>(
+        &self,
+        c: &Command,
+        memory: &'a mut [u8; MEMORY_ROOM],
+        words: &'a mut [u8; BUFFER_BYTES],
+        longer: &'a mut [u8; BUFFER_ROOM],
+    ) -> &'a mut [u8] {
+        if c.names_memory() {
+            self.memory(memory)
+        } else {
+            self.buffer(words, longer)
+        }
     }
-    next.buffer_lent = length;
-    if lending.buffer_lent <= BUFFER_BYTES {
-        copy(&*words, longer);
-        return next;
+
+    // The bytes of it from where the line says, as many as it says.
+    pub fn part<'a>(
+        &self,
+        c: &Command,
+        memory: &'a mut [u8; MEMORY_ROOM],
+        words: &'a mut [u8; BUFFER_BYTES],
+        longer: &'a mut [u8; BUFFER_ROOM],
+    ) -> Result<&'a mut [u8], Problem> {
+        let start = c.value_at(1) as usize;
+        let n = c.value_at(2) as usize;
+        let lent = self.store(c, memory, words, longer);
+        if lent.len() < start || lent.len() - start < n {
+            return Err(Problem::PastLent);
+        }
+        Ok(&mut lent[start..start + n])
     }
-    copy(&*longer, words);
-    next
+
+    // A line lends the memory or the buffer up to a length, at most BYTES_OVER bytes over the exact one. The array that the words
+    // were lent from is copied to the other, whichever is lent from now on; the bytes after the words keep their values in the
+    // longer one.
+    pub fn lend(
+        &mut self,
+        c: &Command,
+        words: &mut [u8; BUFFER_BYTES],
+        longer: &mut [u8; BUFFER_ROOM],
+    ) -> Result<(), Problem> {
+        let length = c.value_at(1) as usize;
+        let in_memory = c.names_memory();
+        let most = if in_memory {
+            self.memory_most
+        } else {
+            BUFFER_ROOM
+        };
+        if most < length {
+            return Err(Problem::OutOfRange);
+        }
+        if in_memory {
+            self.memory_lent = length;
+            return Ok(());
+        }
+        if self.buffer_lent <= BUFFER_BYTES {
+            longer[..BUFFER_BYTES].copy_from_slice(words);
+        } else {
+            words.copy_from_slice(&longer[..BUFFER_BYTES]);
+        }
+        self.buffer_lent = length;
+        Ok(())
+    }
 }

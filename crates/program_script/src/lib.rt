@@ -6,12 +6,6 @@ mod command;
 mod lending;
 mod overwriting;
 
-pub use command::{
-    CLOCK, COUNT, Command, DEFAULT, ENTRY, FIELD_COUNT, FILL, INPUT, LEND, LOG, MASTER, NOT_A_LINE,
-    OUT_OF_RANGE, PAST_LENT, POST, RESET, SHARE, SHOW, SLAVE, SLOT, STATE, TAKE, TRANSFER, WAIT,
-    last_field, number_at, parse, value_at,
-};
-pub use lending::{
-    BUFFER_ROOM, BYTES_OVER, Lending, MEMORY_ROOM, can_lend, either, first_lending, lend,
-};
+pub use command::{Command, FIELD_COUNT, Kind, Part, parse};
+pub use lending::{BUFFER_ROOM, Lending, MEMORY_ROOM};
 pub use overwriting::overwrite;

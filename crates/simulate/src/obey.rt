@@ -1,340 +1,203 @@
 // What each line of a script does.
-ghost use Rattle.std.specs.Prelude.{◌<◌};
+ghost use Rattle.std.specs.Prelude.{◌<◌, length};
 
-use crate::world;
-use crate::world::Progress;
-use common_numbers::{BOARD_NUMBERS, BUFFER_BYTES, LINES_NUMBERS, MASTERS, STATE_NUMBERS};
-use program_lines::{ROOM, Session};
-use program_script::{BUFFER_ROOM, Command, INPUT, MEMORY_ROOM};
+use common_numbers::{
+    BOARD_NUMBERS, BUFFER_BYTES, LINES_NUMBERS, MASTERS, MEMORY_BYTES, Refusal, STATE_NUMBERS,
+    number_in,
+};
+use fabric_state::NO_ENTRY;
+use program_answers::Console;
+use program_lines::{Next, Problem, Reader};
+use program_script::{BUFFER_ROOM, Command, Kind, Lending, MEMORY_ROOM};
+use wait_turns::Quote;
 
-// A refused reset leaves the state as it was.
-fn obey_reset(
-    rt: &HostRuntime,
-    board: &[u32; BOARD_NUMBERS],
-    state: &mut [u32; STATE_NUMBERS],
-    session: Session,
-    out: &mut [u8; ROOM],
-) -> Session {
-    let number = fabric::reset(board, state);
-    let lowest = description_rules::without_share(board);
-    program_answers::answer(rt, out, session, b"reset", number, lowest)
+// What a script acts on: the board, which it can overwrite, and its text, the state, and what is lent to the calls. The memory has
+// the bytes that spans total at most, and some more, so that a length over the exact one can be lent. Of the buffer, the words are
+// lent, which have the exact length, and a longer length from `longer`: see Lending.
+#[derive(Drop)]
+struct Simulator<'a> {
+    text: &'a [u8],
+    board: &'a mut [u32; BOARD_NUMBERS],
+    state: [u32; STATE_NUMBERS],
+    lending: Lending,
+    memory: [u8; MEMORY_ROOM],
+    words: &'a mut [u8; BUFFER_BYTES],
+    longer: [u8; BUFFER_ROOM],
 }
 
-// A post's bytes are the line's last field.
-fn obey_post(
-    rt: &HostRuntime,
-    board: &[u32; BOARD_NUMBERS],
-    state: &mut [u32; STATE_NUMBERS],
-    session: Session,
-    c: Command,
-    line: &[u8],
-    buffer: &mut [u8],
-    out: &mut [u8; ROOM],
-) -> Session {
-    let mut bytes = [0u8; BUFFER_BYTES];
-    program_lines::decode(program_script::last_field(line, c.last), &mut bytes);
-    let end = program_lines::bounded(program_script::value_at(c, 5) as usize, &bytes);
-    let master = program_script::number_at(c, 0);
-    let write = program_script::value_at(c, 1) == 1;
-    let address = program_script::number_at(c, 2);
-    let lanes = program_script::number_at(c, 3);
-    let beats = program_script::number_at(c, 4);
-    let number = fabric::post(
-        board,
-        state,
-        buffer,
-        master,
-        write,
-        address,
-        lanes,
-        beats,
-        &bytes[..end],
-    );
-    let lowest = description_rules::without_share(board);
-    program_answers::answer(rt, out, session, b"post", number, lowest)
-}
-
-// How many clocks are left after one: none if its answer could not be printed.
-fn left_after(left: u64, broken: bool) -> u64
-    requires { 0 < left }
-    ensures { result < left }
-{
-    if broken {
-        return 0;
+impl Simulator<'_> {
+    // Prints what a call answered; a refusal is explained with the board's lowest master that has no share line.
+    fn answer(&self, console: &mut Console, word: &[u8], answer: Result<(), Refusal>)
+        requires { length word.now < 900 }
+    {
+        let lowest = description_rules::without_share(&*self.board);
+        console.answer(word, answer, lowest);
     }
-    left - 1
-}
 
-// A clock whose answer is printed: its number, and the session after it.
-#[derive(Clone, Copy)]
-pub struct Clocked {
-    pub number: u32,
-    pub session: Session,
-}
-
-// One clock, with its answer.
-fn clock_once(
-    rt: &HostRuntime,
-    board: &[u32; BOARD_NUMBERS],
-    state: &mut [u32; STATE_NUMBERS],
-    session: Session,
-    memory: &mut [u8],
-    buffer: &mut [u8],
-    out: &mut [u8; ROOM],
-) -> Clocked {
-    let mut lines = [0u32; LINES_NUMBERS];
-    let mut responses = [0u32; MASTERS];
-    let c = fabric::clock(board, state, memory, buffer, &mut lines, &mut responses);
-    let number = c.number;
-    let slaves = description_layout::slave_count(board);
-    let printed = program_answers::put_clock(
-        rt, out, session, number, c.mask, &lines, slaves, &responses,
-    );
-    Clocked {
-        number: number,
-        session: printed,
+    // A refused reset leaves the state as it was.
+    fn reset(&mut self, console: &mut Console) {
+        let answer = fabric::reset(&*self.board, &mut self.state);
+        self.answer(console, b"reset", answer);
     }
-}
 
-// `count` clocks, each with its answer. A refused clock changes nothing, so that those after it are refused alike: the last
-// one's number explains them all.
-fn obey_clock(
-    rt: &HostRuntime,
-    board: &[u32; BOARD_NUMBERS],
-    state: &mut [u32; STATE_NUMBERS],
-    session: Session,
-    count: u64,
-    memory: &mut [u8],
-    buffer: &mut [u8],
-    out: &mut [u8; ROOM],
-) -> Session {
-    let mut next = session;
-    let mut number: u32 = 0;
-    let mut left = count;
-    while 0 < left {
-        let c = clock_once(
-            rt,
-            board,
-            &mut *state,
-            next,
-            &mut *memory,
-            &mut *buffer,
-            &mut *out,
+    // A post's bytes are the line's last field.
+    fn post(&mut self, console: &mut Console, c: &Command) {
+        let mut bytes = [0; BUFFER_BYTES];
+        program_lines::decode(c.last, &mut bytes);
+        let end = BUFFER_BYTES.min(c.value_at(5) as usize);
+        let write = c.value_at(1) == 1;
+        let answer = fabric::post(
+            &*self.board,
+            &mut self.state,
+            self.lending.buffer(&mut *self.words, &mut self.longer),
+            c.number_at(0),
+            write,
+            c.number_at(2),
+            c.number_at(3),
+            c.number_at(4),
+            &bytes[..end],
         );
-        number = c.number;
-        next = c.session;
-        left = left_after(left, next.broken);
+        self.answer(console, b"post", answer);
     }
-    let lowest = description_rules::without_share(board);
-    program_answers::call(rt, &*out, next, number, lowest)
-}
 
-// A mark as it is printed.
-fn mark_of(b: bool) -> u64 {
-    if b { 1 } else { 0 }
-}
-
-// The oldest entry of the log, taken out of it; of a refused take zeros are printed.
-fn obey_take(
-    rt: &HostRuntime,
-    board: &[u32; BOARD_NUMBERS],
-    state: &mut [u32; STATE_NUMBERS],
-    session: Session,
-    out: &mut [u8; ROOM],
-) -> Session {
-    let t = fabric::take(board, state);
-    let number = t.number;
-    let numbers = [
-        number as u64,
-        t.master as u64,
-        t.address as u64,
-        mark_of(t.write),
-    ];
-    let printed = program_lines::put_line(rt, b"simulate", &mut *out, session, b"take", &numbers);
-    let lowest = description_rules::without_share(board);
-    program_answers::call(rt, &*out, printed, number, lowest)
-}
-
-// The lines that call the fabric.
-fn obey_call(
-    rt: &HostRuntime,
-    board: &[u32; BOARD_NUMBERS],
-    state: &mut [u32; STATE_NUMBERS],
-    session: Session,
-    c: Command,
-    line: &[u8],
-    memory: &mut [u8],
-    buffer: &mut [u8],
-    out: &mut [u8; ROOM],
-) -> Session {
-    if c.kind == program_script::RESET {
-        return obey_reset(rt, board, state, session, out);
-    }
-    if c.kind == program_script::POST {
-        return obey_post(rt, board, state, session, c, line, buffer, out);
-    }
-    if c.kind == program_script::CLOCK {
-        let count = program_script::value_at(c, 0);
-        return obey_clock(rt, board, state, session, count, memory, buffer, out);
-    }
-    obey_take(rt, board, state, session, out)
-}
-
-// The wait is that of the board as it was read, on which every master has a share line.
-fn obey_wait(
-    rt: &HostRuntime,
-    session: Session,
-    c: Command,
-    text: &[u8],
-    out: &mut [u8; ROOM],
-) -> Session {
-    let mut board = [0u32; BOARD_NUMBERS];
-    description::read(text, &mut board);
-    let q = wait::quote_of(
-        &board,
-        program_script::number_at(c, 0),
-        program_script::number_at(c, 1),
-    );
-    let numbers = [q.number as u64, q.wait, q.serve];
-    let printed = program_lines::put_line(rt, b"simulate", &mut *out, session, b"wait", &numbers);
-    program_answers::call(rt, &*out, printed, q.number, 0)
-}
-
-// A fill or a show of lent bytes.
-fn touch(
-    rt: &HostRuntime,
-    session: Session,
-    c: Command,
-    line: &[u8],
-    lent: &mut [u8],
-    out: &mut [u8; ROOM],
-) -> Session {
-    let start = program_script::value_at(c, 1) as usize;
-    let n = program_script::value_at(c, 2) as usize;
-    if lent.len() < start {
-        return program_lines::failed(session, program_script::PAST_LENT);
-    }
-    if lent.len() - start < n {
-        return program_lines::failed(session, program_script::PAST_LENT);
-    }
-    let end = start + n;
-    if c.kind == program_script::FILL {
-        program_lines::decode(
-            program_script::last_field(line, c.last),
-            &mut lent[start..end],
+    // One clock, with its answer.
+    fn clock_once(&mut self, console: &mut Console) -> Result<u32, Refusal> {
+        let mut lines = [0; LINES_NUMBERS];
+        let mut responses = [0; MASTERS];
+        let memory = self.lending.memory(&mut self.memory);
+        let buffer = self.lending.buffer(&mut *self.words, &mut self.longer);
+        let answer = fabric::clock(
+            &*self.board,
+            &mut self.state,
+            memory,
+            buffer,
+            &mut lines,
+            &mut responses,
         );
-        return session;
+        let slaves = description_layout::slave_count(&*self.board);
+        console.put_clock(answer, &lines, slaves, &responses);
+        answer
     }
-    program_lines::put_hex(rt, b"simulate", out, session, &lent[start..end])
-}
 
-// Every line but lend, on the bytes that are lent.
-fn obey_command(
-    rt: &HostRuntime,
-    board: &mut [u32; BOARD_NUMBERS],
-    state: &mut [u32; STATE_NUMBERS],
-    session: Session,
-    c: Command,
-    line: &[u8],
-    text: &[u8],
-    memory: &mut [u8],
-    buffer: &mut [u8],
-    out: &mut [u8; ROOM],
-) -> Session {
-    if c.kind <= program_script::DEFAULT {
-        program_script::overwrite(board, state, c);
-        return session;
-    }
-    if c.kind <= program_script::TAKE {
-        return obey_call(rt, board, state, session, c, line, memory, buffer, out);
-    }
-    if c.kind == program_script::STATE {
-        return program_answers::put_state(rt, out, session, state);
-    }
-    if c.kind == program_script::WAIT {
-        return obey_wait(rt, session, c, text, out);
-    }
-    let lent = program_script::either(program_script::value_at(c, 0) == 0, memory, buffer);
-    touch(rt, session, c, line, lent, out)
-}
-
-// How much is lent from now on: a line that asks for more than can be lent ends the session.
-fn obey_lend(at: Progress, c: Command, words: &mut [u8], longer: &mut [u8]) -> Progress {
-    let mut next = at;
-    if program_script::can_lend(at.lending, c) {
-        next.lending = program_script::lend(at.lending, c, words, longer);
-        return next;
-    }
-    next.session = program_lines::failed(at.session, program_script::OUT_OF_RANGE);
-    next
-}
-
-// The line that was found in the input, if there is one.
-fn obey_line(
-    rt: &HostRuntime,
-    board: &mut [u32; BOARD_NUMBERS],
-    state: &mut [u32; STATE_NUMBERS],
-    at: Progress,
-    input: &[u8],
-    text: &[u8],
-    memory: &mut [u8],
-    words: &mut [u8],
-    longer: &mut [u8],
-    out: &mut [u8; ROOM],
-) -> Progress {
-    let session = at.session;
-    let lending = at.lending;
-    let mut next = at;
-    if !session.found {
-        return next;
-    }
-    let line = program_lines::line_of(input, session);
-    let c = program_script::parse(line);
-    if c.problem != 0 {
-        next.session = program_lines::failed(session, c.problem);
-        return next;
-    }
-    if c.kind == program_script::LEND {
-        return obey_lend(at, c, words, longer);
-    }
-    let all = program_script::either(lending.buffer_lent <= BUFFER_BYTES, words, longer);
-    let buffer = program_lines::lent(lending.buffer_lent, all);
-    let lent = program_lines::lent(lending.memory_lent, memory);
-    next.session = obey_command(rt, board, state, session, c, line, text, lent, buffer, out);
-    next
-}
-
-// Obeys a script from standard input on a board; `text` is the board's. The memory has the bytes that spans total at most, and
-// BYTES_OVER more, so that a length over the exact one can be lent. Of the buffer, zero bytes of the exact length are what is
-// lent; a longer length is lent from `longer`, see program_script::lend. Nothing says that a script ends, so the passes are
-// counted down, from a number that no script uses up.
-pub fn obey_script(rt: &HostRuntime, text: &[u8], board: &mut [u32; BOARD_NUMBERS]) {
-    let mut memory = [0u8; MEMORY_ROOM];
-    let mut words: [u8; BUFFER_BYTES] = [0; 4096];
-    let mut longer = [0u8; BUFFER_ROOM];
-    let mut input = [0u8; INPUT];
-    let mut out = [0u8; ROOM];
-    let mut state = [0u32; STATE_NUMBERS];
-    let mut at = world::start(board);
-    let mut passes = u64::MAX;
-    while 0 < passes {
-        passes -= 1;
-        at.session = program_lines::next_line(rt, b"simulate", &mut input, &out, at.session);
-        at = obey_line(
-            rt,
-            &mut *board,
-            &mut state,
-            at,
-            &input,
-            text,
-            &mut memory,
-            &mut words,
-            &mut longer,
-            &mut out,
-        );
-        if at.session.over {
-            break;
+    // `count` clocks, each with its answer, up to one whose answer could not be printed. A refused clock changes nothing, so that those
+    // after it are refused alike: the last one's refusal explains them all.
+    fn clock(&mut self, console: &mut Console, count: u64) {
+        let mut answer = Ok(0);
+        for _ in 0..count {
+            answer = self.clock_once(console);
+            if console.printer.is_broken() {
+                break;
+            }
         }
+        console.explain(answer, description_rules::without_share(&*self.board));
     }
-    program_answers::finish(rt, &mut out, at.session);
+
+    // The oldest entry of the log, taken out of it; of a refused take zeros are printed.
+    fn take(&mut self, console: &mut Console) {
+        let answer = fabric::take(&*self.board, &mut self.state);
+        let oldest = answer.unwrap_or(NO_ENTRY);
+        let numbers = [
+            u64::from(number_in(answer)),
+            u64::from(oldest.master),
+            u64::from(oldest.address),
+            u64::from(oldest.write),
+        ];
+        console.printer.put_line(b"take", &numbers);
+        console.explain(answer, description_rules::without_share(&*self.board));
+    }
+
+    // The wait is that of the board as it was read, on which every master has a share line.
+    fn wait(&self, console: &mut Console, c: &Command) {
+        let mut board = [0; BOARD_NUMBERS];
+        // the text was read before: the board is not refused
+        let _ = description::read(self.text, &mut board);
+        let answer = wait::quote_of(&board, c.number_at(0), c.number_at(1));
+        let quote = answer.unwrap_or(Quote { wait: 0, serve: 0 });
+        let numbers = [u64::from(number_in(answer)), quote.wait, quote.serve];
+        console.printer.put_line(b"wait", &numbers);
+        console.explain(answer, 0);
+    }
+
+    // Both this and `show` lend the fields by themselves: the check does not cover a method that hands out a part of what a field
+    // that is a `&mut` refers to.
+    fn fill(&mut self, c: &Command) -> Result<(), Problem> {
+        let to = self
+            .lending
+            .part(c, &mut self.memory, &mut *self.words, &mut self.longer)?;
+        program_lines::decode(c.last, to);
+        Ok(())
+    }
+
+    fn show(&mut self, console: &mut Console, c: &Command) -> Result<(), Problem> {
+        let from = self
+            .lending
+            .part(c, &mut self.memory, &mut *self.words, &mut self.longer)?;
+        console.printer.put_hex(from);
+        Ok(())
+    }
+
+    // A line. Err: its problem, which ends the script.
+    fn obey(&mut self, console: &mut Console, line: &[u8]) -> Result<(), Problem> {
+        let c = program_script::parse(line)?;
+        match c.kind {
+            Kind::Overwrite(part) => {
+                program_script::overwrite(&mut *self.board, &mut self.state, part, &c);
+            }
+            Kind::Reset => self.reset(console),
+            Kind::Post => self.post(console, &c),
+            Kind::Clock => self.clock(console, c.value_at(0)),
+            Kind::Take => self.take(console),
+            Kind::State => console.put_state(&self.state),
+            Kind::Wait => self.wait(console, &c),
+            Kind::Fill => return self.fill(&c),
+            Kind::Show => return self.show(console, &c),
+            Kind::Lend => {
+                return self.lending.lend(&c, &mut *self.words, &mut self.longer);
+            }
+        }
+        Ok(())
+    }
+
+    // The lines of standard input, up to the first with a problem, which is answered, or to the end. Nothing says that a script
+    // ends, so the passes are counted, up to a number that no script uses up.
+    fn obey_lines(&mut self, console: &mut Console) -> Option<Problem> {
+        let mut reader = Reader::new();
+        for _ in 0..u64::MAX {
+            let next = reader.next_line(&mut console.printer);
+            console.line = reader.number;
+            match next {
+                Next::Line => {
+                    if let Err(problem) = self.obey(console, reader.line()) {
+                        return Some(problem);
+                    }
+                }
+                Next::Unread => {}
+                Next::Over(problem) => return problem,
+            }
+            if console.printer.is_broken() {
+                return None;
+            }
+        }
+        None
+    }
+}
+
+// Obeys a script from standard input on a board; `text` is the board's. Before the first line the memory and the buffer are lent,
+// each in its exact length. The spans of a board that was read total no more than MEMORY_BYTES (rule 1.7); `min` gives that bound
+// without a `requires` on the board.
+pub fn obey_script(rt: &HostRuntime, text: &[u8], board: &mut [u32; BOARD_NUMBERS]) {
+    let memory = MEMORY_BYTES.min(description_rules::memory_length(board)) as usize;
+    let mut words: [u8; BUFFER_BYTES] = [0; 4096];
+    let mut simulator = Simulator {
+        text,
+        board,
+        state: [0; STATE_NUMBERS],
+        lending: Lending::new(memory),
+        memory: [0; MEMORY_ROOM],
+        words: &mut words,
+        longer: [0; BUFFER_ROOM],
+    };
+    let mut console = Console::new(rt);
+    let problem = simulator.obey_lines(&mut console);
+    console.finish(problem);
 }
