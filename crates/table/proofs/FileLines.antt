@@ -1,4 +1,4 @@
--- The line in front of a file's page.
+-- The line before a file's page.
 -- Assumes nothing.
 use mathlib.Core.List.{List, [], ◌∷◌}
 use mathlib.Core.Path.{◌≡◌}
@@ -17,7 +17,7 @@ module _ (name : List ℕ) where
   unfolding file_line bytes_of
   file_length = omega (arith, length-append name (line_feed ∷ []))
 
-  -- three texts, one behind another
+  -- three texts, one after another
   pub line_begins : {before p q line : List ℕ} {a r n : ℕ} → Put before 0 (bytes_of "file,") p a → Put p a name q r
       → Put q r (line_feed ∷ []) line n → length name + 6 ≤ length before → Begins (file_line name) line n
   unfolding file_line bytes_of

@@ -1,6 +1,6 @@
 -- What the table program has read, and the page that it is to print of it.
 -- Assumes nothing.
-use Rattle.std.specs.Prelude.{true, false, List, ◌⊎◌, ◌≢◌, ◌≡◌, ℕ, ◌<◌, length, take}
+use Rattle.std.specs.Prelude.{List, ◌⊎◌, ◌≢◌, ◌≡◌, ℕ, ◌<◌, length, take, MatchResult}
 use Rattle.io.specs.Counts.{IsPrefixLen}
 use Rattle.program_streams.specs.Reading.{Answer, gathered, ended, standing}
 use Rattle.description.specs.Reader.{most_bytes}
@@ -17,7 +17,5 @@ pub record Whole (answers : List Answer) (page : List ℕ) (n : ℕ) : Type 0 wh
 pub record Reads (text page : List ℕ) (r : Prepared) : Type 0 where
   pub answers : List Answer
   pub bytes : take r.read text ≡ gathered answers
-  pub whole : r.failed ≡ false → Whole answers page r.length
-  pub fails : r.failed ≡ true → standing answers ≢ ended
+  pub made : MatchResult r.page (λ n. Whole answers page n × IsPrefixLen n page) (λ error. standing answers ≢ ended)
   pub kept : IsPrefixLen r.read text
-  pub made : IsPrefixLen r.length page

@@ -1,4 +1,4 @@
-// Prints the table of a description, or its refusal, on standard output: of standard input, or of each file that is named, behind
+// Prints the table of a description, or its refusal, on standard output: of standard input, or of each file that is named, after
 // a line with its name. What a refusal means goes to standard error: standard output is read by other programs.
 #![tactic(auto)]
 
@@ -9,6 +9,7 @@ ghost use Rattle.table.specs.Preparing.{Reads};
 
 use common_numbers::TEXT_ROOM;
 use program_options::Mode;
+use program_streams::Outcome;
 use std::io;
 use std::io::{Read, Write};
 
@@ -24,7 +25,7 @@ fn usage<W: Write>(rt: &HostRuntime, to: &mut W) -> io::Result<()> {
         to,
         b"Of each BOARD that is named, a line file,NAME comes first. The numbers:\n",
     )?;
-    program_refusals::list_of_text(rt, to)
+    program_refusals::list(rt, to, &program_refusals::OF_TEXT)
 }
 
 fn help(rt: &HostRuntime) {
@@ -32,14 +33,11 @@ fn help(rt: &HostRuntime) {
     program_options::printed(rt, b"table", taken);
 }
 
-// How many bytes of the text were read, and how many of the page are to be printed. `failed`: the input cannot be read, and
-// `cause` is the operating system's number of why.
+// How many bytes of the text were read, and how many of the page are to be printed, or why the input cannot be read.
 #[derive(Clone, Copy)]
 struct Prepared {
     read: usize,
-    length: usize,
-    failed: bool,
-    cause: i32,
+    page: io::Result<usize>,
 }
 
 // Reads a description, and makes the page of it. The text has room for one byte more than a description may have (rule 1.2): a
@@ -53,32 +51,21 @@ fn prepare<R: Read>(
     requires { most_bytes < length text.old }
     ensures { Reads text.new page.new result }
 {
-    let got = program_streams::read_all(rt, from, &mut *text);
-    let n = got.end;
-    if got.failed {
-        return Prepared {
-            read: n,
-            length: 0,
-            failed: true,
-            cause: got.cause,
-        };
-    }
-    let length = wait_table::print_page(&text[..n], &mut *page);
-    Prepared {
-        read: n,
-        length: length,
-        failed: false,
-        cause: 0,
-    }
+    let got = program_streams::read_all(rt, from, text);
+    let read = got.end;
+    let page = match got.outcome {
+        Outcome::Failed(error) => Err(error),
+        Outcome::Full | Outcome::Ended => Ok(wait_table::print_page(&text[..read], page)),
+    };
+    Prepared { read, page }
 }
 
 // Prints a page, and says at which line its text is refused, and why; standard input has no path. The answer is whether standard
 // output took the page.
 fn print_explained(rt: &HostRuntime, path: &[u8], text: &[u8], page: &[u8]) -> bool {
     let taken = program_options::print(rt, b"table", page);
-    let r = description::refused_at(text);
-    if r.number != 0 {
-        program_refusals::explain(rt, b"table", path, text, r);
+    if let Err(blame) = description::refused_at(text) {
+        program_refusals::explain(rt, b"table", path, text, blame);
     }
     taken
 }
@@ -86,27 +73,28 @@ fn print_explained(rt: &HostRuntime, path: &[u8], text: &[u8], page: &[u8]) -> b
 // Prints the page of what an input gives, which a report calls `what`. A file is closed before: a program that is started with
 // standard output closed may have that number for a file. Where it cannot be read, nothing is printed. The answer is whether
 // standard output took what was printed.
-fn table_from<R: Read + Drop>(rt: &HostRuntime, input: R, what: &[u8], path: &[u8]) -> bool {
-    let mut from = input;
+fn table_from<R: Read + Drop>(rt: &HostRuntime, mut from: R, what: &[u8], path: &[u8]) -> bool {
     let mut text = [0; TEXT_ROOM];
     let mut page = [0; wait_table::LONGEST_TABLE];
     let made = prepare(rt, &mut from, &mut text, &mut page);
-    if made.failed {
-        program_streams::report(rt, b"table", what, made.cause);
-        return true;
+    match made.page {
+        Ok(length) => {
+            drop(from);
+            print_explained(rt, path, &text[..made.read], &page[..length])
+        }
+        Err(error) => {
+            program_streams::report(rt, b"table", what, &error);
+            true
+        }
     }
-    drop(from);
-    let length = made.length;
-    let n = made.read;
-    print_explained(rt, path, &text[..n], &page[..length])
 }
 
 // The page of the file that a path names, likewise.
 fn table_file(rt: &HostRuntime, path: &[u8]) -> bool {
     match program_streams::open(rt, path) {
         Ok(file) => table_from(rt, file, path, path),
-        Err(number) => {
-            program_streams::report(rt, b"table", path, number);
+        Err(error) => {
+            program_streams::report(rt, b"table", path, &error);
             true
         }
     }
@@ -115,26 +103,26 @@ fn table_file(rt: &HostRuntime, path: &[u8]) -> bool {
 // No word that Linux hands to a program has so many bytes.
 const WORD_ROOM: usize = 131072;
 
-// Such a word, `file,` in front of it and a line feed behind it.
+// Such a word, `file,` before it and a line feed after it.
 const LINE_ROOM: usize = WORD_ROOM + 6;
 
-// Puts the line in front of a file's page (rule 5.10).
+// Puts the line before a file's page (rule 5.10).
 fn put_file_line(line: &mut [u8], name: &[u8]) -> usize
     requires { length name.now + 6 ≤ length line.old }
     ensures { Begins (file_line name.now) line.new result }
 {
-    let behind = common_text::put_bytes(&mut *line, 0, b"file,");
-    let end = common_text::put_bytes(&mut *line, behind, name);
-    common_text::put_end(&mut *line, end)
+    let after = common_text::put_bytes(line, 0, b"file,");
+    let end = common_text::put_bytes(line, after, name);
+    common_text::put_end(line, end)
 }
 
 // The line and the page of the file that the word at an index names, likewise.
 fn table_word(rt: &HostRuntime, i: usize, word: &mut [u8], line: &mut [u8]) -> bool
     requires { length word.old + 6 ≤ length line.old }
 {
-    let length = program_options::word_at(rt, i, &mut *word);
+    let length = program_options::word_at(rt, i, word);
     let path = &word[..length];
-    let end = put_file_line(&mut *line, path);
+    let end = put_file_line(line, path);
     program_options::print(rt, b"table", &line[..end]) && table_file(rt, path)
 }
 
@@ -144,7 +132,7 @@ fn table_words(rt: &HostRuntime, first: usize) {
     let mut line = [0u8; LINE_ROOM];
     for i in first..program_options::word_count(rt) {
         if !table_word(rt, i, &mut word, &mut line) {
-            return;
+            break;
         }
     }
 }
@@ -159,8 +147,7 @@ fn table_all(rt: &HostRuntime, first: usize) {
 }
 
 fn main(rt: HostRuntime) {
-    let mode = program_options::asked(&rt, 0, usize::MAX);
-    match mode {
+    match program_options::asked(&rt, 0, usize::MAX) {
         Mode::Help => help(&rt),
         Mode::Version => program_options::print_version(&rt, b"table"),
         Mode::Operands(first) => table_all(&rt, first),

@@ -3,71 +3,57 @@
 // the input cannot be read, or the answers cannot be printed, standard error says so.
 #![tactic(auto)]
 
-ghost use Rattle.std.specs.Prelude.{◌+◌, ◌≤◌, length};
+ghost use Rattle.std.specs.Prelude.{◌≡◌, ◌+◌, ◌≤◌, length, IfSome};
 
 use common_numbers::{BOARD_NUMBERS, TEXT_ROOM};
-use common_text::Number;
+use program_streams::Outcome;
 
-// What is still to be taken of a piece of the input: its bytes from `at` up to `end`. Whether no further piece is to be read,
-// since the input has ended or cannot be read.
-#[derive(Clone, Copy)]
+// The bytes of a piece of the input, and of what is printed at once.
+const PIECE: usize = 65536;
+
+// The input. Of the piece that was read last the bytes from `at` up to `end` are still to be taken. `last`: no further piece is
+// to be read, since the input has ended or cannot be read.
+#[derive(Drop)]
 struct Input {
+    piece: [u8; PIECE],
     at: usize,
     end: usize,
     last: bool,
+    ghost in_piece: { end ≤ 65536 },
 }
 
-// What a record's first line says, and the input behind it.
-#[derive(Clone, Copy)]
-struct Head {
-    length: Number,
-    input: Input,
-}
-
-// Whether the input had the whole of a text, how many bytes of it were kept, and the input behind it.
-#[derive(Clone, Copy)]
-struct Body {
-    whole: bool,
-    kept: usize,
-    input: Input,
-}
-
-// Where the next answer goes, and whether what stood there before could be printed.
-#[derive(Clone, Copy)]
-struct Room {
-    made: bool,
-    at: usize,
-}
-
-// Whether there can be a further record, how many bytes of the output are filled, and the input behind the last record.
-#[derive(Clone, Copy)]
-struct Progress {
-    going: bool,
-    filled: usize,
-    input: Input,
-}
-
-// The input with a byte to take, or with none where it ends: a piece that is used up gives way to the next.
-fn refill(rt: &HostRuntime, piece: &mut [u8], input: Input) -> Input
-    requires { input.end ≤ length piece.old }
-    ensures { result.end ≤ length piece.new }
-{
-    if input.last | (input.at < input.end) {
-        return input;
-    }
-    let got = program_streams::read_all(rt, &mut rt.stdin(), &mut *piece);
-    if got.failed {
-        program_streams::report(rt, b"texts", b"standard input", got.cause);
-        return Input {
+impl Input {
+    // Nothing is read.
+    fn new() -> Input {
+        Input {
+            piece: [0; PIECE],
             at: 0,
             end: 0,
-            last: true,
-        };
+            last: false,
+        }
     }
-    Input {
-        at: 0,
-        end: got.end,
-        last: got.ended,
+
+    // Reads the next piece.
+    fn refill(&mut self, rt: &HostRuntime) {
+        let got = program_streams::read_all(rt, &mut rt.stdin(), &mut self.piece);
+        self.at = 0;
+        self.end = got.end;
+        self.last = matches!(got.outcome, Outcome::Ended);
+        if let Outcome::Failed(error) = got.outcome {
+            program_streams::report(rt, b"texts", b"standard input", &error);
+            self.end = 0;
+            self.last = true;
+        }
+    }
+
+    // Takes a byte, if there is one: a piece that is used up gives way to the next.
+    fn next(&mut self, rt: &HostRuntime) -> Option<u8> {
+        if self.end <= self.at && !self.last {
+            self.refill(rt);
+        }
+        let byte = self.piece[..self.end].get(self.at).copied()?;
+        self.at += 1;
+        Some(byte)
     }
 }
 
@@ -75,185 +61,114 @@ fn refill(rt: &HostRuntime, piece: &mut [u8], input: Input) -> Input
 const HEAD_BYTES: usize = 11;
 
 // Takes the line of a record's length. One that the input ends in is no length.
-fn take_head(rt: &HostRuntime, piece: &mut [u8], first: Input) -> Head
-    requires { first.end ≤ length piece.old }
-    ensures { result.input.end ≤ length piece.new }
-{
+fn take_head(rt: &HostRuntime, input: &mut Input) -> Option<u64> {
     let mut line = [0u8; HEAD_BYTES];
-    let mut kept: usize = 0;
-    let mut input = first;
-    while kept < HEAD_BYTES {
-        input = refill(rt, &mut *piece, input);
-        let at = input.at;
-        let end = input.end;
-        if end <= at {
-            break;
+    for kept in 0..HEAD_BYTES {
+        let byte = input.next(rt)?;
+        if byte == b'\n' {
+            return common_text::number_of(&line[..kept]);
         }
-        input.at = at + 1;
-        if piece[at] == b'\n' {
-            return Head {
-                length: common_text::number_of(&line[..kept]),
-                input: input,
-            };
-        }
-        line[kept] = piece[at];
-        kept += 1;
+        line[kept] = byte;
     }
-    Head {
-        length: Number::Malformed,
-        input: input,
-    }
+    None
 }
 
-// Keeps a byte behind those that are kept, where there is room for it.
-fn keep(into: &mut [u8], kept: usize, byte: u8) -> usize
-    requires { kept ≤ length into.old }
-    ensures { result ≤ length into.old }
+// Takes a text of `size` bytes, if the input has the whole of it, and keeps the first of them, as many as there is room for. The
+// answer is their number.
+fn take_body(rt: &HostRuntime, input: &mut Input, size: u64, into: &mut [u8]) -> Option<usize>
+    ensures { IfSome result (λ kept. kept ≤ length into.new) }
 {
-    if kept < into.len() {
-        into[kept] = byte;
-        return kept + 1;
-    }
-    kept
-}
-
-// Takes a text of `size` bytes and keeps the first of them, as many as there is room for.
-fn take_body(rt: &HostRuntime, piece: &mut [u8], first: Input, size: u64, into: &mut [u8]) -> Body
-    requires { first.end ≤ length piece.old }
-    ensures { (result.input.end ≤ length piece.new) × (result.kept ≤ length into.new) }
-{
-    let mut input = first;
-    let mut kept: usize = 0;
-    let mut left = size;
-    while left > 0 {
-        input = refill(rt, &mut *piece, input);
-        let at = input.at;
-        let end = input.end;
-        if end <= at {
-            return Body {
-                whole: false,
-                kept: kept,
-                input: input,
-            };
+    let mut kept = 0;
+    for _ in 0..size {
+        let byte = input.next(rt)?;
+        if kept < into.len() {
+            into[kept] = byte;
+            kept += 1;
         }
-        kept = keep(&mut *into, kept, piece[at]);
-        input.at = at + 1;
-        left -= 1;
     }
-    Body {
-        whole: true,
-        kept: kept,
-        input: input,
-    }
+    Some(kept)
 }
 
 // Room for every answer: a short line, and a description of TEXT_BYTES.
 const ANSWER_ROOM: usize = 8300;
 
-// Writes the output that is filled, where an answer might find no room behind it.
-fn make_room(rt: &HostRuntime, out: &[u8], filled: usize) -> Room
-    requires in_bounds { 8300 ≤ length out.now }
-    requires filled_in_bounds { filled ≤ length out.now }
-    ensures { result.at + 8300 ≤ length out.now }
-{
-    if ANSWER_ROOM <= out.len() - filled {
-        return Room {
-            made: true,
-            at: filled,
-        };
-    }
-    let printed = program_options::print(rt, b"texts", &out[..filled]);
-    Room {
-        made: printed,
-        at: 0,
-    }
-}
-
-// Puts the answer for a description into the output from `at` on; the answer is the position behind it. A board that was read is
+// Puts the answer for a description into the output from `at` on; the answer is the position after it. A board that was read is
 // one that the writer takes, and its text is no longer than the record's, so that the room is enough.
 fn put_answer(out: &mut [u8], at: usize, record: &[u8]) -> usize
     requires { at + 8300 ≤ length out.old }
     ensures { result ≤ length out.old }
 {
-    let mut board = [0u32; BOARD_NUMBERS];
-    let number = description::read(record, &mut board);
-    let next = common_text::put_line(&mut *out, at, b"read", &[number as u64]);
-    if number != 0 {
-        return next;
+    let mut board = [0; BOARD_NUMBERS];
+    match description::read(record, &mut board) {
+        Ok(()) => {
+            let next = common_text::put_line(out, at, b"read", &[0]);
+            next + description::write(&board, &mut out[next..]).unwrap_or(0)
+        }
+        Err(refusal) => common_text::put_line(out, at, b"read", &[u64::from(refusal.number())]),
     }
-    let written = description::write(&board, &mut out[next..]);
-    next + written.length
 }
 
-// One record and its answer. `record` is where its text is kept.
+// The answers that are still to be printed.
+#[derive(Drop)]
+struct Output {
+    room: [u8; PIECE],
+    filled: usize,
+    ghost in_room: { filled ≤ 65536 },
+}
+
+impl Output {
+    fn new() -> Output {
+        Output {
+            room: [0; PIECE],
+            filled: 0,
+        }
+    }
+
+    // Prints what is filled. Whether standard output took it.
+    fn flush(&mut self, rt: &HostRuntime) -> bool
+        ensures { self.new.filled ≡ 0 }
+    {
+        let filled = self.filled;
+        self.filled = 0;
+        program_options::print(rt, b"texts", &self.room[..filled])
+    }
+
+    // The same if an answer might find no room after it.
+    fn make_room(&mut self, rt: &HostRuntime) -> bool
+        ensures { self.new.filled + 8300 ≤ 65536 }
+    {
+        ANSWER_ROOM <= PIECE - self.filled || self.flush(rt)
+    }
+}
+
+// Takes one record and puts its answer. `record` is where its text is kept. None: there is no further one, or standard output does
+// not take the answers.
 fn answer_record(
     rt: &HostRuntime,
-    piece: &mut [u8],
+    input: &mut Input,
     record: &mut [u8],
-    out: &mut [u8],
-    p: Progress,
-) -> Progress
-    requires in_bounds { 8300 ≤ length out.old }
-    requires end_in_bounds { (p.input.end ≤ length piece.old) × (p.filled ≤ length out.old) }
-    ensures { (result.input.end ≤ length piece.new) × (result.filled ≤ length out.new) }
-{
-    let mut next = p;
-    next.going = false;
-    let head = take_head(rt, &mut *piece, p.input);
-    let behind_head = head.input;
-    next.input = behind_head;
-    let length = head.length;
-    let Number::Value(size) = length else {
-        return next;
-    };
-    let body = take_body(rt, &mut *piece, behind_head, size, &mut *record);
-    let behind_body = body.input;
-    next.input = behind_body;
-    if !body.whole {
-        return next;
+    output: &mut Output,
+) -> Option<()> {
+    let size = take_head(rt, input)?;
+    let kept = take_body(rt, input, size, record)?;
+    if !output.make_room(rt) {
+        return None;
     }
-    let room = make_room(rt, &*out, p.filled);
-    next.filled = room.at;
-    if !room.made {
-        return next;
-    }
-    let kept = body.kept;
-    next.filled = put_answer(&mut *out, room.at, &record[..kept]);
-    next.going = true;
-    next
+    let at = output.filled;
+    output.filled = put_answer(&mut output.room, at, &record[..kept]);
+    Some(())
 }
 
-// Answers every record, up to the input's end. Nothing says that an input ends, so the passes are counted down from a number
-// that no input uses up. The answer is how many bytes of the output are filled.
-fn answer_records(rt: &HostRuntime, piece: &mut [u8], record: &mut [u8], out: &mut [u8]) -> usize
-    requires { 8300 ≤ length out.old }
-    ensures { result ≤ length out.new }
-{
-    let mut p = Progress {
-        going: true,
-        filled: 0,
-        input: Input {
-            at: 0,
-            end: 0,
-            last: false,
-        },
-    };
-    let mut passes = u64::MAX;
-    while passes > 0 {
-        p = answer_record(rt, &mut *piece, &mut *record, &mut *out, p);
-        if !p.going {
-            return p.filled;
-        }
-        passes -= 1;
-    }
-    p.filled
-}
-
-// Of a record one byte more is kept than a description may have, so that a longer one is refused by its length.
+// Answers every record, up to the input's end. Nothing says that an input ends, so the records are as many as no input has. Of a
+// record one byte more is kept than a description may have, so that a longer one is refused by its length.
 fn main(rt: HostRuntime) {
-    let mut piece = io::large_buffer();
+    let mut input = Input::new();
     let mut record = [0u8; TEXT_ROOM];
-    let mut out = io::large_buffer();
-    let filled = answer_records(&rt, &mut piece, &mut record, &mut out);
-    program_options::print(&rt, b"texts", &out[..filled]);
+    let mut output = Output::new();
+    for _ in 0..u64::MAX {
+        if answer_record(&rt, &mut input, &mut record, &mut output).is_none() {
+            break;
+        }
+    }
+    output.flush(&rt);
 }
