@@ -292,13 +292,13 @@ def reason_complaints(root, edits, said=""):
     return complaints, len(tried)
 
 
-# A change that keeps every promise of `less_one`, in place of the one that breaks it, in a group of the crate.
+# A change that keeps every promise of `kept`, in a group of the crate.
 TRIED = "fabric_arbiter"
 HARMLESS = """label: harmless
-refused: less_one
+refused: kept
 file: src/lib.rt
-old:     if n == 0 { 0 } else { n - 1 }
-new:     if n < 1 { 0 } else { n - 1 }
+old:     if 1 < beats { 0 } else { remaining }
+new:     if 2 <= beats { 0 } else { remaining }
 """
 
 
@@ -312,7 +312,7 @@ def try_harmless():
         said = subprocess.run(["rt", "must-fail", TRIED], cwd=copy, stdin=subprocess.DEVNULL, capture_output=True, text=True)
         edits = all_edits(copy)
         complaints, _ = reason_complaints(copy, edits, said.stdout)
-    found = [line for line in complaints if line.startswith(f"{TRIED}/harmless: less_one is not refused by itself")]
+    found = [line for line in complaints if line.startswith(f"{TRIED}/harmless: kept is not refused by itself")]
     if said.returncode == 0 and complaints == found and len(found) == 1 and len(edits) == 2:
         return [f"edits: a harmless edit in a group of {TRIED} is found"], 0
     return [f"edits: a harmless edit in a group of {TRIED} is not found:", said.stdout, said.stderr, *complaints], 1

@@ -41,7 +41,7 @@ FORMS = [
     Form("2.2", "fabric_bytes/src/lib.rt", "post_words", has=PART),
     Form("2.2", "simulate/src/obey.rt", "obey_script", has=[("let mut words: [u8; BUFFER_BYTES] = [0; 4096];", 1), "&mut words"]),
     Form("4.5", "fabric_arbiter/src/lib.rt", "first_requester", has=[("loop {", 1), ("break ", 2)], lacks=["return", "while", "for"]),
-    Form("1.3", "description_lines/src/lib.rt", "item_of", has=[f"same(word, {word})" for word in WORDS]),
+    Form("1.3", "description_lines/src/lib.rt", "item_of", has=[f"word == {word}" for word in WORDS]),
     Form("1.3", "description_lines/src/lib.rt", "put_item", has=WORDS),
     Form("5.8", "fabric_c/src/lib.rt", "fabric_wait", head=['extern "C"', "text: &[u8], master: u32, slave: u32, out: &mut [u8]"]),
     Form("3.6", "fabric_accesses/src/lib.rt", "agrees", has=["above_span(address, sl.span) == above_span(sl.base, sl.span)"]),
@@ -55,11 +55,11 @@ FORMS = [
     Form("4.3 to 4.6", "fabric_cycle/src/lib.rt", "clock_slave", has=[("fabric_grant::slot_asked(", 1)]),
     Form("8.4", "fabric/src/lib.rt", "clock", has=[("fabric_begin::begin(", 1)], lacks=BEGINNING),
     Form("8.4", "fabric/src/lib.rt", "run", has=[("fabric_begin::begin(", 1)], lacks=BEGINNING),
-    Form("5.7", "wait_turns/src/lib.rt", "slave_turns", has=[("longest_access(", 1), ("single_access(sl, v)", 1), ("turns_at(", 1)],
+    Form("5.7", "wait_turns/src/lib.rt", "slave_turns", has=[("longest_access(", 1), ("single_access(slave, v)", 1), ("turns_at(", 1)],
          lacks=BRANCHES),
     Form("5.7", "wait_table/src/lib.rt", "add_turns", has=[("slave_turns(", 1)], lacks=["longest_access", "single_access", "read_wait"]),
     Form("5.7", "wait_turns/src/lib.rt", "single_access", lacks=["longest_access", "read_wait"]),
-    Form("5.7", "wait_turns/src/lib.rt", "turns_at", has=[("while ", 1)],
+    Form("5.7", "wait_turns/src/lib.rt", "turns_at", has=[("for ", 1)],
          lacks=["longest_access", "single_access", "read_wait", "write_wait", "latency"]),
 ]
 
