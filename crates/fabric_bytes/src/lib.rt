@@ -9,8 +9,7 @@ ghost use Rattle.fabric_transfer.specs.Bytes.{buffer_length, part_of, posted_wor
 ghost use Rattle.fabric_transfer.specs.Code.Reaching.{Reached};
 
 use common_numbers::PART_BYTES;
-use description_board::{Master, Slave};
-use fabric_transfer::Transfer;
+use fabric_accesses::Posting;
 
 // The words of a post, to the part of master m (rules 2.2, 3.2).
 pub fn post_words(buffer: &mut [u8], m: usize, words: &[u8])
@@ -65,7 +64,7 @@ pub fn clear_front(buffer: &mut [u8], m: usize, count: usize)
     clear_access(buffer, m, 0, count);
 }
 
-// Whether lane k is enabled (rule 3.1).
+// Whether lane k is enabled (rule 3.1); of the test see fabric_arbiter::is_requesting.
 fn lane_on(lanes: u32, k: usize) -> bool
     requires { k < 8 }
     ensures { result ≡ bit lanes k }
@@ -103,29 +102,37 @@ fn write_access(memory: &mut [u8], buffer: &[u8], m: usize, first: usize, lanes:
 // Access a of the transfer that master m holds, carried out at a slave whose span starts at `start` (rules 2.1, 4.8): the bytes
 // that the slave has lanes for are moved, and a read clears the others.
 pub fn carry_access(
-    ma: Master,
-    sl: Slave,
-    t: Transfer,
+    posting: Posting,
     m: usize,
     start: usize,
     a: u32,
     memory: &mut [u8],
     buffer: &mut [u8],
 )
-    requires { Reached ma sl t m start a (record { memory = memory.old; buffer = buffer.old }) }
+    requires { Reached posting.pair.master posting.pair.slave posting.transfer m start a
+        (record { memory = memory.old; buffer = buffer.old }) }
     ensures { record { memory = memory.new; buffer = buffer.new }
-        ≡ carried_access ma sl t m start a (record { memory = memory.old; buffer = buffer.old }) }
+        ≡ carried_access posting.pair.master posting.pair.slave posting.transfer m start a
+        (record { memory = memory.old; buffer = buffer.old }) }
 {
-    let at = start + fabric_accesses::access_offset(ma, sl, t, a) as usize;
-    let from = fabric_accesses::first_byte(ma, sl, a);
+    let Posting { pair, transfer } = posting;
+    let at = start + posting.access_offset(a) as usize;
+    let from = pair.first_byte(a);
     let first = from as usize;
-    let count = fabric_accesses::lane_bytes(ma, sl) as usize;
-    if t.write {
-        let lane = fabric_accesses::over_width(from, ma.width) as usize;
-        write_access(&mut memory[at..at + count], buffer, m, first, t.lanes, lane);
+    let count = pair.lane_bytes() as usize;
+    if transfer.write {
+        let lane = fabric_accesses::over_width(from, pair.master.width) as usize;
+        write_access(
+            &mut memory[at..at + count],
+            buffer,
+            m,
+            first,
+            transfer.lanes,
+            lane,
+        );
         return;
     }
-    let bytes = fabric_accesses::access_bytes(ma, sl) as usize;
+    let bytes = pair.access_bytes() as usize;
     read_access(&memory[at..at + count], buffer, m, first);
     clear_access(buffer, m, first + count, bytes - count);
 }

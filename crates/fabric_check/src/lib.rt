@@ -1,4 +1,5 @@
 // Whether a state breaks a rule (rule 7.9), and what a call finds of a board and a state before it acts.
+// That the board is accepted stays a `requires`: the board is lent as C lends it, and cannot carry the fact.
 // Tests are joined by & and |, not by && and ||: each part is safe by itself, and a proof meets the whole as one test.
 #![tactic(auto)]
 
@@ -15,21 +16,21 @@ ghost use Rattle.fabric_check.specs.Code.Checks.{latency_by, Held, Answered, Dec
 ghost use Rattle.fabric_check.specs.Code.Targets.{unmapped_mask};
 
 use common_numbers::{BOARD_NUMBERS, MASTERS, Refusal, STATE_NUMBERS};
-use description_board::{Master, Slave};
+use fabric_accesses::{Pair, Posting};
 use fabric_state::Slot;
 use fabric_transfer::Transfer;
 pub use transfers::{request_masks, transfer_refusal, weight_of};
 
-// The latency of the transfer t at the slave of this number, which is the count of slaves where the transfer is unmapped: that has
+// The latency of a transfer at the slave of this number, which is the count of slaves where the transfer is unmapped: that has
 // none (rules 4.16, 4.17).
 #[tactic(auto, unfolding(crate::specs::Code::Checks::latency_by, fabric_state::specs::Posting::unmapped))]
-fn latency_by(sl: Slave, t: Transfer, target: u32, count: u32) -> u32
-    ensures { result ≡ latency_by sl t target count }
+fn latency_by(posting: Posting, target: u32, count: u32) -> u32
+    ensures { result ≡ latency_by posting.pair.slave posting.transfer target count }
 {
     if target == count {
         0
     } else {
-        fabric_accesses::latency_of(sl, t)
+        posting.latency_of()
     }
 }
 
@@ -56,11 +57,15 @@ fn held_at(
     let target = transfers::target_of(board, m, t.address);
     targets[m] = target;
     // the number of slaves can be 16: what stands for no slave is looked up, and not used
-    let sl = description_layout::slave_at(board, (target % 16) as usize);
-    let ma = description_layout::master_at(board, m);
+    let slave = description_layout::slave_at(board, (target % 16) as usize);
+    let master = description_layout::master_at(board, m);
+    let posting = Posting {
+        pair: Pair { master, slave },
+        transfer: t,
+    };
     let default = description_layout::default_at(board);
-    let passed = transfers::transfer_refusal_by(ma, sl, t, target, count, default);
-    passed.is_ok() & (late <= latency_by(sl, t, target, count))
+    let passed = transfers::transfer_refusal_by(posting, target, count, default);
+    passed.is_ok() & (late <= latency_by(posting, target, count))
 }
 
 // Whether no transfer breaks a rule (rule 7.9); where none does, each one's slave is left in `targets`. One pass decodes and
@@ -87,9 +92,9 @@ fn sound_transfers(
 // Whether a slot whose owner is a master of the board breaks no rule (rule 7.9): of its owner's shares, whether its owner
 // requests this slave, and the two and its transfer.
 #[tactic(auto, using(crate::proofs::CheckLaws::slot_serving, crate::proofs::CheckLaws::slot_elsewhere, crate::proofs::CheckLaws::slot_resting, crate::proofs::CheckLaws::slot_over))]
-fn sound_slot_by(slot: Slot, share: u32, here: bool, ma: Master, sl: Slave, t: Transfer) -> bool
-    requires { here ≡ true → Posted ma sl t }
-    ensures { result ≡ sound_slot_by share here ma sl t slot }
+fn sound_slot_by(slot: Slot, share: u32, here: bool, posting: Posting) -> bool
+    requires { here ≡ true → Posted posting.pair.master posting.pair.slave posting.transfer }
+    ensures { result ≡ sound_slot_by share here posting.pair.master posting.pair.slave posting.transfer slot }
 {
     let granted = (slot.remaining == 0) | (slot.remaining < share);
     if !granted {
@@ -101,8 +106,8 @@ fn sound_slot_by(slot: Slot, share: u32, here: bool, ma: Master, sl: Slave, t: T
     if !here {
         return false;
     }
-    let left = u64::from(slot.done) < fabric_accesses::accesses(ma, sl, t);
-    left & (slot.waited <= fabric_accesses::wait_of(sl, t))
+    let left = u64::from(slot.done) < posting.accesses();
+    left & (slot.waited <= posting.wait_of())
 }
 
 // Whether no slot breaks a rule (rule 7.9). Each slot is read once.
@@ -124,12 +129,16 @@ fn sound_slots(
         }
         let owner = slot.owner as usize;
         let share = description_layout::shares_at(board, owner, i);
-        let ma = description_layout::master_at(board, owner);
-        let sl = description_layout::slave_at(board, i);
-        let t = fabric_layout::transfer_at(st, owner);
+        let master = description_layout::master_at(board, owner);
+        let slave = description_layout::slave_at(board, i);
+        let transfer = fabric_layout::transfer_at(st, owner);
+        let posting = Posting {
+            pair: Pair { master, slave },
+            transfer,
+        };
         let late = fabric_layout::late_at(st, owner);
         let target = targets[owner];
-        if !sound_slot_by(slot, share, (late == 0) & (target == s), ma, sl, t) {
+        if !sound_slot_by(slot, share, (late == 0) & (target == s), posting) {
             return false;
         }
     }

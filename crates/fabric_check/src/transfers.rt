@@ -12,11 +12,12 @@ ghost use Rattle.fabric_check.specs.Code.Targets.{request_mask};
 ghost use Rattle.fabric_check.specs.Code.Decoded.{Decodes};
 
 use common_numbers::{BOARD_NUMBERS, MASTERS, Refusal, SLAVES};
-use description_board::{Master, Slave};
+use fabric_accesses::{Pair, Posting};
 use fabric_transfer::Transfer;
 
 // The slave that an address selects for master m, or the count of slaves (rule 3.6). Most slaves are ruled out by their address,
-// so that shares are read only where it agrees.
+// so that shares are read only where it agrees. For no slave the count stands, as in the definition: a lent array of targets, and one
+// comparison on the clock's path.
 pub fn target_of(board: &[u32; BOARD_NUMBERS], m: usize, address: u32) -> u32
     requires { Decodes (board_in board.now) × m < 8 }
     ensures { result ≡ target_of (board_in board.now) m address }
@@ -65,36 +66,39 @@ fn unmapped_refusal(default: bool) -> Result<(), Refusal>
     }
 }
 
-// What a transfer is refused for (rules 3.7, 7.13 to 7.17): of the master, the slave that it is for, that slave's number, or the
-// count of slaves where it is for none, and whether the board has the line `default`. A width is a power of two, so that a mask leaves
+// What a transfer is refused for (rules 3.7, 7.13 to 7.17): of its master and the slave that it is for, that slave's number, or
+// the count of slaves where it is for none, and whether the board has the line `default`. A width is a power of two, so that a mask leaves
 // what is over a multiple of it.
 #[tactic(auto, using(fabric_transfer::proofs::PowerLaws::over_width, fabric_transfer::proofs::AccessLaws::width_pos, fabric_transfer::proofs::AccessLaws::width_le, crate::proofs::RefusalLaws::bytes_most), unfolding(fabric_state::specs::Posting::transfer_refusal_by, fabric_state::specs::Posting::wrong_beats, fabric_state::specs::Posting::unaligned, fabric_state::specs::Posting::wrong_lanes, fabric_state::specs::Posting::unmapped, fabric_state::specs::Posting::passes_end))]
 pub fn transfer_refusal_by(
-    ma: Master,
-    sl: Slave,
-    t: Transfer,
+    posting: Posting,
     target: u32,
     count: u32,
     default: bool,
 ) -> Result<(), Refusal>
-    requires { member ma.width widths ≡ true }
-    ensures { refusal_in result ≡ transfer_refusal_by ma sl t target count default }
+    requires { member posting.pair.master.width widths ≡ true }
+    ensures { refusal_in result
+        ≡ transfer_refusal_by posting.pair.master posting.pair.slave posting.transfer target count default }
 {
-    if (t.beats == 0) | (ma.burst < t.beats) {
+    let Posting {
+        pair: Pair { master, slave },
+        transfer,
+    } = posting;
+    if (transfer.beats == 0) | (master.burst < transfer.beats) {
         return Err(Refusal::BadBeats);
     }
-    if t.address & (ma.width - 1) != 0 {
+    if transfer.address & (master.width - 1) != 0 {
         return Err(Refusal::BadAddress);
     }
-    if !fabric_lanes::post_lanes(ma.width, t.lanes, t.beats) {
+    if !fabric_lanes::post_lanes(master.width, transfer.lanes, transfer.beats) {
         return Err(Refusal::BadLanes);
     }
     if target == count {
         return unmapped_refusal(default);
     }
     // an end can pass the last address, so it is a u64
-    let bytes = u64::from(t.beats) * u64::from(ma.width);
-    if u64::from(sl.base) + u64::from(sl.span) < u64::from(t.address) + bytes {
+    let bytes = u64::from(transfer.beats) * u64::from(master.width);
+    if u64::from(slave.base) + u64::from(slave.span) < u64::from(transfer.address) + bytes {
         return Err(Refusal::PastEnd);
     }
     Ok(())
@@ -107,8 +111,12 @@ pub fn transfer_refusal(board: &[u32; BOARD_NUMBERS], m: usize, t: Transfer) -> 
 {
     let at = target_of(board, m, t.address);
     // the number of slaves can be 16: what stands for no slave is looked up, and not used
-    let sl = description_layout::slave_at(board, (at % 16) as usize);
-    let ma = description_layout::master_at(board, m);
+    let slave = description_layout::slave_at(board, (at % 16) as usize);
+    let master = description_layout::master_at(board, m);
+    let posting = Posting {
+        pair: Pair { master, slave },
+        transfer: t,
+    };
     let count = description_layout::slave_count(board);
-    transfer_refusal_by(ma, sl, t, at, count, description_layout::default_at(board))
+    transfer_refusal_by(posting, at, count, description_layout::default_at(board))
 }

@@ -1,6 +1,7 @@
 // One clock of an accepted board in a state that breaks no rule, slave by slave (rules 4.3 to 4.9, 4.11, 4.16), and then the masters
 // that hold unmapped transfers (rules 4.17, 4.18).
-// The state is changed where it stands.
+// The state is changed where it stands. Board, state, lines, memory and buffer are lent one by one, as C lends them: a struct of the five
+// would be taken apart again at each call, since each function asks for some of them.
 #![tactic(auto)]
 
 ghost use Rattle.std.specs.Prelude.{◌≡◌, ◌*◌, ◌≤◌, ◌<◌, length};
@@ -20,6 +21,7 @@ ghost use Rattle.fabric_cycle.specs.Code.Latency.{counted_at, Counted};
 ghost use Rattle.fabric_cycle.specs.Code.SlaveClocks.{ended_transfer, Ready, Serving, SlaveClocked};
 
 use common_numbers::{BOARD_NUMBERS, LINES_NUMBERS, SLAVES, STATE_NUMBERS};
+use fabric_accesses::{Pair, Posting};
 use fabric_state::{Entry, NO_LINE, Slot};
 use fabric_transfer::{NO_TRANSFER, Transfer};
 
@@ -115,15 +117,19 @@ fn serve_at(
         (record { memory = memory.new; buffer = buffer.new }) × Marks st.old st.new }
 {
     let o = slot.owner as usize;
-    let ma = description_layout::master_at(board, o);
-    let sl = description_layout::slave_at(board, s);
-    let t = fabric_layout::transfer_at(st, o);
-    let step = fabric_slave::serve(ma, sl, t, slot, start, memory, buffer);
+    let master = description_layout::master_at(board, o);
+    let slave = description_layout::slave_at(board, s);
+    let transfer = fabric_layout::transfer_at(st, o);
+    let posting = Posting {
+        pair: Pair { master, slave },
+        transfer,
+    };
+    let step = fabric_slave::serve(posting, slot, start, memory, buffer);
     let next = step.slot;
     let line = step.line;
     fabric_layout::put_slot(st, s, next);
     fabric_layout::put_line(lines, s, line);
-    let latency = fabric_accesses::latency_of(sl, t);
+    let latency = posting.latency_of();
     end_transfer(st, o, step.last, latency);
     fabric_check::weight_of(step.last & (latency == 0), slot.owner)
 }
@@ -250,6 +256,7 @@ fn answer_unmapped(
         buffer.old buffer.new × Marks st.old st.new }
 {
     for m in 0..8 {
+        // of the test see fabric_arbiter::is_requesting
         if (mask >> m) % 2 == 1 {
             answer_at(board, st, m, buffer);
         }

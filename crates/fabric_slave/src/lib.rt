@@ -6,17 +6,14 @@ ghost use Rattle.fabric_transfer.specs.Code.Reaching.{Reached};
 ghost use Rattle.fabric_state.specs.Control.{line_of, waits, served};
 ghost use Rattle.fabric_slave.specs.Code.Serving.{Asked, Serves, Served, carried_from};
 
-use description_board::{Master, Slave};
+use fabric_accesses::Posting;
 use fabric_state::{ACCESS, Line, Slot, Step, WAITING};
-use fabric_transfer::Transfer;
 
-// A slave that serves, in one clock: its owner, the slave, the owner's transfer and the slot, with what is asked of them once, for
-// the step, the line and the bytes: how many accesses there are, which one is in hand, and whether it has still to wait.
+// A slave that serves, in one clock: its owner's transfer there and the slot, with what is asked of them once, for the step, the
+// line and the bytes: how many accesses there are, which one is in hand, and whether it has still to wait.
 #[derive(Clone, Copy)]
 struct Service {
-    master: Master,
-    slave: Slave,
-    transfer: Transfer,
+    posting: Posting,
     slot: Slot,
     total: u64,
     access: u32,
@@ -24,31 +21,29 @@ struct Service {
 }
 
 // Rule 2 (rule 4.8): whether the access in hand has still to wait. Each access waits anew: waits passed are 0 again behind it.
-fn waits(sl: Slave, t: Transfer, slot: Slot) -> bool
-    ensures { result ≡ waits sl t slot }
+fn waits(posting: Posting, slot: Slot) -> bool
+    ensures { result ≡ waits posting.pair.slave posting.transfer slot }
 {
-    slot.waited < fabric_accesses::wait_of(sl, t)
+    slot.waited < posting.wait_of()
 }
 
 impl Service {
     // What the slave shows of the access in hand (rule 4.13).
     fn line_of(self, phase: u32) -> Line
         requires { Asked self }
-        ensures { result ≡ line_of self.master self.slave self.transfer self.slot phase }
+        ensures { result ≡ line_of self.posting.pair.master self.posting.pair.slave self.posting.transfer self.slot phase }
     {
         let Service {
-            master,
-            slave,
-            transfer,
+            posting,
             slot,
             total,
             access,
             ..
         } = self;
-        let offset = fabric_accesses::word_offset(master, slave, transfer, access);
-        let lanes = fabric_accesses::slave_lanes(master, slave, transfer, access);
-        let run = fabric_accesses::run_of(master, slave, transfer, total, slot.done);
-        let place = fabric_accesses::place_of(master, slave, slot.done);
+        let offset = posting.word_offset(access);
+        let lanes = posting.slave_lanes(access);
+        let run = posting.run_of(total, slot.done);
+        let place = posting.pair.place_of(slot.done);
         Line {
             phase,
             owner: slot.owner,
@@ -62,7 +57,7 @@ impl Service {
     // Rules 2 and 3 (rules 4.8, 4.9).
     fn served(self) -> Step
         requires { Asked self }
-        ensures { result ≡ served self.master self.slave self.transfer self.slot }
+        ensures { result ≡ served self.posting.pair.master self.posting.pair.slave self.posting.transfer self.slot }
     {
         let slot = self.slot;
         if self.waiting {
@@ -103,54 +98,41 @@ impl Service {
     // The bytes of the access in hand, if the slave carries it out in this clock (rule 4.8); its span starts at `start`.
     fn carry_from(self, start: usize, memory: &mut [u8], buffer: &mut [u8])
         requires { (Asked self)
-            × Reached self.master self.slave self.transfer self.slot.owner start self.access
-            (record { memory = memory.old; buffer = buffer.old }) }
+            × Reached self.posting.pair.master self.posting.pair.slave self.posting.transfer self.slot.owner start
+            self.access (record { memory = memory.old; buffer = buffer.old }) }
         ensures { record { memory = memory.new; buffer = buffer.new }
-            ≡ carried_from self.master self.slave self.transfer self.slot start
+            ≡ carried_from self.posting.pair.master self.posting.pair.slave self.posting.transfer self.slot start
             (record { memory = memory.old; buffer = buffer.old }) }
     {
         if self.waiting {
             return;
         }
-        let Service {
-            master,
-            slave,
-            transfer,
-            slot,
-            access,
-            ..
-        } = self;
-        let m = slot.owner as usize;
-        fabric_bytes::carry_access(master, slave, transfer, m, start, access, memory, buffer);
+        let m = self.slot.owner as usize;
+        fabric_bytes::carry_access(self.posting, m, start, self.access, memory, buffer);
     }
 }
 
 // One clock of a slave that serves (rules 4.8, 4.9). How many accesses there are, which one is in hand and whether the slave waits
 // are asked once, for its step, its line and its bytes.
 pub fn serve(
-    ma: Master,
-    sl: Slave,
-    t: Transfer,
+    posting: Posting,
     slot: Slot,
     start: usize,
     memory: &mut [u8],
     buffer: &mut [u8],
 ) -> Step
-    requires { Serves ma sl t slot start (record { memory = memory.old; buffer = buffer.old }) }
-    ensures { Served ma sl t slot start (record { memory = memory.old; buffer = buffer.old })
+    requires { Serves posting.pair.master posting.pair.slave posting.transfer slot start
+        (record { memory = memory.old; buffer = buffer.old }) }
+    ensures { Served posting.pair.master posting.pair.slave posting.transfer slot start
+        (record { memory = memory.old; buffer = buffer.old })
         (record { memory = memory.new; buffer = buffer.new }) result }
 {
-    let total = fabric_accesses::accesses(ma, sl, t);
-    let access = fabric_accesses::access_number(ma, sl, t, slot.done);
-    let waiting = waits(sl, t, slot);
     let service = Service {
-        master: ma,
-        slave: sl,
-        transfer: t,
+        posting,
         slot,
-        total,
-        access,
-        waiting,
+        total: posting.accesses(),
+        access: posting.access_number(slot.done),
+        waiting: waits(posting, slot),
     };
     service.carry_from(start, memory, buffer);
     service.served()

@@ -9,7 +9,8 @@ ghost use Rattle.wait_turns.specs.Sums.{turn_at, turns_at};
 ghost use Rattle.wait_turns.specs.Code.Pairs.{LegalBoth, SlaveOf, PairOf, figures_of, slave_turns};
 
 use common_numbers::BOARD_NUMBERS;
-use description_board::{Master, Slave};
+use description_board::Slave;
+use fabric_accesses::Pair;
 
 // Wait and serve of a pair, in clocks (rules 5.5, 5.7).
 #[derive(Clone, Copy)]
@@ -51,39 +52,39 @@ pub fn single_access(sl: Slave, v: u32) -> u32
 
 // n, the most beats of one transfer (rule 5.3).
 #[tactic(auto, unfolding(crate::specs::Waits::most_beats))]
-pub fn most_beats(ma: Master, sl: Slave) -> u32
-    requires { LegalMaster ma }
-    ensures { result ≡ most_beats ma sl }
+pub fn most_beats(pair: Pair) -> u32
+    requires { LegalMaster pair.master }
+    ensures { result ≡ most_beats pair.master pair.slave }
 {
-    let words = fabric_accesses::quotient(sl.span, ma.width);
-    ma.burst.min(words)
+    let Pair { master, slave } = pair;
+    let words = fabric_accesses::quotient(slave.span, master.width);
+    master.burst.min(words)
 }
 
 // A master and a slave whose values are in their lists and ranges (rules 1.6, 1.7).
 #[derive(Clone, Copy)]
-pub struct Pair {
-    pub master: Master,
-    pub slave: Slave,
-    pub ghost legal: { LegalBoth master slave },
+pub struct LegalPair {
+    pub pair: Pair,
+    pub ghost legal: { LegalBoth pair.master pair.slave },
 }
 
-impl Pair {
+impl LegalPair {
     // The clocks of a transfer of one beat, by those of an access (rules 5.5, 5.6). A ratio is at most 8, a burst 64, and a and v
     // have 32 bits: no product here wraps.
     #[tactic(auto, unfolding(crate::specs::Waits::single))]
     pub fn single(self, a: u32) -> u64
-        ensures { result ≡ single self.master self.slave a }
+        ensures { result ≡ single self.pair.master self.pair.slave a }
     {
-        u64::from(fabric_accesses::ratio(self.master, self.slave)) * u64::from(a)
+        u64::from(self.pair.ratio()) * u64::from(a)
     }
 
     // The clocks of the longest transfer, the serve (rule 5.5).
     #[tactic(auto, unfolding(crate::specs::Waits::serve))]
     pub fn serve(self, v: u32) -> u64
-        ensures { result ≡ serve self.master self.slave v }
+        ensures { result ≡ serve self.pair.master self.pair.slave v }
     {
-        let beats = u64::from(most_beats(self.master, self.slave));
-        let each = u64::from(fabric_accesses::ratio(self.master, self.slave));
+        let beats = u64::from(most_beats(self.pair));
+        let each = u64::from(self.pair.ratio());
         beats * each * u64::from(v)
     }
 
@@ -91,7 +92,7 @@ impl Pair {
     #[tactic(auto, unfolding(crate::specs::Waits::turn))]
     pub fn turn(self, shares: u32, a: u32, v: u32) -> u64
         requires { shares ≤ 100 }
-        ensures { result ≡ turn self.master self.slave shares a v }
+        ensures { result ≡ turn self.pair.master self.pair.slave shares a v }
     {
         let singles = shares.saturating_sub(1);
         u64::from(singles) * self.single(a) + self.serve(v)
@@ -117,11 +118,12 @@ fn turn_at(board: &[u32; BOARD_NUMBERS], at: AtSlave, k: u32) -> u64
     if shares == 0 {
         return 0;
     }
+    let master = description_layout::master_at(board, k as usize);
     let pair = Pair {
-        master: description_layout::master_at(board, k as usize),
+        master,
         slave: at.slave,
     };
-    pair.turn(shares, at.single, at.v)
+    LegalPair { pair }.turn(shares, at.single, at.v)
 }
 
 // The turns at a slave, added up over its masters (rule 5.7). The clocks of a single's access and v are handed in, and the sum is
@@ -176,13 +178,11 @@ pub fn figures_by(board: &[u32; BOARD_NUMBERS], t: Turns, m: u32, s: u32) -> Quo
     };
     let own = turn_at(board, at, m);
     let wait = t.sum - own;
-    let pair = Pair {
-        master: description_layout::master_at(board, m as usize),
-        slave,
-    };
+    let master = description_layout::master_at(board, m as usize);
+    let pair = Pair { master, slave };
     Quote {
         wait,
-        serve: pair.serve(t.v),
+        serve: LegalPair { pair }.serve(t.v),
     }
 }
 

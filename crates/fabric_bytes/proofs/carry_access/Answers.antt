@@ -14,12 +14,12 @@ write_access-requires c =
     let long = lent_length (c.args.start + c.access_offset.result) c.lane_bytes-count.result c.args.memory.now fit.3 in
     (fit.0, fit.1, omega (arith, long, fit.2), omega (arith, long, fit.4))
 
-pub returns-then-t : goal.returns-then-t
-returns-then-t c =
+pub returns-then-transfer : goal.returns-then-transfer
+returns-then-transfer c =
     let fit = writes _ _ _ _ _ _ _ c.requires c.access_offset.ensures
     c.first_byte-from.ensures c.lane_bytes-count.ensures c.over_width-lane.ensures in
     write_done _ _ _ _ _ _ _ c.requires c.access_offset.ensures
-    c.first_byte-from.ensures c.lane_bytes-count.ensures c.if-t.true
+    c.first_byte-from.ensures c.lane_bytes-count.ensures c.if-transfer.true
     c.over_width-lane.ensures (lent_target _ _ _ _ _ c.write_access.ensures fit.3)
 
 pub read_access-requires : goal.read_access-requires
@@ -52,5 +52,5 @@ returns c =
     let fit = reads _ _ _ _ _ _ _ c.requires c.access_offset.ensures
     c.first_byte-from.ensures c.lane_bytes-count.ensures in
     read_done _ _ _ _ _ _ _ c.requires c.access_offset.ensures
-    c.first_byte-from.ensures c.lane_bytes-count.ensures c.if-t.false c.access_bytes-bytes.ensures
+    c.first_byte-from.ensures c.lane_bytes-count.ensures c.if-transfer.false c.access_bytes-bytes.ensures
     (lent_source _ _ _ _ _ _ c.read_access.ensures fit.3) c.clear_access.ensures

@@ -12,16 +12,16 @@ target_of-target-requires c = (decodes _ c.requires.0, c.requires.1)
 
 pub transfer_refusal_by-passed-requires : goal.transfer_refusal_by-passed-requires
 transfer_refusal_by-passed-requires c =
-    legal_width _ c.requires.0 _ c.master_count.ensures c.if-master_count-m.false c.master_at-ma.ensures
+    legal_width _ c.requires.0 _ c.master_count.ensures c.if-master_count-m.false c.master_at-master.ensures
 
 pub returns : goal.returns
 returns c =
     let count = c.slave_count-count.ensures in
-    let slave = c.slave_at-sl.ensures in
+    let slave = c.slave_at-slave.ensures in
     held_ours _ _ _ _ _ _ (not-false _ c.if-not-t.false) c.master_count.ensures c.if-master_count-m.false
     c.target_of-target.ensures
     (c.transfer_refusal_by-passed.ensures
-    ∙ refusal_parts _ c.requires.0 _ _ _ c.target_of-target.ensures c.master_at-ma.ensures slave count
+    ∙ refusal_parts _ c.requires.0 _ _ _ c.target_of-target.ensures c.master_at-master.ensures slave count
     c.default_at-default.ensures)
     c.is_ok.ensures.value
     (c.latency_by.ensures ∙ latency_parts _ c.requires.0 _ _ _ c.target_of-target.ensures slave count)

@@ -41,8 +41,8 @@ tested c =
     c.sound_slot_by.ensures
     ∙ slot_parts (board_in c.args.board.now) (state_in c.args.st.now) _ c.slot_at-slot.ensures
     c.master_count-masters.ensures c.args.targets.now c.requires (transfers_length _)
-    (omega (arith, c.loop-s-test.true, c.slave_count-s-end.ensures)) c.if-masters-slot.false c.shares_at-share.ensures c.master_at-ma.ensures
-    c.slave_at-sl.ensures c.transfer_at-t.ensures c.late_at-late.ensures
+    (omega (arith, c.loop-s-test.true, c.slave_count-s-end.ensures)) c.if-masters-slot.false c.shares_at-share.ensures c.master_at-master.ensures
+    c.slave_at-slave.ensures c.transfer_at-transfer.ensures c.late_at-late.ensures
 
 pub loop-s-init : goal.loop-s-init
 unfolding every
@@ -59,14 +59,14 @@ returns-then-masters-slot c =
 pub shares_at-share-requires : goal.shares_at-share-requires
 shares_at-share-requires c = (owner_known c, place_in (goal.at.shares_at-share-requires c).In-loop-s)
 
-pub master_at-ma-requires : goal.master_at-ma-requires
-master_at-ma-requires c = owner_known (goal.at.master_at-ma-requires c).After-struct_known-in-loop-s-1
+pub master_at-master-requires : goal.master_at-master-requires
+master_at-master-requires c = owner_known (goal.at.master_at-master-requires c).After-struct_known-in-loop-s-1
 
-pub slave_at-sl-requires : goal.slave_at-sl-requires
-slave_at-sl-requires c = place_in (goal.at.slave_at-sl-requires c).In-loop-s
+pub slave_at-slave-requires : goal.slave_at-slave-requires
+slave_at-slave-requires c = place_in (goal.at.slave_at-slave-requires c).In-loop-s
 
-pub transfer_at-t-requires : goal.transfer_at-t-requires
-transfer_at-t-requires c = owner_known (goal.at.transfer_at-t-requires c).After-struct_known-in-loop-s-1
+pub transfer_at-transfer-requires : goal.transfer_at-transfer-requires
+transfer_at-transfer-requires c = owner_known (goal.at.transfer_at-transfer-requires c).After-struct_known-in-loop-s-1
 
 pub late_at-late-requires : goal.late_at-late-requires
 late_at-late-requires c = owner_known (goal.at.late_at-late-requires c).After-struct_known-in-loop-s-1
@@ -83,7 +83,7 @@ sound_slot_by-requires c =
     λ q.
     slot_posted (board (goal.at.sound_slot_by-requires c).Start) (state (goal.at.sound_slot_by-requires c).Start) c.args.targets.now c.requires (transfers_length _) _ _ c.late_at-late.result
     (slave_in (goal.at.sound_slot_by-requires c).In-loop-s)
-    (owner_in (goal.at.sound_slot_by-requires c).After-struct_known-in-loop-s-1) q c.master_at-ma.ensures c.slave_at-sl.ensures c.transfer_at-t.ensures
+    (owner_in (goal.at.sound_slot_by-requires c).After-struct_known-in-loop-s-1) q c.master_at-master.ensures c.slave_at-slave.ensures c.transfer_at-transfer.ensures
 
 pub returns-then-not-sound_slot_by : goal.returns-then-not-sound_slot_by
 returns-then-not-sound_slot_by c =

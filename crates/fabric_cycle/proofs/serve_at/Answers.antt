@@ -8,8 +8,8 @@ pub returns : goal.returns
 returns c =
     let p = c.put_slot.ensures in
     let e = c.end_transfer.ensures in (
-      stepped_serving _ _ _ _ _ _ c.master_at-ma.ensures c.slave_at-sl.ensures
-          c.transfer_at-t.ensures _ _ _ _ _ _ c.serve-step.ensures p.state
+      stepped_serving _ _ _ _ _ _ c.master_at-master.ensures c.slave_at-slave.ensures
+          c.transfer_at-transfer.ensures _ _ _ _ _ _ c.serve-step.ensures p.state
           c.put_line.ensures c.latency_of-latency.ensures e.state c.weight_of.ensures,
       marks_then p.marks e.marks,
     )

@@ -32,9 +32,9 @@ pub record Placed (ma : Master) (sl : Slave) (t : Transfer) (k a : ℕ) : Type 0
 -- what the code asks once of a slave that serves
 pub record Asked (x : Service) : Type 0 where
   pub serving : x.slot.serving ≡ true
-  pub placed : Placed x.master x.slave x.transfer x.slot.done x.access
-  pub waiting : x.waiting ≡ waits x.slave x.transfer x.slot
-  pub total : x.total ≡ accesses x.master x.slave x.transfer
+  pub placed : Placed x.posting.pair.master x.posting.pair.slave x.posting.transfer x.slot.done x.access
+  pub waiting : x.waiting ≡ waits x.posting.pair.slave x.posting.transfer x.slot
+  pub total : x.total ≡ accesses x.posting.pair.master x.posting.pair.slave x.posting.transfer
 
 -- rules 2 and 3 (rules 4.8, 4.9) after rule 1: of the owner, the slave and the owner's transfer
 unfoldable pub step_from : Master → Slave → Transfer → Slot → Step

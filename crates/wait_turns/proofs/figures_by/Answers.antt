@@ -10,4 +10,4 @@ returns c =
     let pre = c.requires in
     let own = c.turn_at-own.ensures in
     let within : c.turn_at-own.result ≤ c.args.t.sum = own_within _ _ _ pre.1 pre.0.master own in
-    figures_at _ _ _ pre.1 pre.0.master c.slave_at-slave.ensures own (omega (arith, within)) c.master_at.ensures c.serve.ensures
+    figures_at _ _ _ pre.1 pre.0.master c.slave_at-slave.ensures own (omega (arith, within)) c.master_at-master.ensures c.serve.ensures

@@ -9,7 +9,7 @@ pub overflow_add-result : goal.overflow_add-result
 overflow_add-result c =
     let a = c.args.self in
     let h = waits_yes _ _ _ c.requires.waiting c.if-self.true in
-    omega (arith, h, wait_fits a.slave a.transfer 4294967296 (omega arith) (omega arith))
+    omega (arith, h, wait_fits a.posting.pair.slave a.posting.transfer 4294967296 (omega arith) (omega arith))
 
 pub returns-then-self : goal.returns-then-self
 returns-then-self c =
