@@ -11,7 +11,8 @@ use Rattle.std.proofs.lemmas.Slice.{put_mid-paste}
 use Rattle.common_laws.proofs.TextLists.{sets_append}
 use Rattle.common_text.specs.Digits.{digits, fields_text}
 use Rattle.common_text.specs.Fields.{comma}
-use Rattle.common_text.specs.Code.Scanning.{Put, two_digits, four_digits}
+use Rattle.common_text.specs.Code.Scanning.{Put, HasRoom, Wrote, two_digits, four_digits}
+use Rattle.common_text.specs.declared.Writer.{Writer}
 use Rattle.common_text.proofs.Decimal.{digits_last_two, digits_last_four, fields_more}
 
 -- nothing written
@@ -63,8 +64,23 @@ pub put_last_four :
     → Put p r (four_digits (n % 10000)) q t → Put o at (digits n) q t
 put_last_four n h g x y = rw (digits_last_four n h g) (put_then x y)
 
--- field i of a line behind those before it
-pub put_next :
-    {o p q : List ℕ} {at r t : ℕ} (ns : List ℕ) (i : ℕ) → i < length ns → Put o at (fields_text (take i ns)) p r
-    → Put p r (comma ∷ digits (get_or ns i 0)) q t → Put o at (fields_text (take (i + 1) ns)) q t
-put_next ns i h x y = rw (fields_more ns i h) (put_then x y)
+-- a writer that has written nothing
+pub wrote_none : (w : Writer) → Wrote w [] w
+wrote_none w = record { put = put_none _ _; same = refl }
+
+-- one text after another
+pub wrote_then : {u v w : Writer} {A B : List ℕ} → Wrote u A v → Wrote v B w → Wrote u (A ++ B) w
+wrote_then x y = record { put = put_then x.put y.put; same = y.same ∙ x.same }
+
+-- the room for a text that goes on
+pub room_first : (w : Writer) (A B : List ℕ) → HasRoom w (A ++ B) → HasRoom w A
+room_first w A B h = omega (arith, h, length-append A B)
+
+pub room_then : {v w : Writer} {A : List ℕ} (B : List ℕ) → HasRoom v (A ++ B) → Wrote v A w → HasRoom w B
+room_then {v} {w} {A} B h x = omega (arith, h, x.put.end, put_length x.put, length-append A B)
+
+-- field i of a line after those before it
+pub wrote_next :
+    {u v w : Writer} (ns : List ℕ) (i : ℕ) → i < length ns → Wrote u (fields_text (take i ns)) v
+    → Wrote v (comma ∷ digits (get_or ns i 0)) w → Wrote u (fields_text (take (i + 1) ns)) w
+wrote_next ns i h x y = rw (fields_more ns i h) (wrote_then x y)

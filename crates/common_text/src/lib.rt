@@ -5,7 +5,7 @@ ghost use Rattle.std.specs.Prelude.{◌≡◌, [], ◌∷◌, ◌≤◌, ◌<◌
 ghost use Rattle.common_text.specs.Fields.{comma, line_feed, split, scan};
 ghost use Rattle.common_text.specs.Fields.{number_of, most_numbers, numbers_of, with_number, no_numbers};
 ghost use Rattle.common_text.specs.Digits.{digits, fields_text, line_text};
-ghost use Rattle.common_text.specs.Code.Scanning.{behind, Cut, Put, two_digits, four_digits};
+ghost use Rattle.common_text.specs.Code.Scanning.{behind, Cut, Put, HasRoom, Wrote, two_digits, four_digits};
 
 use common_numbers::LINE_NUMBERS;
 
@@ -121,19 +121,10 @@ pub fn numbers_behind(line: &[u8], position: usize) -> Numbers
     }
 }
 
-// Writes s into out from position `at` on, for instance a word of rule 1.3; the answer is the position behind it.
-pub fn put_bytes(out: &mut [u8], at: usize, s: &[u8]) -> usize
-    requires { at + length s.now ≤ length out.old }
-    ensures { Put out.old at s.now out.new result }
-{
-    let end = at + s.len();
-    out[at..end].copy_from_slice(s);
-    end
-}
-
 // Writes the two digits of n, with a 0 in front where n has only one. This function and the five after it differ in the count of
-// digits, and are not one: a loop over the digits, or a call for each of them, takes more instructions (docs/DECISIONS.md, "The
-// table").
+// digits, and are not one: a loop over the digits, or a call for each of them, takes more instructions. They are lent the output
+// and the position by themselves: as methods of `Writer` they are not inlined, and `print_table` takes 6 in a hundred more, or with
+// `#[inline(always)]` 5 (docs/DECISIONS.md, "The table").
 fn put_two(out: &mut [u8], at: usize, n: u64) -> usize
     requires n_bound { n < 100 }
     requires at_in_bounds { at + 2 ≤ length out.old }
@@ -205,57 +196,80 @@ fn put_long(out: &mut [u8], at: usize, n: u64) -> usize
     put_four(out, next, n % 10000)
 }
 
-// Writes n in decimal (rule 1.5), the first digit first, so that no length has to be known. Nearly every number has at most eight
-// digits, and those are written by functions that can be inlined: a call of itself for each digit is three times the instructions.
-pub fn put_number(out: &mut [u8], at: usize, n: u64) -> usize
-    requires { at + length (digits n) ≤ length out.old }
-    ensures { Put out.old at (digits n) out.new result }
-{
-    if n < 100000000 {
-        return put_to_eight(out, at, n);
+// An output, and the position in it that is written next. What it writes stands after what it wrote before.
+#[derive(Drop)]
+pub struct Writer<'a> {
+    pub out: &'a mut [u8],
+    pub at: usize,
+}
+
+impl Writer<'_> {
+    // Writes s, for instance a word of rule 1.3.
+    pub fn put_bytes(&mut self, s: &[u8])
+        requires { HasRoom self.old s.now }
+        ensures { Wrote self.old s.now self.new }
+    {
+        let at = self.at;
+        let end = at + s.len();
+        self.out[at..end].copy_from_slice(s);
+        self.at = end;
     }
-    put_long(out, at, n)
-}
 
-// Writes a comma and n in decimal (rule 1.2).
-pub fn put_field(out: &mut [u8], at: usize, n: u64) -> usize
-    requires { at + (1 + length (digits n)) ≤ length out.old }
-    ensures { Put out.old at (comma ∷ digits n) out.new result }
-{
-    out[at] = b',';
-    let next = at + 1;
-    put_number(out, next, n)
-}
-
-// Writes a comma and a number, for each number (rule 1.2).
-pub fn put_fields(out: &mut [u8], at: usize, numbers: &[u64]) -> usize
-    requires { at + length (fields_text numbers.now) ≤ length out.old }
-    ensures { Put out.old at (fields_text numbers.now) out.new result }
-{
-    let mut next = at;
-    for n in numbers {
-        next = put_field(out, next, *n);
+    // Writes n in decimal (rule 1.5), the first digit first, so that no length has to be known. Nearly every number has at most
+    // eight digits, and those are written by functions that can be inlined: a call of itself for each digit is three times the
+    // instructions.
+    pub fn put_number(&mut self, n: u64)
+        requires { HasRoom self.old (digits n) }
+        ensures { Wrote self.old (digits n) self.new }
+    {
+        let at = self.at;
+        self.at = if n < 100000000 {
+            put_to_eight(&mut *self.out, at, n)
+        } else {
+            put_long(&mut *self.out, at, n)
+        };
     }
-    next
-}
 
-// Writes the line feed behind a line (rule 1.2).
-pub fn put_end(out: &mut [u8], at: usize) -> usize
-    requires { at + 1 ≤ length out.old }
-    ensures { Put out.old at (line_feed ∷ []) out.new result }
-{
-    out[at] = b'\n';
-    at + 1
-}
+    // Writes a comma and n in decimal (rule 1.2).
+    pub fn put_field(&mut self, n: u64)
+        requires { HasRoom self.old (comma ∷ digits n) }
+        ensures { Wrote self.old (comma ∷ digits n) self.new }
+    {
+        let at = self.at;
+        self.out[at] = b',';
+        self.at = at + 1;
+        self.put_number(n);
+    }
 
-// Writes a line: its first field, its numbers, the line feed (rules 1.2, 1.3).
-pub fn put_line(out: &mut [u8], at: usize, word: &[u8], numbers: &[u64]) -> usize
-    requires { at + length (line_text word.now numbers.now) ≤ length out.old }
-    ensures { Put out.old at (line_text word.now numbers.now) out.new result }
-{
-    let a = put_bytes(out, at, word);
-    let b = put_fields(out, a, numbers);
-    put_end(out, b)
+    // Writes a comma and a number, for each number (rule 1.2).
+    pub fn put_fields(&mut self, numbers: &[u64])
+        requires { HasRoom self.old (fields_text numbers.now) }
+        ensures { Wrote self.old (fields_text numbers.now) self.new }
+    {
+        for n in numbers {
+            self.put_field(*n);
+        }
+    }
+
+    // Writes the line feed after a line (rule 1.2).
+    pub fn put_end(&mut self)
+        requires { HasRoom self.old (line_feed ∷ []) }
+        ensures { Wrote self.old (line_feed ∷ []) self.new }
+    {
+        let at = self.at;
+        self.out[at] = b'\n';
+        self.at = at + 1;
+    }
+
+    // Writes a line: its first field, its numbers, the line feed (rules 1.2, 1.3).
+    pub fn put_line(&mut self, word: &[u8], numbers: &[u64])
+        requires { HasRoom self.old (line_text word.now numbers.now) }
+        ensures { Wrote self.old (line_text word.now numbers.now) self.new }
+    {
+        self.put_bytes(word);
+        self.put_fields(numbers);
+        self.put_end();
+    }
 }
 
 // How many bytes n takes in decimal (rule 1.5), so that a writer knows a text's length before it writes.

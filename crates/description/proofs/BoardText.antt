@@ -10,8 +10,9 @@ use lib.ListN.{length, get_or, length-append}
 use borrow.Author.Tests.{lt-ltb, le-ltb, ne_eqb}
 use Rattle.common_laws.specs.Lists.{gather, table}
 use Rattle.common_laws.proofs.TableLaws.{below_suc}
-use Rattle.common_text.specs.Code.Scanning.{Put}
-use Rattle.common_text.proofs.Puts.{put_then, put_front}
+use Rattle.common_text.specs.declared.Writer.{Writer}
+use Rattle.common_text.specs.Code.Scanning.{Put, Wrote}
+use Rattle.common_text.proofs.Puts.{wrote_then, put_front}
 use Rattle.description_board.specs.declared.Board.{Board}
 use Rattle.description_board.specs.declared.Item.{Item}
 use Rattle.description_board.specs.declared.Item.TheVariants.{ShareLine}
@@ -103,9 +104,9 @@ module _ (b : Board) where
     room_next h =
         rw (← e, text_one x, text_all (entry_count b) refl) at (gather_room (λ j. option_to_list (line_at b j)) (entry_count b) k h)
 
-    pub put_next : {o p q : List ℕ} {at r t : ℕ} → Put o at (items_text (lines_to b k)) p r → Put p r (item_text x) q t
-        → Put o at (items_text (lines_to b (k + 1))) q t
-    put_next y z = rw text_next (put_then y z)
+    pub wrote_next : {u v w : Writer} → Wrote u (items_text (lines_to b k)) v → Wrote v (item_text x) w
+        → Wrote u (items_text (lines_to b (k + 1))) w
+    wrote_next y z = rw text_next (wrote_then y z)
 
 -- a board's text in four parts
 module _ (b : Board) where

@@ -13,13 +13,15 @@ ghost use Rattle.description.specs.Code.Reading.{named, Comes, LinesCome};
 ghost use Rattle.description.specs.Writer.{write_text, write_answer, written_of, write_output};
 
 use common_numbers::{BOARD_NUMBERS, Refusal, TEXT_BYTES};
+use common_text::Writer;
 use description_board::Board;
 
 // No accepted board's text has more bytes (rules 1.3, 1.6): 8 master lines of 12, 16 slave lines of 41, 128 share lines of 15, the line
 // `default` of 8.
 pub const LONGEST: usize = 8 * 12 + 16 * 41 + 128 * 15 + 8;
 
-// What the definitions say a text is read to: a refusal's number with the zero board, or 0 and the board (rule 8.1).
+// What the definitions say a text is read to: a refusal's number with the zero board, or 0 and the board (rule 8.1). No code makes
+// one.
 #[derive(Clone, Copy)]
 pub struct Parsed {
     pub number: u32,
@@ -126,13 +128,13 @@ fn put_board(out: &mut [u8], board: &[u32; BOARD_NUMBERS]) -> usize
     ensures { Put out.old 0 (write_text (board_in board.now)) out.new result }
 {
     let n = description_check::entry_count(board);
-    let mut next: usize = 0;
+    let mut writer = Writer { out, at: 0 };
     for k in 0..n {
         if let Some(item) = description_check::line_at(board, k) {
-            next = description_lines::put_item(out, next, item);
+            description_lines::put_item(&mut writer, item);
         }
     }
-    next
+    writer.at
 }
 
 // How many bytes put_board writes (rule 1.9) for a board that is accepted: then it has few entries.

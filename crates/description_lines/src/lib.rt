@@ -2,13 +2,13 @@
 #![tactic(auto)]
 
 ghost use Rattle.std.specs.Prelude.{◌≡◌, ◌+◌, ◌≤◌, ◌<◌, length};
-ghost use Rattle.common_text.specs.Code.Scanning.{Put};
+ghost use Rattle.common_text.specs.Code.Scanning.{HasRoom, Wrote};
 ghost use Rattle.description_lines.specs.Reader.{master_line, slave_line, share_line, item_of};
 ghost use Rattle.description_lines.specs.Code.LineFrom.{LineFrom};
 ghost use Rattle.description_lines.specs.Writer.{slave_fields, item_text};
 
 use common_numbers::SLAVE_FIELDS;
-use common_text::Numbers;
+use common_text::{Numbers, Writer};
 use description_board::{Item, SlaveNumbers};
 
 // A line that was read, and the position in its text where the next one starts (rule 1.2).
@@ -138,21 +138,16 @@ fn slave_fields(n: SlaveNumbers) -> [u64; SLAVE_FIELDS]
 }
 
 // Writes a line with its line feed (rules 1.2, 1.3); a malformed one has no bytes, and no board has one.
-pub fn put_item(out: &mut [u8], at: usize, x: Item) -> usize
-    requires { at + length (item_text x) ≤ length out.old }
-    ensures { Put out.old at (item_text x) out.new result }
+pub fn put_item(writer: &mut Writer<'_>, x: Item)
+    requires { HasRoom writer.old (item_text x) }
+    ensures { Wrote writer.old (item_text x) writer.new }
 {
     match x {
-        Item::Malformed => at,
-        Item::MasterLine(width, burst) => common_text::put_line(
-            out,
-            at,
-            b"master",
-            &[width, burst],
-        ),
-        Item::SlaveLine(n) => common_text::put_line(out, at, b"slave", &slave_fields(n)),
-        Item::ShareLine(m, s, shares) => common_text::put_line(out, at, b"share", &[m, s, shares]),
-        Item::DefaultLine => common_text::put_line(out, at, b"default", &[]),
+        Item::Malformed => {}
+        Item::MasterLine(width, burst) => writer.put_line(b"master", &[width, burst]),
+        Item::SlaveLine(n) => writer.put_line(b"slave", &slave_fields(n)),
+        Item::ShareLine(m, s, shares) => writer.put_line(b"share", &[m, s, shares]),
+        Item::DefaultLine => writer.put_line(b"default", &[]),
     }
 }
 

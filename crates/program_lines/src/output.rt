@@ -2,6 +2,7 @@
 ghost use Rattle.std.specs.Prelude.{◌≡◌, ◌+◌, ◌*◌, ◌<◌, ◌≤◌, true, length};
 
 use crate::hex;
+use common_text::Writer;
 
 // The length of the buffer.
 const ROOM: usize = 65536;
@@ -64,8 +65,12 @@ impl Printer<'_> {
     {
         let most = word.len() + 21 * numbers.len() + 1;
         self.make_room(most);
-        let at = self.filled;
-        self.filled = common_text::put_line(&mut self.bytes, at, word, numbers);
+        let mut writer = Writer {
+            out: &mut self.bytes,
+            at: self.filled,
+        };
+        writer.put_line(word, numbers);
+        self.filled = writer.at;
     }
 
     // Prints one byte in hex.

@@ -8,6 +8,7 @@ ghost use Rattle.wait_table.specs.Tables.{file_line, Begins};
 ghost use Rattle.table.specs.Preparing.{Reads};
 
 use common_numbers::TEXT_ROOM;
+use common_text::Writer;
 use program_options::Mode;
 use program_streams::Outcome;
 use std::io;
@@ -111,9 +112,11 @@ fn put_file_line(line: &mut [u8], name: &[u8]) -> usize
     requires { length name.now + 6 ≤ length line.old }
     ensures { Begins (file_line name.now) line.new result }
 {
-    let after = common_text::put_bytes(line, 0, b"file,");
-    let end = common_text::put_bytes(line, after, name);
-    common_text::put_end(line, end)
+    let mut writer = Writer { out: line, at: 0 };
+    writer.put_bytes(b"file,");
+    writer.put_bytes(name);
+    writer.put_end();
+    writer.at
 }
 
 // The line and the page of the file that the word at an index names, likewise.

@@ -6,13 +6,14 @@
 ghost use Rattle.std.specs.Prelude.{◌≡◌, ◌+◌, ◌≤◌, length, IfSome};
 
 use common_numbers::{BOARD_NUMBERS, TEXT_ROOM};
+use common_text::Writer;
 use program_streams::Outcome;
 
 // The bytes of a piece of the input, and of what is printed at once.
 const PIECE: usize = 65536;
 
 // The input. Of the piece that was read last the bytes from `at` up to `end` are still to be taken. `last`: no further piece is
-// to be read, since the input has ended or cannot be read.
+// to be read, since the input has ended or cannot be read: a mark alone, since a failed read is reported at once.
 #[derive(Drop)]
 struct Input {
     piece: [u8; PIECE],
@@ -93,18 +94,24 @@ fn take_body(rt: &HostRuntime, input: &mut Input, size: u64, into: &mut [u8]) ->
 const ANSWER_ROOM: usize = 8300;
 
 // Puts the answer for a description into the output from `at` on; the answer is the position after it. A board that was read is
-// one that the writer takes, and its text is no longer than the record's, so that the room is enough.
+// one that the writer takes, and its text is no longer than the record's, so that the room is enough. The output and the position are
+// two fields of `Output`, lent by themselves: what is written last is a part of the output, and no line of a `Writer`.
 fn put_answer(out: &mut [u8], at: usize, record: &[u8]) -> usize
     requires { at + 8300 ≤ length out.old }
     ensures { result ≤ length out.old }
 {
     let mut board = [0; BOARD_NUMBERS];
+    let mut writer = Writer { out, at };
     match description::read(record, &mut board) {
         Ok(()) => {
-            let next = common_text::put_line(out, at, b"read", &[0]);
-            next + description::write(&board, &mut out[next..]).unwrap_or(0)
+            writer.put_line(b"read", &[0]);
+            let next = writer.at;
+            next + description::write(&board, &mut writer.out[next..]).unwrap_or(0)
         }
-        Err(refusal) => common_text::put_line(out, at, b"read", &[u64::from(refusal.number())]),
+        Err(refusal) => {
+            writer.put_line(b"read", &[u64::from(refusal.number())]);
+            writer.at
+        }
     }
 }
 

@@ -10,6 +10,7 @@ ghost use Rattle.wait.specs.Answers.{bytes64, pair_refusal, wait_refusal, wait_o
 ghost use Rattle.wait.specs.Calls.{quoted_in, quote_of};
 
 use common_numbers::{BOARD_NUMBERS, Refusal};
+use common_text::Writer;
 use wait_turns::Quote;
 
 // Writes wait and serve, 8 bytes each, the lowest first (rule 5.8).
@@ -19,8 +20,10 @@ fn put_figures(out: &mut [u8], q: Quote) -> usize
 {
     let wait = q.wait.to_le_bytes();
     let serve = q.serve.to_le_bytes();
-    let after = common_text::put_bytes(out, 0, &wait);
-    common_text::put_bytes(out, after, &serve)
+    let mut writer = Writer { out, at: 0 };
+    writer.put_bytes(&wait);
+    writer.put_bytes(&serve);
+    writer.at
 }
 
 // What a pair of a legal board that a wait is looked up for is refused for (rules 7.11, 7.16).

@@ -191,13 +191,13 @@ module _ (text : List ℕ) {k : ℕ} (e : k ≡ (read_text text).number) where
               let z = lt-ltb (length out) (length (table_of text)) (omega (arith, page_end)) in
               (rw (accepted, z), rw (accepted, z))
 
-          pub table_printed : n ≤ length out → {o : List ℕ} {t : ℕ} → Put out 0 (take n page) o t
-              → Prints text out (record { number = 0; length = n }) o
+          pub table_printed : n ≤ length out → {copied : List ℕ} → copied ≡ take n page
+              → Prints text out (record { number = 0; length = n }) (copied ++ drop n out)
           unfolding print_answer print_output print_refusal
-          table_printed h y =
+          table_printed h e =
               let l : length (table_of text) ≤ length out = omega (arith, page_end) in
               let z = le-ltb (length out) (length (table_of text)) l in
-              (rw (accepted, z, page_end), rw (accepted, z) (put_front (rw page_text at y) l))
+              (rw (accepted, z, page_end), rw (accepted, z, e ∙ page_text, page_end) refl)
 
 -- a list that begins with a text
 pub begins : (text list before : List ℕ) (n : ℕ) → list ≡ text ++ drop (length text) before → n ≡ length text → Begins text list n

@@ -10,8 +10,9 @@ use lib.Seq.{get_or-set_same, get_or-set_other}
 use borrow.Author.Tests.{lt-ltb}
 use Rattle.common_laws.specs.Lists.{gather}
 use Rattle.common_laws.proofs.ListLaws.{gather_suc}
-use Rattle.common_text.specs.Code.Scanning.{Put}
-use Rattle.common_text.proofs.Puts.{put_then, put_length}
+use Rattle.common_text.specs.declared.Writer.{Writer}
+use Rattle.common_text.specs.Code.Scanning.{HasRoom, Wrote}
+use Rattle.common_text.proofs.Puts.{wrote_then, put_length}
 use Rattle.description_board.specs.declared.Board.{Board}
 use Rattle.description_board.specs.Records.{shares_at, connected}
 use Rattle.wait_turns.specs.declared.Quote.{Quote}
@@ -32,34 +33,34 @@ module _ (b : Board) (m s : ℕ) (x : PairOf b m s) {n : ℕ} (e : n ≡ shares_
   line_some z f = rw (lt-ltb s b.slave_count x.slave, ← e, lt-ltb 0 n (omega arith), f)
 
 -- piece after piece: the first i are written
-module _ (f : ℕ → List ℕ) (i : ℕ) {o p : List ℕ} {at r : ℕ} (x : Put o at (gather f i) p r) where
+module _ (f : ℕ → List ℕ) (i : ℕ) {u v : Writer} (x : Wrote u (gather f i) v) where
   -- the room that is left for one more of n
-  pub piece_room : (n : ℕ) → i < n → at + length (gather f n) ≤ length o → r + length (f i) ≤ length p
-  piece_room n h l = omega (arith, x.end, put_length x, gather_room f i n h, l)
+  pub piece_room : (n : ℕ) → i < n → HasRoom u (gather f n) → HasRoom v (f i)
+  piece_room n h l = omega (arith, x.put.end, put_length x.put, gather_room f i n h, l)
 
-  pub piece_next : {q : List ℕ} {t : ℕ} → Put p r (f i) q t → Put o at (gather f (i + 1)) q t
-  piece_next y = rw (gather_suc f i) (put_then x y)
+  pub piece_next : {w : Writer} → Wrote v (f i) w → Wrote u (gather f (i + 1)) w
+  piece_next y = rw (gather_suc f i) (wrote_then x y)
 
 -- the lines of all pairs are those of each master
 module _ (b : Board) where
-  pub pairs_put : {o p : List ℕ} {at m r : ℕ} → Put o at (gather (master_lines b) m) p r → m ≡ b.master_count
-      → Put o at (pair_lines b) p r
+  pub pairs_wrote : {u v : Writer} {m : ℕ} → Wrote u (gather (master_lines b) m) v → m ≡ b.master_count
+      → Wrote u (pair_lines b) v
   unfolding pair_lines master_lines
-  pairs_put x e = rw e at x
+  pairs_wrote x e = rw e at x
 
-  pub pairs_room : {o p : List ℕ} {at m r : ℕ} → Put o at (gather (master_lines b) m) p r → m < b.master_count
-      → at + length (pair_lines b) ≤ length o → r + length (master_lines b m) ≤ length p
+  pub pairs_room : {u v : Writer} {m : ℕ} → Wrote u (gather (master_lines b) m) v → m < b.master_count
+      → HasRoom u (pair_lines b) → HasRoom v (master_lines b m)
   unfolding pair_lines master_lines
   pairs_room {m = m} x h l = piece_room (master_lines b) m x b.master_count h l
 
   -- those of a master are complete with its last slave
-  pub lines_put : (m : ℕ) {o p : List ℕ} {at s r : ℕ} → Put o at (gather (pair_line b m) s) p r → s ≡ b.slave_count
-      → Put o at (master_lines b m) p r
+  pub lines_wrote : (m : ℕ) {u v : Writer} {s : ℕ} → Wrote u (gather (pair_line b m) s) v → s ≡ b.slave_count
+      → Wrote u (master_lines b m) v
   unfolding master_lines
-  lines_put m x e = rw e at x
+  lines_wrote m x e = rw e at x
 
-  pub lines_room : (m : ℕ) {o p : List ℕ} {at s r : ℕ} → Put o at (gather (pair_line b m) s) p r → s < b.slave_count
-      → at + length (master_lines b m) ≤ length o → r + length (pair_line b m s) ≤ length p
+  pub lines_room : (m : ℕ) {u v : Writer} {s : ℕ} → Wrote u (gather (pair_line b m) s) v → s < b.slave_count
+      → HasRoom u (master_lines b m) → HasRoom v (pair_line b m s)
   unfolding master_lines
   lines_room m {s = s} x h l = piece_room (pair_line b m) s x b.slave_count h l
 

@@ -3,7 +3,7 @@
 
 ghost use Rattle.std.specs.Prelude.{◌≡◌, ◌+◌, ◌≤◌, ◌<◌, length};
 ghost use Rattle.common_numbers.specs.Refusals.{refusal_in};
-ghost use Rattle.common_text.specs.Code.Scanning.{Put};
+ghost use Rattle.common_text.specs.Code.Scanning.{Put, HasRoom, Wrote};
 ghost use Rattle.description_board.specs.Legal.{Legal};
 ghost use Rattle.description_layout.specs.Layout.{board_in};
 ghost use Rattle.description.specs.Reader.{read_text};
@@ -13,38 +13,32 @@ ghost use Rattle.wait_table.specs.Tables.{printed_in, printed, page_output};
 ghost use Rattle.wait_table.specs.Code.PairLines.{quote_line, master_lines, Summed};
 
 use common_numbers::{BOARD_NUMBERS, Refusal, SLAVES};
+use common_text::Writer;
 use wait_turns::{Quote, Turns};
 
 // Writes the table's line of a pair (rule 5.9).
-fn put_quote(out: &mut [u8], at: usize, m: u32, s: u32, q: Quote) -> usize
-    requires { at + length (quote_line m s q) ≤ length out.old }
-    ensures { Put out.old at (quote_line m s q) out.new result }
+fn put_quote(writer: &mut Writer<'_>, m: u32, s: u32, q: Quote)
+    requires { HasRoom writer.old (quote_line m s q) }
+    ensures { Wrote writer.old (quote_line m s q) writer.new }
 {
     let numbers = [u64::from(s), q.wait, q.serve];
-    let after = common_text::put_number(out, at, u64::from(m));
-    let end = common_text::put_fields(out, after, &numbers);
-    common_text::put_end(out, end)
+    writer.put_number(u64::from(m));
+    writer.put_fields(&numbers);
+    writer.put_end();
 }
 
 // Writes the line of master m at slave s, where they are connected (rule 5.9), by the turns there.
-#[tactic(auto, using(crate::proofs::TableLines::line_none, crate::proofs::TableLines::line_some, common_text::proofs::Puts::put_none))]
-fn put_pair(
-    out: &mut [u8],
-    at: usize,
-    board: &[u32; BOARD_NUMBERS],
-    t: Turns,
-    m: u32,
-    s: u32,
-) -> usize
+#[tactic(auto, using(crate::proofs::TableLines::line_none, crate::proofs::TableLines::line_some, common_text::proofs::Puts::wrote_none))]
+fn put_pair(writer: &mut Writer<'_>, board: &[u32; BOARD_NUMBERS], t: Turns, m: u32, s: u32)
     requires pair_of { PairOf (board_in board.now) m s × (t ≡ slave_turns (board_in board.now) s) }
-    requires s_in_bounds { at + length (pair_line (board_in board.now) m s) ≤ length out.old }
-    ensures { Put out.old at (pair_line (board_in board.now) m s) out.new result }
+    requires s_in_bounds { HasRoom writer.old (pair_line (board_in board.now) m s) }
+    ensures { Wrote writer.old (pair_line (board_in board.now) m s) writer.new }
 {
     if description_layout::shares_at(board, m as usize, s as usize) == 0 {
-        return at;
+        return;
     }
     let q = wait_turns::figures_by(board, t, m, s);
-    put_quote(out, at, m, s, q)
+    put_quote(writer, m, s, q);
 }
 
 // The turns of each slave (rules 5.1, 5.6, 5.7), added up once for all masters. The array has a place for each slave that a board can
@@ -67,37 +61,32 @@ fn add_turns(board: &[u32; BOARD_NUMBERS]) -> [Turns; SLAVES]
 // Writes the lines of master m, slave after slave (rule 5.9).
 #[tactic(auto, using(crate::proofs::TableLines::lines_room))]
 fn put_master_lines(
-    out: &mut [u8],
-    at: usize,
+    writer: &mut Writer<'_>,
     board: &[u32; BOARD_NUMBERS],
     turns: &[Turns; SLAVES],
     m: u32,
-) -> usize
+)
     requires legal { Legal (board_in board.now) × (m < (board_in board.now).master_count) }
     requires summed { Summed (board_in board.now) (board_in board.now).slave_count turns.now }
-    requires m_in_bounds { at + length (master_lines (board_in board.now) m) ≤ length out.old }
-    ensures { Put out.old at (master_lines (board_in board.now) m) out.new result }
+    requires m_in_bounds { HasRoom writer.old (master_lines (board_in board.now) m) }
+    ensures { Wrote writer.old (master_lines (board_in board.now) m) writer.new }
 {
-    let mut next = at;
     for s in 0..description_layout::slave_count(board) {
-        next = put_pair(out, next, board, turns[s as usize], m, s);
+        put_pair(writer, board, turns[s as usize], m, s);
     }
-    next
 }
 
 // Writes the lines of all pairs, master after master (rule 5.9).
 #[tactic(auto, using(crate::proofs::TableLines::pairs_room))]
-fn put_pairs(out: &mut [u8], at: usize, board: &[u32; BOARD_NUMBERS]) -> usize
+fn put_pairs(writer: &mut Writer<'_>, board: &[u32; BOARD_NUMBERS])
     requires legal { Legal (board_in board.now) }
-    requires board_in_bounds { at + length (pair_lines (board_in board.now)) ≤ length out.old }
-    ensures { Put out.old at (pair_lines (board_in board.now)) out.new result }
+    requires board_in_bounds { HasRoom writer.old (pair_lines (board_in board.now)) }
+    ensures { Wrote writer.old (pair_lines (board_in board.now)) writer.new }
 {
     let turns = add_turns(board);
-    let mut next = at;
     for m in 0..description_layout::master_count(board) {
-        next = put_master_lines(out, next, board, &turns, m);
+        put_master_lines(writer, board, &turns, m);
     }
-    next
 }
 
 // No accepted board's table has more bytes: the first line's 24, and for each of 8 masters 10 lines of 19 (a slave of one digit)
@@ -110,8 +99,10 @@ fn put_table(out: &mut [u8], board: &[u32; BOARD_NUMBERS]) -> usize
     requires board_in_bounds { length (table_text (board_in board.now)) ≤ length out.old }
     ensures { Put out.old 0 (table_text (board_in board.now)) out.new result }
 {
-    let at = common_text::put_bytes(out, 0, b"master,slave,wait,serve\n");
-    put_pairs(out, at, board)
+    let mut writer = Writer { out, at: 0 };
+    writer.put_bytes(b"master,slave,wait,serve\n");
+    put_pairs(&mut writer, board);
+    writer.at
 }
 
 // The table of the board that a text describes, at the front of out, and the count of its bytes (rules 5.9, 8.6). It is made aside,
@@ -130,7 +121,7 @@ pub fn print_table(text: &[u8], out: &mut [u8]) -> Result<usize, Refusal>
     if out.len() < n {
         return Err(Refusal::ShortOutput);
     }
-    common_text::put_bytes(out, 0, &page[..n]);
+    out[..n].copy_from_slice(&page[..n]);
     Ok(n)
 }
 
@@ -144,7 +135,9 @@ pub fn print_page(text: &[u8], page: &mut [u8; LONGEST_TABLE]) -> usize
         Ok(length) => length,
         Err(refusal) => {
             let numbers = [u64::from(refusal.number())];
-            common_text::put_line(page, 0, b"refused", &numbers)
+            let mut writer = Writer { out: page, at: 0 };
+            writer.put_line(b"refused", &numbers);
+            writer.at
         }
     }
 }

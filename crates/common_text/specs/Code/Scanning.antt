@@ -3,6 +3,7 @@
 use Rattle.std.specs.Prelude.{◌≡◌, cond, List, [], ◌∷◌, ◌++◌, ℕ, ◌≤◌, ◌+◌, ◌/◌, ◌%◌, ltb, length, take, drop}
 use Rattle.std.proofs.lemmas.List.Edits.{sets}
 use Rattle.common_text.specs.Fields.{split}
+use Rattle.common_text.specs.declared.Writer.{Writer}
 
 -- the pieces of s behind the separator at `position`; none where s ends there. `take` and `drop` of more than there is are
 -- all of the list and none of it.
@@ -27,3 +28,12 @@ two_digits n = (48 + n / 10) ∷ (48 + n % 10) ∷ []
 -- the four digits of n, which has at most four, with a 0 in front for each that it lacks
 unfoldable pub four_digits : ℕ → List ℕ
 four_digits n = two_digits (n / 100) ++ two_digits (n % 100)
+
+-- the output of w has room for `text` from its position on
+abbrev pub HasRoom : Writer → List ℕ → Type 0
+HasRoom w text = w.at + length text ≤ length w.out.now
+
+-- w has written `text` and become `after`, which lends the same output
+pub record Wrote (w : Writer) (text : List ℕ) (after : Writer) : Type 0 where
+  pub put : Put w.out.now w.at text after.out.now after.at
+  pub same : after.out.ghost_name ≡ w.out.ghost_name

@@ -1,7 +1,7 @@
 -- `description_lines::put_item` meets its contract, kind by kind. Assumes nothing.
 use mathlib.Core.Path.{refl}
 use Rattle.common_laws.specs.Bytes.{bytes_of}
-use Rattle.common_text.proofs.Puts.{put_none}
+use Rattle.common_text.proofs.Puts.{wrote_none}
 use Rattle.description_lines.specs.Reader.{master_word, slave_word, share_word, default_word}
 use Rattle.description_lines.specs.Writer.{item_text}
 use Rattle.description_lines.proofs.WriteLaws.{line_room_lem}
@@ -27,7 +27,7 @@ put_line-requires-in-DefaultLine c = line_room_lem _ _ default_word _ _ refl (rw
 
 pub returns-in-Malformed : goal.returns-in-Malformed
 unfolding item_text
-returns-in-Malformed c = rw c.in-Malformed.is (put_none _ _)
+returns-in-Malformed c = rw c.in-Malformed.is (wrote_none _)
 
 pub returns-in-MasterLine : goal.returns-in-MasterLine
 unfolding item_text bytes_of

@@ -27,6 +27,8 @@ pub returns-in-Err : goal.returns-in-Err
 unfolding bytes_of longest_table
 returns-in-Err c =
     let e = c.in-Err.ensures in
+    let s = c.put_line.ensures.same in
     let w = page_refused _ _ _ (e.answer, (e.output, e.room)) (lit≤ tt) (search rules) (refusal_not_zero _)
-    (rw (c.from.ensures, c.number.ensures) at c.put_line.ensures) in
-    record { answer = w.0; output = w.1 }
+    (rw (c.from.ensures, c.number.ensures) at c.put_line.ensures.put) in
+    let after = w.1 in
+    record { answer = w.0; output = search (rules, after, s) }

@@ -48,14 +48,24 @@ returns-then-out-n c =
 pub slice_bounds-page-end : goal.slice_bounds-page-end
 slice_bounds-page-end c = within (goal.at.slice_bounds-page-end c).After-put_table-n
 
-pub slice_bounds-put_bytes-end : goal.slice_bounds-put_bytes-end
-slice_bounds-put_bytes-end c =
-    omega (arith, within (goal.at.slice_bounds-put_bytes-end c).After-put_table-n, length-take c.put_table-n.result c.put_table-n.new.out)
+pub slice_bounds-copy_from_slice-end-3 : goal.slice_bounds-copy_from_slice-end-3
+slice_bounds-copy_from_slice-end-3 c =
+    omega (
+      arith,
+      within (goal.at.slice_bounds-copy_from_slice-end-3 c).After-put_table-n,
+      length-take c.put_table-n.result c.put_table-n.new.out,
+    )
 
-pub put_bytes-requires : goal.put_bytes-requires
-put_bytes-requires c =
-    let t = c.put_table-n in
-    omega (arith, length-take t.result t.new.out)
+pub copy_from_slice-requires : goal.copy_from_slice-requires
+copy_from_slice-requires c =
+    let n = c.put_table-n.result in
+    omega (
+      arith,
+      within (goal.at.copy_from_slice-requires c).After-put_table-n,
+      length-take n c.put_table-n.new.out,
+      length-take n c.args.out.now,
+      c.if-out-n.false,
+    )
 
 pub returns : goal.returns
 unfolding longest_table
@@ -63,5 +73,5 @@ returns c =
     let t = (goal.at.returns c).After-put_table-n in
     let x = c.read.ensures in
     let w = promised _ _ _ (omega arith)
-    (table_printed _ x.number (none t) (x.board (none t)) c.put_table-n.ensures (room t) _ c.if-out-n.false c.put_bytes.ensures) in
+    (table_printed _ x.number (none t) (x.board (none t)) c.put_table-n.ensures (room t) _ c.if-out-n.false c.copy_from_slice.ensures.after) in
     record { answer = w.0; output = w.1.0; room = w.1.1 }
