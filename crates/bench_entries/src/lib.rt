@@ -7,16 +7,6 @@ ghost use Rattle.std.specs.Prelude.{◌<◌};
 use common_numbers::{BOARD_NUMBERS, LINES_NUMBERS, MASTERS, STATE_NUMBERS};
 use description_board::{Master, Slave};
 
-// All lanes of a legal width (rule 1.6).
-fn all_lanes(width: u32) -> u32 {
-    match width {
-        1 => 1,
-        2 => 3,
-        4 => 15,
-        _ => 255,
-    }
-}
-
 // The slave that transfer number `index` of master m is for: one slave after another.
 fn slave_for(count: u32, m: u32, index: u32) -> usize
     ensures { result < 16 }
@@ -44,7 +34,7 @@ fn next_transfer(ma: Master, sl: Slave, index: u32) -> Next
     Next {
         write,
         address: sl.base,
-        lanes: all_lanes(ma.width),
+        lanes: fabric_lanes::all_lanes(ma.width.min(8)),
         length: if write { (ma.width % 9) as usize } else { 0 },
     }
 }

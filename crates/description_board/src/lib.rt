@@ -72,7 +72,8 @@ pub enum Item {
 }
 
 // What has been read of a description (rule 8.2): the refusal's number or 0, the rank of the pair on the line above, from 1, and 0
-// where that is no share line, the board so far.
+// where that is no share line, the board so far. A record of the definitions (`step`), which give a refusal by its number; no code makes
+// one.
 #[derive(Clone, Copy)]
 pub struct Reading {
     pub number: u32,

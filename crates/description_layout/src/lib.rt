@@ -38,7 +38,8 @@ pub fn slave_count(board: &[u32; BOARD_NUMBERS]) -> u32
     board[1]
 }
 
-// Master m (rules 1.1, 1.10).
+// Master m (rules 1.1, 1.10). An index stays a number with its bound as a `requires`, here and in the crates above: a loop over 0..8 or
+// 0..16 gives the bound by itself, and a type for it would be made and read back at each use.
 #[tactic(auto, using(crate::proofs::BoardLaws::master_read), unfolding(crate::specs::Layout::master_from))]
 pub fn master_at(board: &[u32; BOARD_NUMBERS], m: usize) -> Master
     requires { m < 8 }

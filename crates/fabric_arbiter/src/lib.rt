@@ -24,7 +24,8 @@ pub enum Winner {
     NoOne,
 }
 
-// Whether bit m of the mask of requests is 1 (rule 4.3).
+// Whether bit m of the mask of requests is 1 (rule 4.3). This test of a bit is one expression, and is written in each crate that reads a
+// mask: a function for all would have this guard, or ask for what each of them knows.
 fn is_requesting(requests: u32, m: u32) -> bool
     ensures { result ≡ bit requests m }
 {

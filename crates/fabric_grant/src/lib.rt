@@ -21,7 +21,8 @@ pub struct Arbitrated {
 }
 
 // The choice (rules 4.3 to 4.6): the grant of slave s, whose arbiter is `last`, by a mask of who requests it. Shares and beats are read
-// once it is known whose.
+// once it is known whose. Slave and mask are two of five arguments that differ in kind, each with its bound; a record of them would say
+// no more than the `requires`.
 fn choose(
     last: Arbiter,
     board: &[u32; BOARD_NUMBERS],
@@ -82,7 +83,8 @@ fn arbitrate(
     Arbitrated { arbiter: a, grant }
 }
 
-// The slave's arbiter (rule 4.1).
+// The slave's arbiter (rule 4.1). No `From`: it would have to stand in fabric_state, which has no function, so that edits of its rules
+// are cheap.
 fn arbiter_of(slot: Slot) -> Arbiter
     ensures { result ≡ arbiter_of slot }
 {

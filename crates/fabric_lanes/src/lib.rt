@@ -4,7 +4,8 @@
 ghost use Rattle.std.specs.Prelude.{◌≡◌, ◌≤◌};
 ghost use Rattle.fabric_lanes.specs.Lanes.{all_lanes, legal_lanes, post_lanes};
 
-// The mask of the lowest lanes, as many as the width (rule 3.5).
+// The mask of the lowest lanes, as many as the width (rule 3.5). That a width is at most 8 stays a `requires` here and below: it is a
+// number of a master's record, and a type for it would be made at each call.
 pub fn all_lanes(width: u32) -> u32
     requires { width ≤ 8 }
     ensures { result ≡ all_lanes width }

@@ -146,7 +146,7 @@ pub fn enter(st: &mut [u32; STATE_NUMBERS], e: Entry)
     st[LOST_AT] = 1;
 }
 
-// Entry i of the log becomes the one behind it, number for number (rule 4.19). A slice has no method that copies within it.
+// Entry i of the log becomes the one behind it, number for number (rule 4.19).
 fn move_entry(st: &mut [u32; STATE_NUMBERS], i: usize)
     requires { i < 7 }
     ensures { (state_in st.new
@@ -195,7 +195,8 @@ fn response_for(on: bool) -> u32
     if on { DECODE_ERROR } else { OKAY }
 }
 
-// The clock's responses: 3 for each master of the mask, 0 for the others (rules 4.13, 4.17).
+// The clock's responses: 3 for each master of the mask, 0 for the others (rules 4.13, 4.17); of the test see
+// fabric_arbiter::is_requesting.
 pub fn put_responses(responses: &mut [u32; MASTERS], mask: u32)
     ensures { responses.new ≡ responses_for mask }
 {

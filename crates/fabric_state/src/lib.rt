@@ -84,7 +84,8 @@ pub const NO_LINE: Line = Line {
     place: 0,
 };
 
-// One slave's clock: the slot after it, its line, whether it carries out its owner's last access (rules 4.3 to 4.9, 4.13).
+// One slave's clock: the slot after it, its line, whether it carries out its owner's last access (rules 4.3 to 4.9, 4.13). `last` is
+// the definition's (`served`), and says something of the line, whatever the line is.
 #[derive(Clone, Copy)]
 pub struct Step {
     pub slot: Slot,

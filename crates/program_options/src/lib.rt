@@ -31,7 +31,8 @@ enum Word {
     Unknown,
 }
 
-// To work on the words from `first` on, if they are as many as the program takes. Its name, word 0, is counted too.
+// To work on the words from `first` on, if they are as many as the program takes. Its name, word 0, is counted too. Two tests, not
+// `contains` of a range: with that the search for the proof reaches its limits.
 fn operands_from(count: usize, first: usize, least: usize, most: usize) -> Mode
     ensures { result ≡ operands_from count first least most }
 {
@@ -48,7 +49,8 @@ fn alone(count: usize, mode: Mode) -> Mode
     if count == 2 { mode } else { Mode::Wrong }
 }
 
-// What a word says that begins with `-`.
+// What a word says that begins with `-`. No `match`: a proof has no equation after an arm of bytes that is not met. The two words of
+// help are joined by |, so that no later goal has two paths.
 fn option_of(word: &[u8]) -> Word
     ensures { result ≡ option_of word.now }
 {

@@ -1,6 +1,6 @@
 -- `fabric_begin::begin` meets its contract: a refusal, or the masks.
 -- Assumes nothing.
-use mathlib.Core.Path.{◌≡◌, sym, ◌∙◌}
+use mathlib.Core.Path.{◌≡◌, sym}
 use Rattle.std.proofs.lemmas.Result.{err_from_is_err_and}
 use Rattle.description_layout.specs.Layout.{board_in}
 use Rattle.fabric_layout.specs.Layout.{state_in}
