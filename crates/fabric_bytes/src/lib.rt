@@ -18,12 +18,12 @@ pub fn post_words(buffer: &mut [u8], m: usize, words: &[u8])
 {
     let start = PART_BYTES * m;
     let end = start + PART_BYTES;
-    let part = &mut buffer[start..end];
-    part[0..words.len()].copy_from_slice(words);
+    store_words(words, &mut buffer[start..end], 0);
 }
 
-// The bytes of a read access, to index `at` of the part and after it (rule 3.2). Byte by byte: they are eight at the most, and with
-// `copy_from_slice`, a call of memcpy, a clock takes 1% longer.
+// The words of a post, or the bytes of a read access, to index `at` of the part and after it (rule 3.2). Byte by byte: those of an
+// access are eight at the most, and with `copy_from_slice`, a call of memcpy, a clock takes 1% longer; and with it the archive for C
+// needs memmove from outside.
 fn store_words(words: &[u8], part: &mut [u8], at: usize)
     requires { at + length words.now ≤ length part.old }
     ensures { part.new ≡ move all (λ k. get_or words.now k 0) (index_from at) 0 (length words.now) part.old }
