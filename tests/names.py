@@ -187,11 +187,11 @@ def refusals():
 
 
 def constants():
-    """The constants of crate common_numbers and its refusals, by name; TAKEN is the number of an answer that is not refused."""
-    accepted = re.search(r"^refusal_in \(Ok x\) = (\d+)$", text_of(ROOT / "crates/common_numbers/specs/Refusals.antt"), re.M).group(1)
-    values = refusals() | {"TAKEN": int(accepted)}
+    """The constants of crate common_numbers and its refusals, by name."""
+    values = refusals()
+    highest = str(max(values.values()))
     for name, expression in re.findall(r"pub const (\w+): \w+ = ([^;]+);", text_of(ROOT / "crates/common_numbers/src/lib.rt")):
-        values[name] = value_of(expression, values)
+        values[name] = value_of(expression.replace("Refusal::ALL.len() as u32", highest), values)
     return values
 
 
@@ -206,7 +206,7 @@ def constant_complaints():
             yield f"include/fabric.h: FABRIC_{name} is {value}, common_numbers has {values.get(name)}"
     code = text_of(ROOT / "crates/common_numbers/src/lib.rt")
     for name in [n for n in values if n in refusals() or re.search(rf"^pub const {n}: u32", code, re.M)]:
-        if name not in defined:
+        if name not in defined and name != "LAST_REFUSAL":
             yield f"include/fabric.h: no FABRIC_{name}"
 
 

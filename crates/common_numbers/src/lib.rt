@@ -72,10 +72,16 @@ pub fn number_in<T: Copy>(answer: Result<T, Refusal>) -> u32
     ensures { result ≡ refusal_in answer }
 {
     match answer {
-        Ok(_) => 0,
+        Ok(_) => TAKEN,
         Err(refusal) => refusal.number(),
     }
 }
+
+// What is told of an answer that is not refused.
+pub const TAKEN: u32 = 0;
+
+// The highest refusal.
+pub const LAST_REFUSAL: u32 = Refusal::ALL.len() as u32;
 
 // The responses of a clock (rules 4.13, 4.17).
 pub const OKAY: u32 = 0;

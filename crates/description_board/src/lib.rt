@@ -30,6 +30,18 @@ pub type Slave = SlaveFields<u32>;
 
 pub type SlaveNumbers = SlaveFields<u64>;
 
+// The slave of an index past the count.
+pub const NO_SLAVE: Slave = SlaveFields {
+    base: 0,
+    span: 0,
+    width: 0,
+    burst: 0,
+    read_wait: 0,
+    write_wait: 0,
+    native: 0,
+    latency: 0,
+};
+
 // The numbers of a slave's line (rule 1.3).
 impl From<Slave> for SlaveNumbers {
     ghost from_gives = { λ s n. n ≡ slave_numbers s };

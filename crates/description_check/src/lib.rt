@@ -16,7 +16,7 @@ ghost use Rattle.description_check.specs.Code.Accept.{Narrowest, ColumnFits, Wid
 ghost use Rattle.description_check.specs.Code.Accept.{share_limit, RowFits, RowEmpty, RowPasses, SharesFit};
 
 use common_numbers::{BOARD_NUMBERS, Refusal};
-use description_board::{Item, Master, Slave, SlaveNumbers};
+use description_board::{Item, Master, NO_SLAVE, Slave, SlaveNumbers};
 
 // The line of master i (rule 1.3); past the array, where the counts of a board that no reader made can lead, a line of zeros.
 fn master_item(board: &[u32; BOARD_NUMBERS], i: usize) -> Item
@@ -37,7 +37,7 @@ fn slave_item(board: &[u32; BOARD_NUMBERS], i: usize) -> Item
     let s = if i < 16 {
         description_layout::slave_at(board, i)
     } else {
-        Slave::default()
+        NO_SLAVE
     };
     Item::SlaveLine(SlaveNumbers::from(s))
 }

@@ -1,2 +1,3 @@
 pub mod Contained
 pub mod ReadingLaws
+pub mod ProgressLaws

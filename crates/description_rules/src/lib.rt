@@ -4,12 +4,13 @@
 
 mod refusals;
 
-ghost use Rattle.std.specs.Prelude.{◌≡◌, true, ◌+◌, ◌*◌, ltb};
+ghost use Rattle.std.specs.Prelude.{◌≡◌, true, List, ℕ, ◌+◌, ◌*◌, ltb, replicate};
 ghost use Rattle.description_board.specs.declared.Item.TheVariants.{ShareLine};
-ghost use Rattle.description_board.specs.Rules.{slave_values, slave_of, step, finish};
-ghost use Rattle.description_rules.specs.Code.Readings.{reading_of, Added};
+ghost use Rattle.description_board.specs.Rules.{slave_values, slave_of, start, step, finish};
+ghost use Rattle.description_layout.specs.Layout.{board_length};
+ghost use Rattle.description_rules.specs.Code.Readings.{reading_of, progress_in, Added};
 
-use common_numbers::{BOARD_NUMBERS, Refusal};
+use common_numbers::{BOARD_NUMBERS, Refusal, TAKEN};
 use description_board::{Item, Slave, SlaveNumbers};
 pub use refusals::{memory_length, overlaps, share_or_none, without_share};
 
@@ -110,5 +111,58 @@ pub fn finish(board: &mut [u32; BOARD_NUMBERS], above: Result<u64, Refusal>) -> 
             description_layout::clear(board);
             Err(refusal)
         }
+    }
+}
+
+// What has been read, as a caller keeps it that has numbers alone: the refusal's number or 0, and the rank of the pair on the line
+// above, from 1; 0 if that is no share line (rules 1.4, 8.2). The number may be none of a refusal.
+#[derive(Clone, Copy)]
+pub struct Progress {
+    pub number: u32,
+    pub above: u64,
+}
+
+// What a line, or the end, was answered, by numbers.
+#[tactic(auto, using(crate::proofs::ProgressLaws::told_is))]
+fn told(answer: Result<u64, Refusal>) -> Progress
+    ensures { (l : List ℕ) → progress_in result l ≡ reading_of answer l }
+{
+    Progress {
+        number: common_numbers::number_in(answer),
+        above: answer.unwrap_or(0),
+    }
+}
+
+impl Progress {
+    // Before the first line (rule 8.2). The board is an array of zeros then.
+    #[tactic(auto, using(crate::proofs::ProgressLaws::of_start))]
+    pub fn start() -> Progress
+        ensures { progress_in result (replicate board_length 0) ≡ start }
+    {
+        Progress {
+            number: TAKEN,
+            above: 0,
+        }
+    }
+
+    // One line more, as `step`.
+    pub fn step(self, board: &mut [u32; BOARD_NUMBERS], x: Item) -> Progress
+        ensures { progress_in result board.new ≡ step (progress_in self board.old) x }
+    {
+        if self.number == TAKEN {
+            told(step(board, Ok(self.above), x))
+        } else {
+            self
+        }
+    }
+
+    // After the last line, as `finish`.
+    pub fn finish(self, board: &mut [u32; BOARD_NUMBERS]) -> Progress
+        ensures { progress_in result board.new ≡ finish (progress_in self board.old) }
+    {
+        if self.number != TAKEN {
+            return self;
+        }
+        told(finish(board, Ok(self.above)))
     }
 }

@@ -94,7 +94,7 @@ module _ (b : Board) (m : ℕ) (t : Transfer) where
 
     -- nothing of 2 to 9 is refused: what is left
     module _ (ok : board_refusal b ≡ 0) (full : room ≡ buffer_length) (keeps : sound b st ≡ true) where
-      refusal_asked : post_refusal_by b st room m t bytes
+      pub refusal_asked : post_refusal_by b st room m t bytes
           ≡ cond (leb b.master_count m) 11 (cond (transfer_at st m).held 12 (request_refusal b m t bytes))
       unfolding post_refusal_by
       refusal_asked = rw (ok, eq-eqb room buffer_length full, keeps)

@@ -1,6 +1,7 @@
 // Whether a state breaks a rule (rule 7.9), and what a call finds of a board and a state before it acts.
 // That the board is accepted stays a `requires`: the board is lent as C lends it, and cannot carry the fact.
-// Tests are joined by & and |, not by && and ||: each part is safe by itself, and a proof meets the whole as one test.
+// Tests of numbers at hand are joined by & and |, not by && and ||: each part is safe by itself, and a proof meets the whole as one test.
+// && stands in front of a test that goes through an array, as in `sound`.
 #![tactic(auto)]
 
 mod transfers;

@@ -1,5 +1,6 @@
 // Transfers: which slave each is for, who requests a slave, and what a transfer is refused for (rules 3.6, 3.7, 4.3, 7.13 to 7.17).
-// Tests are joined by & and |, not by && and ||: each part is safe by itself, and a proof meets the whole as one test.
+// Tests of numbers at hand are joined by & and |, not by && and ||: each part is safe by itself, and a proof meets the whole as one test.
+// && stands in front of a test that goes through an array or reads it, as in `target_of`.
 ghost use Rattle.std.specs.Prelude.{◌≡◌, true, cond, ◌^◌, ◌<◌, replicate};
 ghost use Rattle.common_laws.specs.Lists.{member, table};
 ghost use Rattle.common_numbers.specs.Refusals.{refusal_in};

@@ -69,21 +69,31 @@ served_on slot on done waited =
     record { owner = slot.owner; remaining = slot.remaining; serving = on; done = done; waited = waited }
 
 module _ (ma : Master) (sl : Slave) (t : Transfer) (slot : Slot) {line : Line} where
-  pub step_waiting : slot.serving ≡ true → slot.waited < wait_of sl t → line ≡ line_of ma sl t slot 1
+  pub step_waiting : slot.waited < wait_of sl t → line ≡ line_of ma sl t slot 1
+      → ◌≡◌ {A = Step} (record { slot = slot_waiting slot; line = line; last = false }) (served ma sl t slot)
+  unfolding served waits
+  step_waiting h f = rw (f, lt-ltb slot.waited (wait_of sl t) h)
+
+  -- the same, if the slot's serving is left as it was
+  pub on_waiting : slot.serving ≡ true → slot.waited < wait_of sl t → line ≡ line_of ma sl t slot 1
       → ◌≡◌ {A = Step} (record { slot = served_on slot slot.serving slot.done (slot.waited + 1); line = line; last = false })
       (served ma sl t slot)
-  unfolding served waits slot_waiting
-  step_waiting on h f =
-      rw (f, lt-ltb slot.waited (wait_of sl t) h)
-      (ap (λ (b : Bool). record { slot = served_on slot b slot.done (slot.waited + 1); line = line_of ma sl t slot 1; last = false }) on)
+  unfolding slot_waiting
+  on_waiting on h f =
+      ap (λ (b : Bool). record { slot = served_on slot b slot.done (slot.waited + 1); line = line; last = false }) on
+      ∙ step_waiting h f
 
   module _ {n : ℕ} (h : wait_of sl t ≤ slot.waited) (f : line ≡ line_of ma sl t slot 2) (g : n ≡ accesses ma sl t) where
-    pub step_working : slot.serving ≡ true → slot.done + 1 < n
+    pub step_working : slot.done + 1 < n
+        → ◌≡◌ {A = Step} (record { slot = slot_accessed slot; line = line; last = false }) (served ma sl t slot)
+    unfolding served waits
+    step_working l = rw (f, le-ltb slot.waited (wait_of sl t) h, lt-ltb (slot.done + 1) (accesses ma sl t) (rw g at l))
+
+    pub on_working : slot.serving ≡ true → slot.done + 1 < n
         → ◌≡◌ {A = Step} (record { slot = served_on slot slot.serving (slot.done + 1) 0; line = line; last = false }) (served ma sl t slot)
-    unfolding served waits slot_accessed
-    step_working on l =
-        rw (f, le-ltb slot.waited (wait_of sl t) h, lt-ltb (slot.done + 1) (accesses ma sl t) (rw g at l))
-        (ap (λ (b : Bool). record { slot = served_on slot b (slot.done + 1) 0; line = line_of ma sl t slot 2; last = false }) on)
+    unfolding slot_accessed
+    on_working on l =
+        ap (λ (b : Bool). record { slot = served_on slot b (slot.done + 1) 0; line = line; last = false }) on ∙ step_working l
 
     pub step_ending : n ≤ slot.done + 1
         → ◌≡◌ {A = Step} (record { slot = slot_finished slot; line = line; last = true }) (served ma sl t slot)

@@ -17,10 +17,5 @@ returns c =
     elim c.if-i-lt16.branch [
       | then-i-lt16 w ↦ rw (c.from.ensures, w.s-is, w.slave_at-s.ensures)
       | else-i-lt16 w ↦
-          let d = w.default-s.ensures in
-          rw (
-            c.from.ensures,
-            w.s-is,
-            get_or-eq_default (board_in a.board.now).slaves no_slave {n = a.i} (omega arith),
-          ) (cc)
+          rw (c.from.ensures, w.s-is, get_or-eq_default (board_in a.board.now).slaves no_slave {n = a.i} (omega arith))
     ]

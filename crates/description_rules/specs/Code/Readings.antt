@@ -7,10 +7,15 @@ use Rattle.description_board.specs.declared.Item.{Item}
 use Rattle.description_board.specs.declared.Reading.{Reading}
 use Rattle.description_board.specs.Rules.{item_refusal, step}
 use Rattle.description_layout.specs.Layout.{board_in}
+use Rattle.description_rules.specs.declared.Progress.{Progress}
 
 -- what a line was answered, a refusal or its pair's rank, and the board in the array are one reading
 unfoldable pub reading_of : Result ℕ Refusal → List ℕ → Reading
 reading_of r l = record { number = refusal_in r; above = answer_or 0 r; board = board_in l }
+
+-- the same of a progress, which has any number for the refusal
+unfoldable pub progress_in : Progress → List ℕ → Reading
+progress_in p l = record { number = p.number; above = p.above; board = board_in l }
 
 -- a line is answered its refusal; if there is none the array holds the board with the line
 pub record Added (r : Reading) (x : Item) (a : Result ℕ Refusal) (l : List ℕ) : Type 0 where
