@@ -4,8 +4,7 @@ ghost use Rattle.std.specs.Prelude.{◌+◌, ◌*◌, ◌<◌, ◌≤◌, length
 use crate::explain;
 use common_numbers::{
     ENTRIES_FROM, ENTRY_NUMBERS, LATE_FROM, LINE_FIELDS, LINES_NUMBERS, LOG_ENTRIES, LOG_FROM,
-    LOST_AT, MASTERS, Refusal, SLAVES, SLOT_NUMBERS, SLOTS_FROM, STATE_NUMBERS, TRANSFER_NUMBERS,
-    number_in,
+    LOST_AT, MASTERS, SLAVES, SLOT_NUMBERS, SLOTS_FROM, STATE_NUMBERS, TRANSFER_NUMBERS,
 };
 use program_lines::{Printer, Problem};
 use program_script::FIELD_COUNT;
@@ -26,21 +25,21 @@ impl Console<'_> {
         }
     }
 
-    // Explains a call if it was refused, with lowest as for explain::call. Its answer is written out before, so that the explanation
-    // comes after it if both go to one file.
-    pub fn explain<T: Copy>(&mut self, answer: Result<T, Refusal>, lowest: u32) {
-        if let Err(refusal) = answer {
+    // Explains a call if its answer's number is not 0, with lowest as for explain::call. The answer is written out before, so that the
+    // explanation comes after it if both go to one file.
+    pub fn explain(&mut self, number: u32, lowest: u32) {
+        if number != 0 {
             self.printer.flush();
-            explain::call(self.printer.rt, self.line, refusal, lowest);
+            explain::call(self.printer.rt, self.line, number, lowest);
         }
     }
 
     // Prints what a call answered, and explains a refusal.
-    pub fn answer(&mut self, word: &[u8], answer: Result<(), Refusal>, lowest: u32)
+    pub fn answer(&mut self, word: &[u8], number: u32, lowest: u32)
         requires { length word.now < 900 }
     {
-        self.printer.put_line(word, &[u64::from(number_in(answer))]);
-        self.explain(answer, lowest);
+        self.printer.put_line(word, &[u64::from(number)]);
+        self.explain(number, lowest);
     }
 
     // Prints what is left to print, and names a line with a problem by its number.
@@ -91,15 +90,15 @@ impl Console<'_> {
     // board's slaves.
     pub fn put_clock(
         &mut self,
-        answer: Result<u32, Refusal>,
+        number: u32,
+        mask: u32,
         lines: &[u32; LINES_NUMBERS],
         slave_count: u32,
         responses: &[u32; MASTERS],
     ) {
-        let mask = answer.unwrap_or(0);
         self.printer
-            .put_line(b"clock", &[u64::from(number_in(answer)), u64::from(mask)]);
-        if answer.is_err() {
+            .put_line(b"clock", &[u64::from(number), u64::from(mask)]);
+        if number != 0 {
             return;
         }
         let end = LINE_FIELDS * SLAVES.min(slave_count as usize);

@@ -1,6 +1,6 @@
 // A line and its pieces, one after another, as far as they fit.
-ghost use Rattle.std.specs.Prelude.{◌≡◌, ℕ, ◌≤◌, ◌-◌, List, [], ◌++◌, length, take};
-ghost use Rattle.program_messages.specs.Code.Messages.{head, with};
+ghost use Rattle.std.specs.Prelude.{◌≡◌, ◌≤◌, ◌++◌, length, take};
+ghost use Rattle.program_messages.specs.Code.Messages.{head, Holds, Said, begun, told, headed};
 
 use crate::errors;
 use std::fmt;
@@ -11,25 +11,45 @@ use std::marker::Model;
 // cause has more bytes than what is left.
 const HEAD_ROOM: usize = 8192;
 
-const ROOM: usize = HEAD_ROOM + 512;
+pub const ROOM: usize = HEAD_ROOM + 512;
 
-// The bytes that were said, at the front of the room for them.
+// Puts bytes after the first `at` of a room, as far as they fit. The answer is the position after them.
+pub fn say(room: &mut [u8], at: usize, bytes: &[u8]) -> usize
+    ensures { Holds room.new result (take at room.old ++ bytes.now) }
+{
+    let from = at.min(room.len());
+    let n = (room.len() - from).min(bytes.len());
+    let end = from + n;
+    room[from..end].copy_from_slice(&bytes[..n]);
+    end
+}
+
+// Puts `program: what` at the front of a room.
+fn put_head(room: &mut [u8], program: &[u8], what: &[u8]) -> usize
+    ensures { Holds room.new result (head program.now what.now) }
+{
+    let a = say(room, 0, program);
+    let b = say(room, a, b": ");
+    say(room, b, what)
+}
+
+// The bytes that were said, at the front of a room that is lent.
 #[derive(Drop)]
-pub struct Line {
-    room: [u8; ROOM],
+pub struct Line<'a> {
+    room: &'a mut [u8],
     filled: usize,
 }
 
-impl Model for Line {
-    ghost Value = { List ℕ };
+impl<'a> Model for Line<'a> {
+    ghost Value = { Said };
 
-    ghost view = { λ l. take l.filled l.room };
+    ghost view = { λ l. record { most = length l.room.now; said = take l.filled l.room.now } };
 
-    ghost invariant = { λ l. l.filled ≤ 8704 };
+    ghost invariant = { λ l. l.filled ≤ length l.room.now };
 }
 
-impl fmt::Write for Line {
-    ghost write_str_gives = { λ before text after. after ≡ with 8704 before text };
+impl<'a> fmt::Write for Line<'a> {
+    ghost write_str_gives = { λ before text after. after ≡ told before text };
 
     fn write_str(&mut self, text: &str) -> fmt::Result {
         self.say_bytes(text.as_bytes());
@@ -37,61 +57,58 @@ impl fmt::Write for Line {
     }
 }
 
-impl Line {
-    pub fn new() -> Line
-        ensures { result ≡ [] }
+impl<'a> Line<'a> {
+    // A line of which the first `at` bytes of the room are said already: all of the room, if it has no more.
+    pub fn after(room: &'a mut [u8], at: usize) -> Line<'a>
+        ensures { result ≡ begun room.old at }
     {
-        Line {
-            room: [0; ROOM],
-            filled: 0,
-        }
+        let filled = at.min(room.len());
+        Line { room, filled }
+    }
+
+    pub fn new(room: &'a mut [u8]) -> Line<'a>
+        ensures { result ≡ begun room.old 0 }
+    {
+        Line::after(room, 0)
     }
 
     pub fn bytes(&self) -> &[u8]
-        ensures { result.now ≡ self.now }
+        ensures { result.now ≡ self.now.said }
     {
         &self.room[..self.filled]
     }
 
-    // Puts bytes at the end, as far as they fit into the first `most`.
-    fn put(&mut self, bytes: &[u8], most: usize)
-        requires { most ≤ 8704 }
-        ensures { self.new ≡ with most self.old bytes.now }
-    {
-        let n = most.saturating_sub(self.filled).min(bytes.len());
-        let end = self.filled + n;
-        self.room[self.filled..end].copy_from_slice(&bytes[..n]);
-        self.filled = end;
-    }
-
     // Puts bytes at the end, as far as they fit.
     pub fn say_bytes(&mut self, bytes: &[u8])
-        ensures { self.new ≡ with 8704 self.old bytes.now }
+        ensures { self.new ≡ told self.old bytes.now }
     {
-        self.put(bytes, ROOM);
+        let at = self.filled;
+        self.filled = say(&mut *self.room, at, bytes);
     }
 
-    // Puts what a value prints there. A line takes it without an error.
+    // Puts what a value prints there, as a number. A line takes it without an error. Words are put by say_bytes, which says that they
+    // are there.
     pub fn say<D: Display + Drop>(&mut self, value: D) {
         let _ = self.write(value);
     }
 
     // A line that begins with `program: what`, no more of it than HEAD_ROOM bytes: a cause finds room after it.
-    pub fn about(program: &[u8], what: &[u8]) -> Line
-        ensures { result ≡ take 8192 (head program.now what.now) }
+    pub fn about(room: &'a mut [u8], program: &[u8], what: &[u8]) -> Line<'a>
+        ensures { result ≡ headed (length room.old) program.now what.now }
     {
-        let mut line = Line::new();
-        line.put(program, HEAD_ROOM);
-        line.put(b": ", HEAD_ROOM);
-        line.put(what, HEAD_ROOM);
-        line
+        let most = HEAD_ROOM.min(room.len());
+        let filled = put_head(&mut room[..most], program, what);
+        Line { room, filled }
     }
 
     // Puts the words of the operating system's error with a number.
     pub fn say_error(&mut self, error: i32) {
         match errors::words_of(error) {
-            Some(words) => self.say(words),
-            None => self.say(format_args!("Unknown error {error}")),
+            Some(words) => self.say_bytes(words.as_bytes()),
+            None => {
+                self.say_bytes(b"Unknown error ");
+                self.say(error);
+            }
         }
     }
 }

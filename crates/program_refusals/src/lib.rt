@@ -4,8 +4,8 @@
 #![tactic(auto)]
 
 use common_numbers::{Refusal, SLAVE_FIELDS};
-use description::{Blame, Charged};
-use program_messages::Line;
+use description::Charged;
+use program_messages::{Line, ROOM};
 use std::io;
 use std::io::Write;
 
@@ -67,22 +67,49 @@ fn words_of_text(refusal: Refusal) -> Option<&'static str> {
     }
 }
 
-// A refusal by itself: of 1 and 2 both kinds of cause.
-fn say_meaning(line: &mut Line, refusal: Refusal) {
-    if let Some(words) = words_of_text(refusal) {
-        line.say(format_args!("{words}; "));
-    }
-    line.say(words_of(refusal));
+// The refusal with a number, if one has it.
+fn refusal_of(number: u32) -> Option<Refusal> {
+    Refusal::ALL
+        .iter()
+        .copied()
+        .find(|refusal| refusal.number() == number)
 }
 
-// Puts what a refusal means into a line, as `refusal 4: base no multiple of span`, if no line of a text is known for it. 20 names
+// What a number means, likewise.
+fn words_of_number(number: u32) -> &'static str {
+    match refusal_of(number) {
+        Some(refusal) => words_of(refusal),
+        None => "no refusal has this number",
+    }
+}
+
+// A number by itself: of 1 and 2 both kinds of cause.
+fn say_meaning(line: &mut Line, number: u32) {
+    if let Some(words) = refusal_of(number).and_then(words_of_text) {
+        line.say_bytes(words.as_bytes());
+        line.say_bytes(b"; ");
+    }
+    line.say_bytes(words_of_number(number).as_bytes());
+}
+
+// Puts `refusal 4: ` into a line.
+fn say_refusal(line: &mut Line, number: u32) {
+    line.say_bytes(b"refusal ");
+    line.say(number);
+    line.say_bytes(b": ");
+}
+
+// Puts what a number means into a line, as `refusal 4: base no multiple of span`, if no line of a text is known for it. 20 names
 // the master, lowest (rule 8.3).
-pub fn say_cause(line: &mut Line, refusal: Refusal, lowest: u32) {
-    let number = refusal.number();
-    line.say(format_args!("refusal {number}: "));
-    match refusal {
-        Refusal::NoShare => line.say(format_args!("master {lowest} has no share line")),
-        _ => say_meaning(line, refusal),
+pub fn say_cause(line: &mut Line, number: u32, lowest: u32) {
+    say_refusal(line, number);
+    match refusal_of(number) {
+        Some(Refusal::NoShare) => {
+            line.say_bytes(b"master ");
+            line.say(lowest);
+            line.say_bytes(b" has no share line");
+        }
+        _ => say_meaning(line, number),
     }
 }
 
@@ -112,70 +139,96 @@ fn words_of_old_line(line: &[u8]) -> Option<&'static str> {
 // The same, put into a line that explains it.
 fn say_of_old_line(line: &mut Line, old: &[u8]) {
     if let Some(lacking) = words_of_old_line(old) {
-        line.say(format_args!("; a slave line has {SLAVE_FIELDS} numbers, {lacking}"));
+        line.say_bytes(b"; a slave line has ");
+        line.say(SLAVE_FIELDS);
+        line.say_bytes(b" numbers, ");
+        line.say_bytes(lacking.as_bytes());
     }
 }
 
 // Why a text is refused, as `line 3: refusal 4: base no multiple of span`. Of 1 and 2 the cause is told by what is charged; 20 is
 // charged to a master.
-fn say_blame(line: &mut Line, text: &[u8], blame: Blame) {
-    let refusal = blame.refusal;
-    let number = refusal.number();
-    let words = words_of(refusal);
-    match blame.charged {
-        Charged::Master(master) => say_cause(line, refusal, master),
+fn say_blame(line: &mut Line, text: &[u8], number: u32, charged: Charged) {
+    let refusal = refusal_of(number);
+    let words = words_of_number(number);
+    match charged {
+        Charged::Master(master) => say_cause(line, number, master),
         Charged::Text => {
-            let words = words_of_text(refusal).unwrap_or(words);
-            line.say(format_args!("refusal {number}: {words}"));
+            let words = refusal.and_then(words_of_text).unwrap_or(words);
+            say_refusal(line, number);
+            line.say_bytes(words.as_bytes());
         }
-        Charged::Line(charged) => {
-            line.say(format_args!("line {charged}: refusal {number}: {words}"));
-            if refusal == Refusal::BadText {
-                say_of_old_line(line, line_of(text, charged));
+        Charged::Line(own) => {
+            line.say_bytes(b"line ");
+            line.say(own);
+            line.say_bytes(b": ");
+            say_refusal(line, number);
+            line.say_bytes(words.as_bytes());
+            if refusal == Some(Refusal::BadText) {
+                say_of_old_line(line, line_of(text, own));
             }
         }
     }
 }
 
 // How the line begins: with the program, and with the path. The text of standard input has no path, and none is said.
-fn line_from(program: &[u8], path: &[u8]) -> Line {
+fn line_from<'a>(room: &'a mut [u8], program: &[u8], path: &[u8]) -> Line<'a> {
     if !path.is_empty() {
-        return Line::about(program, path);
+        return Line::about(room, program, path);
     }
-    let mut line = Line::new();
+    let mut line = Line::new(room);
     line.say_bytes(program);
     line
 }
 
 // One line on standard error, as `table: board.txt: line 3: refusal 4: base no multiple of span`.
-pub fn explain(rt: &HostRuntime, program: &[u8], path: &[u8], text: &[u8], blame: Blame) {
-    let mut line = line_from(program, path);
-    line.say(": ");
-    say_blame(&mut line, text, blame);
+pub fn explain(
+    rt: &HostRuntime,
+    program: &[u8],
+    path: &[u8],
+    text: &[u8],
+    number: u32,
+    charged: Charged,
+) {
+    let mut room = [0; ROOM];
+    let mut line = line_from(&mut room, program, path);
+    line.say_bytes(b": ");
+    say_blame(&mut line, text, number, charged);
     program_streams::warn(rt, line);
 }
 
 // A number and what it means.
-fn print_entry<W: Write>(rt: &HostRuntime, to: &mut W, refusal: Refusal) -> io::Result<()> {
-    let mut line = Line::new();
-    let number = refusal.number();
-    line.say(format_args!("  {number} "));
-    say_meaning(&mut line, refusal);
+fn print_entry<W: Write>(rt: &HostRuntime, to: &mut W, number: u32) -> io::Result<()> {
+    let mut room = [0; ROOM];
+    let mut line = Line::new(&mut room);
+    line.say_bytes(b"  ");
+    line.say(number);
+    line.say_bytes(b" ");
+    say_meaning(&mut line, number);
     program_streams::tell(rt, to, line)
 }
 
-// A line for each of some refusals, for a program's help.
-pub fn list<W: Write>(rt: &HostRuntime, to: &mut W, refusals: &[Refusal]) -> io::Result<()> {
+// A line for each number from 1 to last, for a program's help.
+pub fn list<W: Write>(rt: &HostRuntime, to: &mut W, last: u32) -> io::Result<()> {
+    for number in 1..=last {
+        print_entry(rt, to, number)?;
+    }
+    Ok(())
+}
+
+// The same for some refusals.
+pub fn list_of<W: Write>(rt: &HostRuntime, to: &mut W, refusals: &[Refusal]) -> io::Result<()> {
     for refusal in refusals {
-        print_entry(rt, to, *refusal)?;
+        print_entry(rt, to, refusal.number())?;
     }
     Ok(())
 }
 
 // What a program prints of a description that is refused.
-pub fn print(rt: &HostRuntime, refusal: Refusal) -> io::Result<()> {
-    let mut line = Line::new();
-    let number = refusal.number();
-    line.say(format_args!("refused,{number}"));
+pub fn print(rt: &HostRuntime, number: u32) -> io::Result<()> {
+    let mut room = [0; ROOM];
+    let mut line = Line::new(&mut room);
+    line.say_bytes(b"refused,");
+    line.say(number);
     program_streams::tell(rt, &mut rt.stdout(), line)
 }

@@ -7,7 +7,7 @@ ghost use Rattle.std.specs.Str.{IsUtf8};
 ghost use Rattle.program_streams.specs.Calls.{judged, judged_error, number_of, Call};
 ghost use Rattle.program_streams.specs.Reading.{Gathered};
 
-use program_messages::Line;
+use program_messages::{Line, ROOM};
 use std::fs::File;
 use std::io::{Error, ErrorKind, Read, Write};
 use std::time::{Clock, Duration};
@@ -193,7 +193,8 @@ pub fn open(rt: &HostRuntime, path: &[u8]) -> io::Result<File>
 
 // A line on standard error: `program: what: words`, with the words of the operating system for the error's number.
 pub fn report(rt: &HostRuntime, program: &[u8], what: &[u8], error: &Error) {
-    let mut line = Line::about(program, what);
+    let mut room = [0; ROOM];
+    let mut line = Line::about(&mut room, program, what);
     line.say_bytes(b": ");
     line.say_error(number_of(error));
     warn(rt, line);

@@ -19,13 +19,13 @@ module _ {text : List ℕ} {g : Got} (x : Gathered text g) where
   unfolding Says
   not_ended error bad e = elim (said bad) [ inl p ↦ absurd (cc) | inr q ↦ let h = q.0 in absurd (cc) ]
 
-  -- nothing is claimed of the page after a read that failed
+  -- nothing is claimed of the page after a read that failed, and its error is handed on
   pub none_made : (error : Error) → g.outcome ≡ Failed error → {page : List ℕ}
       → Reads text page (record { read = g.end; page = Err error })
   none_made error bad = record {
     answers = x.answers;
     bytes = x.handed;
-    made = not_ended error bad;
+    made = (not_ended error bad, said bad);
     kept = x.fits;
   }
 

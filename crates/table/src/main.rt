@@ -26,7 +26,7 @@ fn usage<W: Write>(rt: &HostRuntime, to: &mut W) -> io::Result<()> {
         to,
         b"Of each BOARD that is named, a line file,NAME comes first. The numbers:\n",
     )?;
-    program_refusals::list(rt, to, &program_refusals::OF_TEXT)
+    program_refusals::list_of(rt, to, &program_refusals::OF_TEXT)
 }
 
 fn help(rt: &HostRuntime) {
@@ -66,7 +66,8 @@ fn prepare<R: Read>(
 fn print_explained(rt: &HostRuntime, path: &[u8], text: &[u8], page: &[u8]) -> bool {
     let taken = program_options::print(rt, b"table", page);
     if let Err(blame) = description::refused_at(text) {
-        program_refusals::explain(rt, b"table", path, text, blame);
+        let number = blame.refusal.number();
+        program_refusals::explain(rt, b"table", path, text, number, blame.charged);
     }
     taken
 }

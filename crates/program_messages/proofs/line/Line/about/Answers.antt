@@ -1,5 +1,6 @@
-use Rattle.program_messages.proofs.LineLaws.{with_head}
+use Rattle.std.proofs.Common.{rules}
+use Rattle.program_messages.proofs.LineLaws.{headed_in}
 use Rattle.program_messages.proofs.line.Line.about.Goals as goal
 
 pub returns : goal.returns
-returns c = with_head 8192 _ _ (rw (← c.new-line.ensures) c.put.ensures) c.put-2.ensures c.put-3.ensures
+returns c = headed_in _ _ _ _ _ _ _ c.min-most.ensures c.put_head-filled.ensures (search rules) (search rules)
