@@ -1,15 +1,11 @@
-// Reads the text. What is held of it is the input, which has room for the longest line that says something.
-ghost use Rattle.std.specs.Prelude.{◌≡◌, ◌≢◌, ◌+◌, ◌≤◌, true, None};
+// Reads the text. What is held of it is the input that is lent, which has room for the longest line that says something.
+ghost use Rattle.std.specs.Prelude.{◌≡◌, ◌≢◌, ◌+◌, ◌≤◌, true, length, None};
 ghost use Rattle.program_streams.specs.declared.Outcome.TheVariants as Outcome;
 ghost use Rattle.program_streams.specs.Reading.{IsFailed};
 ghost use Rattle.program_lines.specs.declared.input.Next.TheVariants.{Line, Over};
 
 use crate::{Printer, Problem};
 use program_streams::{Got, Outcome};
-
-// The room to read a text into. The longest line of a script is a fill of all the memory: two digits for each byte that can be
-// lent of it after `fill,memory,0,`. A line that fills all of the room says nothing that could be done.
-const INPUT: usize = 131200;
 
 // What the text has next: a line; more that is to be read, so that it is asked for again; or nothing, and the problem of what
 // stands after the last line feed.
@@ -20,11 +16,11 @@ pub enum Next {
     Over(Option<Problem>),
 }
 
-// How far a program has come with the text.
-#[derive(Drop)]
+// How far a program has come with the text: positions in the input. In an input that is shorter than they say they count as its
+// end.
+#[derive(Clone, Copy)]
 pub struct Reader {
     // What is read of the text and not found yet stands in the input from `from` to `end`.
-    input: [u8; INPUT],
     from: usize,
     end: usize,
     // The line that was found last stands there from `start` to `stop`, up to the next read.
@@ -34,15 +30,14 @@ pub struct Reader {
     ended: bool,
     // The number of the line that was found last; of what the text ends in, once that is found.
     pub number: u64,
-    ghost unfound: { (from ≤ end) × (end ≤ 131200) },
-    ghost found: { (start ≤ stop) × (stop ≤ 131200) },
+    ghost unfound: { from ≤ end },
+    ghost found: { start ≤ stop },
 }
 
 impl Reader {
     // Nothing is read.
     pub fn new() -> Reader {
         Reader {
-            input: [0; INPUT],
             from: 0,
             end: 0,
             start: 0,
@@ -52,9 +47,11 @@ impl Reader {
         }
     }
 
-    // The line that was found last.
-    pub fn line(&self) -> &[u8] {
-        &self.input[self.start..self.stop]
+    // The line that was found last, in the input that it was found in.
+    pub fn line<'a>(&self, input: &'a [u8]) -> &'a [u8] {
+        let stop = self.stop.min(input.len());
+        let start = self.start.min(stop);
+        &input[start..stop]
     }
 
     // One line more. The number of a text's lines is far below 2 ^ 64.
@@ -87,7 +84,7 @@ impl Reader {
     // After a read into the input from `kept` on: the bytes before are an unfinished line. A text that cannot be read has no
     // further line, and the unfinished one is none if the text has ended.
     fn after_read(&mut self, printer: &Printer, got: Got, kept: usize) -> Next
-        requires { kept + got.end ≤ 131200 }
+        requires { kept + got.end ≤ usize.MAX }
         ensures failed { IsFailed got.outcome → result ≡ Over None }
         ensures ended { got.outcome ≡ Outcome.Ended → result ≢ Line }
     {
@@ -105,15 +102,21 @@ impl Reader {
         }
     }
 
-    // Keeps what is not found yet as an unfinished line, and reads after it until the input is full or the text ends. If it has
-    // ended, there is no further line. What has gathered is written out before, so that a read that fails is reported after it.
-    fn read_more(&mut self, printer: &mut Printer) -> Next
+    // Keeps what is not found yet, from `from` to `end`, as an unfinished line, and reads after it until the input is full or the
+    // text ends. If it has ended, there is no further line. What has gathered is written out before, so that a read that fails is
+    // reported after it.
+    fn read_more(
+        &mut self,
+        input: &mut [u8],
+        printer: &mut Printer,
+        from: usize,
+        end: usize,
+    ) -> Next
+        requires { (from ≤ end) × (end ≤ length input.old) }
         ensures { self.old.ended ≡ true → result ≢ Line }
     {
-        let from = self.from;
-        let end = self.end;
         let kept = end - from;
-        self.input.copy_within(from..end, 0);
+        input.copy_within(from..end, 0);
         if self.ended {
             return self.text_end(kept);
         }
@@ -122,18 +125,18 @@ impl Reader {
             return Next::Over(None);
         }
         let rt = printer.rt;
-        let room = &mut self.input[..];
-        let got = program_streams::read_all(rt, &mut rt.stdin(), &mut room[kept..]);
+        let got = program_streams::read_all(rt, &mut rt.stdin(), &mut input[kept..]);
         self.after_read(printer, got, kept)
     }
 
-    // Finds the next line in what is read, or reads more; a read or a write that fails is reported in the program's name.
-    pub fn next_line(&mut self, printer: &mut Printer) -> Next {
-        let from = self.from;
-        let end = self.end;
-        let found = self.input[from..end].iter().position(|b| *b == b'\n');
+    // Finds the next line in what is read, or reads more into the input; a read or a write that fails is reported in the program's
+    // name.
+    pub fn next_line(&mut self, input: &mut [u8], printer: &mut Printer) -> Next {
+        let end = self.end.min(input.len());
+        let from = self.from.min(end);
+        let found = input[from..end].iter().position(|b| *b == b'\n');
         let Some(length) = found else {
-            return self.read_more(printer);
+            return self.read_more(input, printer, from, end);
         };
         self.start = from;
         self.stop = from + length;

@@ -8,7 +8,7 @@ mod output;
 
 pub use hex::{byte_count, decode};
 pub use input::{Next, Reader};
-pub use output::Printer;
+pub use output::{Printer, ROOM};
 
 // What can be wrong with a line, which ends the work: it is none of the kinds, it has a number that its field does not hold, it
 // reaches past what is lent, it has more bytes than a buffer, or it is the last line and lacks its line feed. All but the last are

@@ -5,7 +5,7 @@ use crate::hex;
 use common_text::Writer;
 
 // The length of the buffer.
-const ROOM: usize = 65536;
+pub const ROOM: usize = 65536;
 
 // The output of a program that has this name: what has gathered, and whether a write failed, from when on nothing more is written.
 #[derive(Drop)]

@@ -1,8 +1,13 @@
 // Lines of the simulator's script. A line is a word and its fields, parted by commas.
-ghost use Rattle.std.specs.Prelude.{◌≤◌, length};
+ghost use Rattle.std.specs.Prelude.{◌≡◌, ◌≤◌, length};
+ghost use Rattle.program_script.specs.Lines as lines;
 
 use common_numbers::{BUFFER_BYTES, MASTERS, SLAVE_FIELDS, SLAVES};
 use program_lines::Problem;
+
+// The room to read a script into. The longest line is a fill of all the memory: two digits for each of MEMORY_ROOM bytes after
+// `fill,memory,0,`. A line that fills all of the room says nothing that could be done.
+pub const INPUT: usize = 131200;
 
 // What a line overwrites, of the state (up to Entry) or of the board.
 #[derive(Clone, Copy)]
@@ -116,7 +121,7 @@ fn form_of(word: &[u8]) -> Option<Form> {
 
 // What a line says: its kind, what its fields say in their order, and the text of its last field, if it has one. Each field is a
 // number, a name 0 or 1 and bytes their count, since `overwrite` stores fields one after the other, whatever they hold.
-#[derive(Drop)]
+#[derive(Clone, Copy)]
 pub struct Command<'a> {
     pub kind: Kind,
     pub values: [u64; FIELD_COUNT],
@@ -125,7 +130,10 @@ pub struct Command<'a> {
 
 impl Command<'_> {
     // What the field at an index says, from 0; 0 after the last one.
-    pub fn value_at(&self, i: usize) -> u64 {
+    #[tactic(auto, unfolding(crate::specs::Lines::value_at))]
+    pub fn value_at(&self, i: usize) -> u64
+        ensures { result ≡ lines.value_at self.now.values i }
+    {
         self.values.get(i).copied().unwrap_or(0)
     }
 
@@ -135,7 +143,10 @@ impl Command<'_> {
     }
 
     // Whether the first field names the memory, of memory and buffer.
-    pub fn names_memory(&self) -> bool {
+    #[tactic(auto, unfolding(crate::specs::Lines::names_memory))]
+    pub fn names_memory(&self) -> bool
+        ensures { result ≡ lines.names_memory self.now.values }
+    {
         self.value_at(0) == 0
     }
 }

@@ -1,5 +1,6 @@
 // How much of the memory and of the buffer is lent.
-ghost use Rattle.std.specs.Prelude.{◌≡◌, ◌≤◌, length};
+ghost use Rattle.std.specs.Prelude.{◌≡◌, ◌+◌, ◌<◌, ◌≤◌, ◌&&◌, length, min, not, is_ok, IfOk, IfErr, if◌then◌else◌};
+ghost use Rattle.program_script.specs.Lines.{value_at, names_memory, most_lent};
 
 use crate::Command;
 use common_numbers::{BUFFER_BYTES, MEMORY_BYTES};
@@ -7,26 +8,26 @@ use program_lines::Problem;
 
 // How many bytes over its exact length the memory or the buffer can be lent, so that a script sees refusal 8; and the most that
 // is ever lent of each.
-const BYTES_OVER: usize = 8;
+pub const BYTES_OVER: usize = 8;
 
 pub const MEMORY_ROOM: usize = MEMORY_BYTES as usize + BYTES_OVER;
 
 pub const BUFFER_ROOM: usize = BUFFER_BYTES + BYTES_OVER;
 
-// The most that can be lent of the memory, and what is lent of it and of the buffer.
+// The most that can be lent of the memory, and what is lent of it and of the buffer. Any values may stand here: `new` and `lend` say
+// which they put, and what is lent is never more than there is.
 #[derive(Clone, Copy)]
 pub struct Lending {
-    memory_most: usize,
-    memory_lent: usize,
-    buffer_lent: usize,
-    ghost memory_within: { (memory_lent ≤ memory_most) × (memory_most ≤ 65544) },
-    ghost buffer_within: { buffer_lent ≤ 4104 },
+    pub memory_most: usize,
+    pub memory_lent: usize,
+    pub buffer_lent: usize,
 }
 
 impl Lending {
     // Before the first line, with a memory of so many bytes.
     pub fn new(memory: usize) -> Lending
         requires { memory ≤ 65536 }
+        ensures { (result.memory_most ≡ memory + 8) × (result.memory_lent ≡ memory) × (result.buffer_lent ≡ 4096) }
     {
         Lending {
             memory_most: memory + BYTES_OVER,
@@ -35,37 +36,36 @@ impl Lending {
         }
     }
 
-    // What is lent of the memory.
-    pub fn memory<'a>(&self, memory: &'a mut [u8; MEMORY_ROOM]) -> &'a mut [u8]
-        ensures { length result.now ≡ self.now.memory_lent }
+    // What is lent of the memory: all of it if it has less.
+    pub fn memory<'a>(&self, memory: &'a mut [u8]) -> &'a mut [u8]
+        ensures { length result.now ≡ min self.now.memory_lent (length memory.old) }
     {
-        &mut memory[..self.memory_lent]
+        let n = self.memory_lent.min(memory.len());
+        &mut memory[..n]
     }
 
     // What is lent of the buffer. The masters' words are lent from an array of the exact length, and a longer length from one that
-    // has room for it.
-    pub fn buffer<'a>(
-        &self,
-        words: &'a mut [u8; BUFFER_BYTES],
-        longer: &'a mut [u8; BUFFER_ROOM],
-    ) -> &'a mut [u8]
-        ensures { length result.now ≡ self.now.buffer_lent }
+    // has room for it: all of it if it has less.
+    pub fn buffer<'a>(&self, words: &'a mut [u8], longer: &'a mut [u8]) -> &'a mut [u8]
+        ensures exact { self.now.buffer_lent ≤ 4096 → length result.now ≡ min self.now.buffer_lent (length words.old) }
+        ensures over { 4096 < self.now.buffer_lent → length result.now ≡ min self.now.buffer_lent (length longer.old) }
     {
-        let n = self.buffer_lent;
-        if n <= BUFFER_BYTES {
-            &mut words[..n]
+        let from = if self.buffer_lent <= BUFFER_BYTES {
+            words
         } else {
-            &mut longer[..n]
-        }
+            longer
+        };
+        let n = self.buffer_lent.min(from.len());
+        &mut from[..n]
     }
 
     // What is lent of the store that a line names.
     fn store<'a>(
         &self,
         c: &Command,
-        memory: &'a mut [u8; MEMORY_ROOM],
-        words: &'a mut [u8; BUFFER_BYTES],
-        longer: &'a mut [u8; BUFFER_ROOM],
+        memory: &'a mut [u8],
+        words: &'a mut [u8],
+        longer: &'a mut [u8],
     ) -> &'a mut [u8] {
         if c.names_memory() {
             self.memory(memory)
@@ -78,9 +78,9 @@ impl Lending {
     pub fn part<'a>(
         &self,
         c: &Command,
-        memory: &'a mut [u8; MEMORY_ROOM],
-        words: &'a mut [u8; BUFFER_BYTES],
-        longer: &'a mut [u8; BUFFER_ROOM],
+        memory: &'a mut [u8],
+        words: &'a mut [u8],
+        longer: &'a mut [u8],
     ) -> Result<&'a mut [u8], Problem> {
         let start = c.value_at(1) as usize;
         let n = c.value_at(2) as usize;
@@ -91,33 +91,47 @@ impl Lending {
         Ok(&mut lent[start..start + n])
     }
 
-    // A line lends the memory or the buffer up to a length, at most BYTES_OVER bytes over the exact one. The array that the words
-    // were lent from is copied to the other, whichever is lent from now on; the bytes after the words keep their values in the
-    // longer one.
-    pub fn lend(
-        &mut self,
-        c: &Command,
-        words: &mut [u8; BUFFER_BYTES],
-        longer: &mut [u8; BUFFER_ROOM],
-    ) -> Result<(), Problem> {
-        let length = c.value_at(1) as usize;
-        let in_memory = c.names_memory();
-        let most = if in_memory {
+    // The most that can be lent of the store that a line names.
+    #[tactic(auto, unfolding(crate::specs::Lines::most_lent))]
+    fn most(&self, c: &Command) -> usize
+        ensures { result ≡ most_lent self.now.memory_most c.now.values }
+    {
+        if c.names_memory() {
             self.memory_most
         } else {
             BUFFER_ROOM
-        };
+        }
+    }
+
+    // A line lends the memory or the buffer up to a length, at most BYTES_OVER bytes over the exact one. The array that the words
+    // were lent from is copied to the other, as many bytes as both have, whichever is lent from now on; the bytes after the words
+    // keep their values in the longer one.
+    #[tactic(auto, unfolding(crate::specs::Lines::most_lent))]
+    pub fn lend(&mut self, c: &Command, words: &mut [u8], longer: &mut [u8]) -> Result<(), Problem>
+        ensures within { IfOk result (λ _. value_at c.now.values 1 ≤ most_lent self.old.memory_most c.now.values) }
+        ensures over { IfErr result (λ e. (e ≡ Problem.OutOfRange)
+            × (most_lent self.old.memory_most c.now.values < value_at c.now.values 1)) }
+        ensures most { self.new.memory_most ≡ self.old.memory_most }
+        ensures memory { self.new.memory_lent
+            ≡ (if is_ok result && names_memory c.now.values then value_at c.now.values 1 else self.old.memory_lent) }
+        ensures buffer { self.new.buffer_lent
+            ≡ (if is_ok result && not (names_memory c.now.values) then value_at c.now.values 1 else self.old.buffer_lent) }
+        ensures bytes { IfErr result (λ _. (words.new ≡ words.old) × (longer.new ≡ longer.old)) }
+    {
+        let length = c.value_at(1) as usize;
+        let most = self.most(c);
         if most < length {
             return Err(Problem::OutOfRange);
         }
-        if in_memory {
+        if c.names_memory() {
             self.memory_lent = length;
             return Ok(());
         }
+        let n = words.len().min(longer.len());
         if self.buffer_lent <= BUFFER_BYTES {
-            longer[..BUFFER_BYTES].copy_from_slice(words);
+            longer[..n].copy_from_slice(&words[..n]);
         } else {
-            words.copy_from_slice(&longer[..BUFFER_BYTES]);
+            words[..n].copy_from_slice(&longer[..n]);
         }
         self.buffer_lent = length;
         Ok(())

@@ -6,6 +6,6 @@ mod command;
 mod lending;
 mod overwriting;
 
-pub use command::{Command, FIELD_COUNT, Kind, Part, parse};
-pub use lending::{BUFFER_ROOM, Lending, MEMORY_ROOM};
+pub use command::{Command, FIELD_COUNT, INPUT, Kind, Part, parse};
+pub use lending::{BUFFER_ROOM, BYTES_OVER, Lending, MEMORY_ROOM};
 pub use overwriting::overwrite;

@@ -27,7 +27,7 @@ fn print_help(rt: &HostRuntime) -> io::Result<()> {
         &mut rt.stdout(),
         b"Runs the script's lines on the board and prints what each call answers, a refusal by its number:\n",
     )?;
-    program_refusals::list(rt, &mut rt.stdout(), &Refusal::ALL)
+    program_refusals::list(rt, &mut rt.stdout(), Refusal::ALL.len() as u32)
 }
 
 fn help(rt: &HostRuntime) {
@@ -36,10 +36,11 @@ fn help(rt: &HostRuntime) {
 
 // The board is refused: its number on standard output, the line and the cause on standard error.
 fn refuse(rt: &HostRuntime, path: &[u8], text: &[u8], refusal: Refusal) {
-    let taken = program_refusals::print(rt, refusal);
+    let taken = program_refusals::print(rt, refusal.number());
     program_options::printed(rt, b"simulate", taken);
     if let Err(blame) = description::refused_at(text) {
-        program_refusals::explain(rt, b"simulate", path, text, blame);
+        let number = blame.refusal.number();
+        program_refusals::explain(rt, b"simulate", path, text, number, blame.charged);
     }
 }
 

@@ -8,7 +8,7 @@ use common_numbers::{
 use fabric_state::NO_ENTRY;
 use program_answers::Console;
 use program_lines::{Next, Problem, Reader};
-use program_script::{BUFFER_ROOM, Command, Kind, Lending, MEMORY_ROOM};
+use program_script::{BUFFER_ROOM, Command, INPUT, Kind, Lending, MEMORY_ROOM};
 use wait_turns::Quote;
 
 // What a script acts on: the board, which it can overwrite, and its text, the state, and what is lent to the calls. The memory has
@@ -20,9 +20,9 @@ struct Simulator<'a> {
     board: &'a mut [u32; BOARD_NUMBERS],
     state: [u32; STATE_NUMBERS],
     lending: Lending,
-    memory: [u8; MEMORY_ROOM],
-    words: &'a mut [u8; BUFFER_BYTES],
-    longer: [u8; BUFFER_ROOM],
+    memory: &'a mut [u8],
+    words: &'a mut [u8],
+    longer: &'a mut [u8],
 }
 
 impl Simulator<'_> {
@@ -31,7 +31,7 @@ impl Simulator<'_> {
         requires { length word.now < 900 }
     {
         let lowest = description_rules::without_share(&*self.board);
-        console.answer(word, answer, lowest);
+        console.answer(word, number_in(answer), lowest);
     }
 
     // A refused reset leaves the state as it was.
@@ -49,7 +49,7 @@ impl Simulator<'_> {
         let answer = fabric::post(
             &*self.board,
             &mut self.state,
-            self.lending.buffer(&mut *self.words, &mut self.longer),
+            self.lending.buffer(&mut *self.words, &mut *self.longer),
             c.number_at(0),
             write,
             c.number_at(2),
@@ -64,8 +64,8 @@ impl Simulator<'_> {
     fn clock_once(&mut self, console: &mut Console) -> Result<u32, Refusal> {
         let mut lines = [0; LINES_NUMBERS];
         let mut responses = [0; MASTERS];
-        let memory = self.lending.memory(&mut self.memory);
-        let buffer = self.lending.buffer(&mut *self.words, &mut self.longer);
+        let memory = self.lending.memory(&mut *self.memory);
+        let buffer = self.lending.buffer(&mut *self.words, &mut *self.longer);
         let answer = fabric::clock(
             &*self.board,
             &mut self.state,
@@ -75,7 +75,8 @@ impl Simulator<'_> {
             &mut responses,
         );
         let slaves = description_layout::slave_count(&*self.board);
-        console.put_clock(answer, &lines, slaves, &responses);
+        let mask = answer.unwrap_or(0);
+        console.put_clock(number_in(answer), mask, &lines, slaves, &responses);
         answer
     }
 
@@ -89,7 +90,8 @@ impl Simulator<'_> {
                 break;
             }
         }
-        console.explain(answer, description_rules::without_share(&*self.board));
+        let lowest = description_rules::without_share(&*self.board);
+        console.explain(number_in(answer), lowest);
     }
 
     // The oldest entry of the log, taken out of it; of a refused take zeros are printed.
@@ -103,7 +105,8 @@ impl Simulator<'_> {
             u64::from(oldest.write),
         ];
         console.printer.put_line(b"take", &numbers);
-        console.explain(answer, description_rules::without_share(&*self.board));
+        let lowest = description_rules::without_share(&*self.board);
+        console.explain(number_in(answer), lowest);
     }
 
     // The wait is that of the board as it was read, on which every master has a share line.
@@ -115,7 +118,7 @@ impl Simulator<'_> {
         let quote = answer.unwrap_or(Quote { wait: 0, serve: 0 });
         let numbers = [u64::from(number_in(answer)), quote.wait, quote.serve];
         console.printer.put_line(b"wait", &numbers);
-        console.explain(answer, 0);
+        console.explain(number_in(answer), 0);
     }
 
     // Both this and `show` lend the fields by themselves: the check does not cover a method that hands out a part of what a field
@@ -123,7 +126,7 @@ impl Simulator<'_> {
     fn fill(&mut self, c: &Command) -> Result<(), Problem> {
         let to = self
             .lending
-            .part(c, &mut self.memory, &mut *self.words, &mut self.longer)?;
+            .part(c, &mut *self.memory, &mut *self.words, &mut *self.longer)?;
         program_lines::decode(c.last, to);
         Ok(())
     }
@@ -131,7 +134,7 @@ impl Simulator<'_> {
     fn show(&mut self, console: &mut Console, c: &Command) -> Result<(), Problem> {
         let from = self
             .lending
-            .part(c, &mut self.memory, &mut *self.words, &mut self.longer)?;
+            .part(c, &mut *self.memory, &mut *self.words, &mut *self.longer)?;
         console.printer.put_hex(from);
         Ok(())
     }
@@ -152,7 +155,7 @@ impl Simulator<'_> {
             Kind::Fill => return self.fill(&c),
             Kind::Show => return self.show(console, &c),
             Kind::Lend => {
-                return self.lending.lend(&c, &mut *self.words, &mut self.longer);
+                return self.lending.lend(&c, &mut *self.words, &mut *self.longer);
             }
         }
         Ok(())
@@ -161,13 +164,14 @@ impl Simulator<'_> {
     // The lines of standard input, up to the first with a problem, which is answered, or to the end. Nothing says that a script
     // ends, so the passes are counted, up to a number that no script uses up.
     fn obey_lines(&mut self, console: &mut Console) -> Option<Problem> {
+        let mut input = [0; INPUT];
         let mut reader = Reader::new();
         for _ in 0..u64::MAX {
-            let next = reader.next_line(&mut console.printer);
+            let next = reader.next_line(&mut input, &mut console.printer);
             console.line = reader.number;
             match next {
                 Next::Line => {
-                    if let Err(problem) = self.obey(console, reader.line()) {
+                    if let Err(problem) = self.obey(console, reader.line(&input)) {
                         return Some(problem);
                     }
                 }
@@ -186,16 +190,18 @@ impl Simulator<'_> {
 // each in its exact length. The spans of a board that was read total no more than MEMORY_BYTES (rule 1.7); `min` gives that bound
 // without a `requires` on the board.
 pub fn obey_script(rt: &HostRuntime, text: &[u8], board: &mut [u32; BOARD_NUMBERS]) {
-    let memory = MEMORY_BYTES.min(description_rules::memory_length(board)) as usize;
+    let length = MEMORY_BYTES.min(description_rules::memory_length(board)) as usize;
+    let mut memory = [0; MEMORY_ROOM];
     let mut words: [u8; BUFFER_BYTES] = [0; 4096];
+    let mut longer = [0; BUFFER_ROOM];
     let mut simulator = Simulator {
         text,
         board,
         state: [0; STATE_NUMBERS],
-        lending: Lending::new(memory),
-        memory: [0; MEMORY_ROOM],
+        lending: Lending::new(length),
+        memory: &mut memory,
         words: &mut words,
-        longer: [0; BUFFER_ROOM],
+        longer: &mut longer,
     };
     let mut console = Console::new(rt);
     let problem = simulator.obey_lines(&mut console);
