@@ -6,7 +6,7 @@ use program_messages::{Line, ROOM};
 fn line_about<'a>(room: &'a mut [u8], line: u64) -> Line<'a> {
     let mut text = Line::new(room);
     text.say_bytes(b"simulate: script line ");
-    text.say(line);
+    let _ = text.say(line);
     text.say_bytes(b": ");
     text
 }

@@ -1,5 +1,6 @@
 // A line and its pieces, one after another, as far as they fit.
-ghost use Rattle.std.specs.Prelude.{◌≡◌, ◌≤◌, ◌++◌, length, take};
+ghost use Rattle.std.specs.Prelude.{◌≡◌, ◌≤◌, ◌++◌, length, take, OnOk};
+ghost use Rattle.std.specs.Fmt.{WritesText};
 ghost use Rattle.program_messages.specs.Code.Messages.{head, Holds, Said, begun, told, headed};
 
 use crate::errors;
@@ -86,10 +87,13 @@ impl<'a> Line<'a> {
         self.filled = say(&mut *self.room, at, bytes);
     }
 
-    // Puts what a value prints there, as a number. A line takes it without an error. Words are put by say_bytes, which says that they
-    // are there.
-    pub fn say<D: Display + Drop>(&mut self, value: D) {
-        let _ = self.write(value);
+    // Puts what a value prints there, as a number, and answers whether it printed all of it: a line takes it without an error. Words are
+    // put by say_bytes.
+    pub fn say<D: Display + Drop>(&mut self, value: D) -> fmt::Result
+        ensures { OnOk result
+            (WritesText (λ before text after. after ≡ told before text) self.old (D.output value) self.new) }
+    {
+        self.write(value)
     }
 
     // A line that begins with `program: what`, no more of it than HEAD_ROOM bytes: a cause finds room after it.
@@ -107,7 +111,7 @@ impl<'a> Line<'a> {
             Some(words) => self.say_bytes(words.as_bytes()),
             None => {
                 self.say_bytes(b"Unknown error ");
-                self.say(error);
+                let _ = self.say(error);
             }
         }
     }

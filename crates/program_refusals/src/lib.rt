@@ -95,7 +95,7 @@ fn say_meaning(line: &mut Line, number: u32) {
 // Puts `refusal 4: ` into a line.
 fn say_refusal(line: &mut Line, number: u32) {
     line.say_bytes(b"refusal ");
-    line.say(number);
+    let _ = line.say(number);
     line.say_bytes(b": ");
 }
 
@@ -106,7 +106,7 @@ pub fn say_cause(line: &mut Line, number: u32, lowest: u32) {
     match refusal_of(number) {
         Some(Refusal::NoShare) => {
             line.say_bytes(b"master ");
-            line.say(lowest);
+            let _ = line.say(lowest);
             line.say_bytes(b" has no share line");
         }
         _ => say_meaning(line, number),
@@ -140,7 +140,7 @@ fn words_of_old_line(line: &[u8]) -> Option<&'static str> {
 fn say_of_old_line(line: &mut Line, old: &[u8]) {
     if let Some(lacking) = words_of_old_line(old) {
         line.say_bytes(b"; a slave line has ");
-        line.say(SLAVE_FIELDS);
+        let _ = line.say(SLAVE_FIELDS);
         line.say_bytes(b" numbers, ");
         line.say_bytes(lacking.as_bytes());
     }
@@ -160,7 +160,7 @@ fn say_blame(line: &mut Line, text: &[u8], number: u32, charged: Charged) {
         }
         Charged::Line(own) => {
             line.say_bytes(b"line ");
-            line.say(own);
+            let _ = line.say(own);
             line.say_bytes(b": ");
             say_refusal(line, number);
             line.say_bytes(words.as_bytes());
@@ -202,7 +202,7 @@ fn print_entry<W: Write>(rt: &HostRuntime, to: &mut W, number: u32) -> io::Resul
     let mut room = [0; ROOM];
     let mut line = Line::new(&mut room);
     line.say_bytes(b"  ");
-    line.say(number);
+    let _ = line.say(number);
     line.say_bytes(b" ");
     say_meaning(&mut line, number);
     program_streams::tell(rt, to, line)
@@ -229,6 +229,6 @@ pub fn print(rt: &HostRuntime, number: u32) -> io::Result<()> {
     let mut room = [0; ROOM];
     let mut line = Line::new(&mut room);
     line.say_bytes(b"refused,");
-    line.say(number);
+    let _ = line.say(number);
     program_streams::tell(rt, &mut rt.stdout(), line)
 }
