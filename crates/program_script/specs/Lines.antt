@@ -9,6 +9,6 @@ value_at values i = unwrap_or (slice_get values i) 0
 unfoldable pub names_memory : List ℕ → Bool
 names_memory values = nat_eq (value_at values 0) 0
 
--- the most that can be lent of the store that a line names, if so much of the memory can be: 8 bytes over the exact length
+-- the most that can be lent of the store that a line names: so much of the memory, or 8 bytes over the exact length of the buffer
 unfoldable pub most_lent : ℕ → List ℕ → ℕ
 most_lent memory values = if names_memory values then memory else 4104

@@ -4,7 +4,7 @@
 
 mod obey;
 
-use common_numbers::{BOARD_NUMBERS, Refusal, TEXT_ROOM};
+use common_numbers::{BOARD_NUMBERS, LAST_REFUSAL, Refusal, TEXT_ROOM};
 use program_options::Mode;
 use program_streams::Outcome;
 use std::env::Env;
@@ -27,7 +27,7 @@ fn print_help(rt: &HostRuntime) -> io::Result<()> {
         &mut rt.stdout(),
         b"Runs the script's lines on the board and prints what each call answers, a refusal by its number:\n",
     )?;
-    program_refusals::list(rt, &mut rt.stdout(), Refusal::ALL.len() as u32)
+    program_refusals::list(rt, &mut rt.stdout(), LAST_REFUSAL)
 }
 
 fn help(rt: &HostRuntime) {
