@@ -1,5 +1,5 @@
 // Reads the text. What is held of it is the input that is lent, which has room for the longest line that says something.
-ghost use Rattle.std.specs.Prelude.{◌≡◌, ◌≢◌, ◌+◌, ◌≤◌, true, length, None};
+ghost use Rattle.std.specs.Prelude.{◌≡◌, ◌≢◌, ◌⊎◌, ◌+◌, ◌≤◌, true, length, None};
 ghost use Rattle.program_streams.specs.declared.Outcome.TheVariants as Outcome;
 ghost use Rattle.program_streams.specs.Reading.{IsFailed};
 ghost use Rattle.program_lines.specs.declared.input.Next.TheVariants.{Line, Over};
@@ -36,7 +36,9 @@ pub struct Reader {
 
 impl Reader {
     // Nothing is read.
-    pub fn new() -> Reader {
+    pub fn new() -> Reader
+        ensures { (result.end ≡ 0) × (result.stop ≡ 0) }
+    {
         Reader {
             from: 0,
             end: 0,
@@ -55,14 +57,17 @@ impl Reader {
     }
 
     // One line more. The number of a text's lines is far below 2 ^ 64.
-    fn count_line(&mut self) {
+    fn count_line(&mut self)
+        ensures { (self.new.end ≡ self.old.end) × (self.new.stop ≡ self.old.stop) }
+    {
         self.number = self.number.wrapping_add(1);
     }
 
     // The text has ended, and n bytes stand after its last line feed: a line that lacks its own, and may be cut short. It is not
     // found, so that it is not obeyed, and that is its problem.
     fn text_end(&mut self, n: usize) -> Next
-        ensures { result ≢ Line }
+        ensures unfound { result ≢ Line }
+        ensures kept { (self.new.end ≡ self.old.end) × (self.new.stop ≡ self.old.stop) }
     {
         self.count_line();
         if n == 0 {
@@ -72,7 +77,9 @@ impl Reader {
     }
 
     // One line fills the input, and no byte more finds room: the last line, since it says nothing that could be done.
-    fn full_line(&mut self) -> Next {
+    fn full_line(&mut self) -> Next
+        ensures { (self.new.end ≡ self.old.end) × (self.new.stop ≡ self.old.end) }
+    {
         self.start = 0;
         self.stop = self.end;
         self.from = self.end;
@@ -87,6 +94,8 @@ impl Reader {
         requires { kept + got.end ≤ usize.MAX }
         ensures failed { IsFailed got.outcome → result ≡ Over None }
         ensures ended { got.outcome ≡ Outcome.Ended → result ≢ Line }
+        ensures within { self.new.end ≡ kept + got.end }
+        ensures found { (self.new.stop ≡ self.old.stop) ⊎ (self.new.stop ≡ kept + got.end) }
     {
         self.from = 0;
         self.end = kept + got.end;
@@ -113,7 +122,9 @@ impl Reader {
         end: usize,
     ) -> Next
         requires { (from ≤ end) × (end ≤ length input.old) }
-        ensures { self.old.ended ≡ true → result ≢ Line }
+        ensures unfound { self.old.ended ≡ true → result ≢ Line }
+        ensures within { (self.old.end ≤ length input.old) × (self.old.stop ≤ length input.old)
+            → (self.new.end ≤ length input.new) × (self.new.stop ≤ length input.new) }
     {
         let kept = end - from;
         input.copy_within(from..end, 0);
@@ -131,7 +142,10 @@ impl Reader {
 
     // Finds the next line in what is read, or reads more into the input; a read or a write that fails is reported in the program's
     // name.
-    pub fn next_line(&mut self, input: &mut [u8], printer: &mut Printer) -> Next {
+    pub fn next_line(&mut self, input: &mut [u8], printer: &mut Printer) -> Next
+        ensures { (self.old.end ≤ length input.old) × (self.old.stop ≤ length input.old)
+            → (self.new.end ≤ length input.new) × (self.new.stop ≤ length input.new) }
+    {
         let end = self.end.min(input.len());
         let from = self.from.min(end);
         let found = input[from..end].iter().position(|b| *b == b'\n');

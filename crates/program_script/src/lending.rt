@@ -1,6 +1,7 @@
 // How much of the memory and of the buffer is lent.
 ghost use Rattle.std.specs.Prelude.{◌≡◌, ◌+◌, ◌<◌, ◌≤◌, ◌&&◌, length, min, not, is_ok, IfOk, IfErr, if◌then◌else◌};
 ghost use Rattle.program_script.specs.Lines.{value_at, names_memory, most_lent};
+ghost use Rattle.program_script.specs.Lent.{Within};
 
 use crate::Command;
 use common_numbers::{BUFFER_BYTES, MEMORY_BYTES};
@@ -27,7 +28,8 @@ impl Lending {
     // Before the first line, with a memory of so many bytes.
     pub fn new(memory: usize) -> Lending
         requires { memory ≤ 65536 }
-        ensures { (result.memory_most ≡ memory + 8) × (result.memory_lent ≡ memory) × (result.buffer_lent ≡ 4096) }
+        ensures exact { (result.memory_most ≡ memory + 8) × (result.memory_lent ≡ memory) × (result.buffer_lent ≡ 4096) }
+        ensures within { Within result }
     {
         Lending {
             memory_most: memory + BYTES_OVER,
@@ -38,7 +40,8 @@ impl Lending {
 
     // What is lent of the memory: all of it if it has less.
     pub fn memory<'a>(&self, memory: &'a mut [u8]) -> &'a mut [u8]
-        ensures { length result.now ≡ min self.now.memory_lent (length memory.old) }
+        ensures least { length result.now ≡ min self.now.memory_lent (length memory.old) }
+        ensures whole { Within self.now → 65544 ≤ length memory.old → length result.now ≡ self.now.memory_lent }
     {
         let n = self.memory_lent.min(memory.len());
         &mut memory[..n]
@@ -49,6 +52,8 @@ impl Lending {
     pub fn buffer<'a>(&self, words: &'a mut [u8], longer: &'a mut [u8]) -> &'a mut [u8]
         ensures exact { self.now.buffer_lent ≤ 4096 → length result.now ≡ min self.now.buffer_lent (length words.old) }
         ensures over { 4096 < self.now.buffer_lent → length result.now ≡ min self.now.buffer_lent (length longer.old) }
+        ensures whole { Within self.now → 4096 ≤ length words.old → 4104 ≤ length longer.old
+            → length result.now ≡ self.now.buffer_lent }
     {
         let from = if self.buffer_lent <= BUFFER_BYTES {
             words
@@ -117,6 +122,7 @@ impl Lending {
         ensures buffer { self.new.buffer_lent
             ≡ (if is_ok result && not (names_memory c.now.values) then value_at c.now.values 1 else self.old.buffer_lent) }
         ensures bytes { IfErr result (λ _. (words.new ≡ words.old) × (longer.new ≡ longer.old)) }
+        ensures kept { Within self.old → Within self.new }
     {
         let length = c.value_at(1) as usize;
         let most = self.most(c);

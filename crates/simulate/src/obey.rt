@@ -1,5 +1,6 @@
 // What each line of a script does.
-ghost use Rattle.std.specs.Prelude.{◌<◌, length};
+ghost use Rattle.std.specs.Prelude.{◌≡◌, ◌<◌, length};
+ghost use Rattle.program_script.specs.Lent.{Within};
 
 use common_numbers::{
     BOARD_NUMBERS, BUFFER_BYTES, LINES_NUMBERS, MASTERS, MEMORY_BYTES, Refusal, STATE_NUMBERS,
@@ -23,6 +24,8 @@ struct Simulator<'a> {
     memory: &'a mut [u8],
     words: &'a mut [u8],
     longer: &'a mut [u8],
+    ghost lent: { Within lending },
+    ghost rooms: { (length memory.now ≡ 65544) × (length words.now ≡ 4096) × (length longer.now ≡ 4104) },
 }
 
 impl Simulator<'_> {
