@@ -3,8 +3,8 @@ use program_lines::Problem;
 use program_messages::{Line, ROOM};
 
 // How each explanation begins.
-fn line_about<'a>(room: &'a mut [u8], line: u64) -> Line<'a> {
-    let mut text = Line::new(room);
+fn line_about<'a>(room: &'a mut [u8; ROOM], line: u64) -> Line<'a> {
+    let mut text = Line::fresh(room);
     text.say_bytes(b"simulate: script line ");
     let _ = text.say(line);
     text.say_bytes(b": ");

@@ -103,3 +103,11 @@ headed_in room part after program what most r e p l q =
     (
     ap (take r) q ∙ take-append-le r part _ p.fits.0 ∙ p.same ∙ ap (λ (k : ℕ). take k (head program what)) (l ∙ e)
     )
+
+-- a line after its head, in the room that each line of a program has
+pub headed_whole :
+    {line : Said} (most : ℕ) (program what : List ℕ) → most ≡ 8704 → line ≡ headed most program what
+    → line ≡ record { most = 8704; said = take 8192 (head program what) }
+unfolding headed
+headed_whole most program what e h =
+    h ∙ ap (λ (k : ℕ). record { most = k; said = take (min 8192 k) (head program what) }) e

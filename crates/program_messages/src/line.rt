@@ -1,5 +1,5 @@
 // A line and its pieces, one after another, as far as they fit.
-ghost use Rattle.std.specs.Prelude.{◌≡◌, ◌≤◌, ◌++◌, length, take, OnOk};
+ghost use Rattle.std.specs.Prelude.{◌≡◌, ◌≤◌, [], ◌++◌, length, take, OnOk};
 ghost use Rattle.std.specs.Fmt.{WritesText};
 ghost use Rattle.program_messages.specs.Code.Messages.{head, Holds, Said, begun, told, headed};
 
@@ -73,6 +73,14 @@ impl<'a> Line<'a> {
         Line::after(room, 0)
     }
 
+    // The same in the room that each line of a program has.
+    #[tactic(auto, unfolding(crate::specs::Code::Messages::begun))]
+    pub fn fresh(room: &'a mut [u8; ROOM]) -> Line<'a>
+        ensures { result ≡ record { most = 8704; said = [] } }
+    {
+        Line::new(room)
+    }
+
     pub fn bytes(&self) -> &[u8]
         ensures { result.now ≡ self.now.said }
     {
@@ -103,6 +111,13 @@ impl<'a> Line<'a> {
         let most = HEAD_ROOM.min(room.len());
         let filled = put_head(&mut room[..most], program, what);
         Line { room, filled }
+    }
+
+    // The same in the room that each line of a program has.
+    pub fn headed(room: &'a mut [u8; ROOM], program: &[u8], what: &[u8]) -> Line<'a>
+        ensures { result ≡ record { most = 8704; said = take 8192 (head program.now what.now) } }
+    {
+        Line::about(room, program, what)
     }
 
     // Puts the words of the operating system's error with a number.

@@ -172,11 +172,11 @@ fn say_blame(line: &mut Line, text: &[u8], number: u32, charged: Charged) {
 }
 
 // How the line begins: with the program, and with the path. The text of standard input has no path, and none is said.
-fn line_from<'a>(room: &'a mut [u8], program: &[u8], path: &[u8]) -> Line<'a> {
+fn line_from<'a>(room: &'a mut [u8; ROOM], program: &[u8], path: &[u8]) -> Line<'a> {
     if !path.is_empty() {
-        return Line::about(room, program, path);
+        return Line::headed(room, program, path);
     }
-    let mut line = Line::new(room);
+    let mut line = Line::fresh(room);
     line.say_bytes(program);
     line
 }
@@ -200,7 +200,7 @@ pub fn explain(
 // A number and what it means.
 fn print_entry<W: Write>(rt: &HostRuntime, to: &mut W, number: u32) -> io::Result<()> {
     let mut room = [0; ROOM];
-    let mut line = Line::new(&mut room);
+    let mut line = Line::fresh(&mut room);
     line.say_bytes(b"  ");
     let _ = line.say(number);
     line.say_bytes(b" ");
@@ -227,7 +227,7 @@ pub fn list_of<W: Write>(rt: &HostRuntime, to: &mut W, refusals: &[Refusal]) -> 
 // What a program prints of a description that is refused.
 pub fn print(rt: &HostRuntime, number: u32) -> io::Result<()> {
     let mut room = [0; ROOM];
-    let mut line = Line::new(&mut room);
+    let mut line = Line::fresh(&mut room);
     line.say_bytes(b"refused,");
     let _ = line.say(number);
     program_streams::tell(rt, &mut rt.stdout(), line)

@@ -194,7 +194,7 @@ pub fn open(rt: &HostRuntime, path: &[u8]) -> io::Result<File>
 // A line on standard error: `program: what: words`, with the words of the operating system for the error's number.
 pub fn report(rt: &HostRuntime, program: &[u8], what: &[u8], error: &Error) {
     let mut room = [0; ROOM];
-    let mut line = Line::about(&mut room, program, what);
+    let mut line = Line::headed(&mut room, program, what);
     line.say_bytes(b": ");
     line.say_error(number_of(error));
     warn(rt, line);
