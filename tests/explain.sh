@@ -1147,6 +1147,12 @@ problem 'response,0,3' "$form"
 problem 'transfer,0,0,0,0,0,0' "$form"
 problem 'transfer,0,0,0,0,0,0,0,0' "$form"
 
+# A last line of 131,200 bytes fills the input: it is a line, and says nothing that could be done. One of a byte less lacks its line feed.
+called "reset\n$(printf '%0131200d' 0)" 'reset,0
+error,2' "simulate: script line 2: $form"
+called "reset\n$(printf '%0131199d' 0)" 'reset,0
+error,2' "simulate: script line 2: $cut"
+
 # Where both go to one file, an explanation comes right behind the answer.
 printf 'reset\npost,2,read,4096,15,1,-\nclock,2\nwait,2,0\nreset\nstate' > calls.txt
 "$root/target/bin/simulate" fabric.txt < calls.txt > output 2>&1 || :
